@@ -1,0 +1,6 @@
+pub mod Told
+pub mod Fails
+pub mod SinkState
+pub mod SessionsState
+pub mod WireState
+pub mod SiteState

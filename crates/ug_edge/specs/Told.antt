@@ -1,0 +1,72 @@
+-- What the objects of the outside tell. Content is told as an option: `None` keeps it to itself, and an object
+-- that tells goes on telling.
+use Rattle.std.specs.Prelude.{◌≡◌, ℕ, ◌<◌, ◌⊎◌, ◌==◌, Bool, List, [], ◌∷◌, ◌++◌, Option, Some, None, if◌then◌else◌}
+use Rattle.std.specs.Cmp.Lexicographic.{pointwise}
+
+-- A count of faults rose in a call, or stands at the last value of its type and can't rise further.
+abbrev pub Rose : ℕ → ℕ → Type 0
+Rose before after = (before < after) ⊎ (before ≡ 18446744073709551615)
+
+-- These bytes were taken from the front of what was left to read.
+abbrev pub TakesFront : Option (List ℕ) → Option (List ℕ) → List ℕ → Type 0
+TakesFront None None piece = Unit {0}
+TakesFront None (Some new) piece = ⊥
+TakesFront (Some old) None piece = ⊥
+TakesFront (Some old) (Some new) piece = old ≡ piece ++ new
+
+-- Nothing is left to read, where that is told.
+abbrev pub IsEnded : Option (List ℕ) → Type 0
+IsEnded None = Unit {0}
+IsEnded (Some left) = left ≡ []
+
+-- These bytes were added at the end of what is held.
+abbrev pub AppendsPiece : Option (List ℕ) → Option (List ℕ) → List ℕ → Type 0
+AppendsPiece None None piece = Unit {0}
+AppendsPiece None (Some new) piece = ⊥
+AppendsPiece (Some old) None piece = ⊥
+AppendsPiece (Some old) (Some new) piece = new ≡ old ++ piece
+
+-- the sessions of a wire with these bytes added to the last
+abbrev pub onto_last : List ℕ → List (List ℕ) → List (List ℕ)
+onto_last piece [] = []
+onto_last piece (session ∷ []) = (session ++ piece) ∷ []
+onto_last piece (session ∷ next ∷ sessions) = session ∷ onto_last piece (next ∷ sessions)
+
+-- A wire has no sessions yet, where that is told.
+abbrev pub IsFresh : Option (List (List ℕ)) → Type 0
+IsFresh None = Unit {0}
+IsFresh (Some sessions) = sessions ≡ []
+
+-- A further session was begun, and it is empty.
+abbrev pub BeginsSession : Option (List (List ℕ)) → Option (List (List ℕ)) → Type 0
+BeginsSession None None = Unit {0}
+BeginsSession None (Some new) = ⊥
+BeginsSession (Some old) None = ⊥
+BeginsSession (Some old) (Some new) = new ≡ old ++ [] ∷ []
+
+-- These bytes were added to the last session.
+abbrev pub SendsPiece : Option (List (List ℕ)) → Option (List (List ℕ)) → List ℕ → Type 0
+SendsPiece None None piece = Unit {0}
+SendsPiece None (Some new) piece = ⊥
+SendsPiece (Some old) None piece = ⊥
+SendsPiece (Some old) (Some new) piece = new ≡ onto_last piece old
+
+-- a file by its name and its bytes
+pub record FileText : Type 0 where
+  pub name : List ℕ
+  pub bytes : List ℕ
+
+abbrev pub same_name : List ℕ → List ℕ → Bool
+same_name = pointwise ◌==◌
+
+-- the bytes of the first file of that name
+abbrev pub file_named : List ℕ → List FileText → Option (List ℕ)
+file_named name [] = None
+file_named name (file ∷ files) = if same_name name file.name then Some file.bytes else file_named name files
+
+-- What is left to read is the whole file of that name.
+abbrev pub HasPicked : Option (List FileText) → List ℕ → Option (List ℕ) → Type 0
+HasPicked None name None = Unit {0}
+HasPicked None name (Some left) = ⊥
+HasPicked (Some files) name None = ⊥
+HasPicked (Some files) name (Some left) = file_named name files ≡ Some left

@@ -1,0 +1,46 @@
+//! The lists that the forms in memory are made from: files, calls that fail, and cuts of wires.
+
+use ug_types::{ByteList, NumberList, Sequence};
+
+/// A file of a site in memory.
+#[derive(Debug, Drop)]
+pub struct File {
+    pub name: ByteList,
+    pub bytes: ByteList,
+}
+
+pub type FileList = Sequence<File>;
+
+/// The kinds of calls whose failures can be listed.
+#[derive(Clone, Copy, Debug, PartialEq, Eq)]
+pub enum CallKind {
+    Pick,
+    Read,
+    Wire,
+    Write,
+}
+
+/// A call that is to fail. The calls of each kind are numbered by themselves from 1.
+#[derive(Clone, Copy, Debug, PartialEq, Eq)]
+pub struct FailAt {
+    pub call: CallKind,
+    pub number: u32,
+}
+
+pub type CallList = Sequence<FailAt>;
+
+/// The number of bytes that the wires to a peer take before one `send` fails.
+#[derive(Debug, Drop)]
+pub struct Cut {
+    pub peer: ByteList,
+    pub total: u64,
+}
+
+pub type CutList = Sequence<Cut>;
+
+/// The numbers of the sessions whose `begin` fails on the wires to a peer.
+#[derive(Debug, Drop)]
+pub(crate) struct BeginFails {
+    pub peer: ByteList,
+    pub sessions: NumberList,
+}
