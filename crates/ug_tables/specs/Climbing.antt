@@ -21,6 +21,13 @@ abbrev pub ClimbsFrom : {V : Type 0} → List V → ℕ → List V → Type 0
 ClimbsFrom past from [] = Unit {0}
 ClimbsFrom past from (v ∷ vs) = (place : ℕ) × IsLeastPlace past from v place × ClimbsFrom past place vs
 
+-- The same climb with its places told, one for each value.
+abbrev pub ClimbsTo : {V : Type 0} → List V → ℕ → List ℕ → List V → Type 0
+ClimbsTo past from [] [] = Unit {0}
+ClimbsTo past from [] (v ∷ vs) = ⊥
+ClimbsTo past from (place ∷ places) [] = ⊥
+ClimbsTo past from (place ∷ places) (v ∷ vs) = IsLeastPlace past from v place × ClimbsTo past place places vs
+
 -- the value that each table has for a key
 abbrev pub values_at : Key → List Table → List (Option Attributes)
 values_at key tables = map (λ (table : Table). table key) tables

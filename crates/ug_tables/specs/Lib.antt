@@ -1,3 +1,4 @@
 pub mod Tables
 pub mod Climbing
 pub mod ClimbingLaws
+pub mod Decisions

@@ -25,3 +25,6 @@ pub use prefix::Prefix;
 pub use route::{Learned, NhKind, OutAttrs, Path, PeerEnds, PeerId, PeerList};
 pub use sequence::{ByteList, NumberList, Sequence};
 pub use steps::Steps;
+
+#[cfg(test)]
+mod tests;

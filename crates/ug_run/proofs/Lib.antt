@@ -1,0 +1,11 @@
+pub mod Texts
+pub mod Sending
+pub mod Progress
+pub mod Announcing
+pub mod Appending
+pub mod Taking
+pub mod Cutting
+pub mod Feeding
+pub mod Reading
+mod Commands
+pub mod Ending

@@ -1,0 +1,8 @@
+use Rattle.std.proofs.Common.{[], refl}
+use Rattle.ug_run.specs.Course.{end_of_rib}
+use Rattle.ug_run.proofs.Progress.{IsCourse-opened}
+use Rattle.ug_run.proofs.speaker.Speaker.open.Goals as goal
+
+pub returns : goal.returns
+returns g c =
+    IsCourse-opened (g.W.Wire.sessions c.send.new.self.wire) c.send.new.self.lost _ (λ q. rw c.new.ensures.empty refl) (c.send.ensures.sent [] end_of_rib (rw c.as_slice.ensures c.args.prepared.is_end_of_rib) c.begin-session.ensures)

@@ -1,0 +1,19 @@
+-- What a wire's one session is.
+use Rattle.std.specs.Prelude.{◌≡◌, ℕ, ◌<◌, Bool, false, List, [], ◌∷◌, ◌++◌, length, take, Option, Some, None, if◌then◌else◌}
+use Rattle.ug_types.specs.Messages.{Message}
+use Rattle.ug_message.specs.Streams.{IsSentForm}
+use Rattle.ug_edge.specs.Told.{SendsPiece}
+
+-- The wire has one session: these messages as written, cut short only where the session was lost.
+abbrev pub HasSent : Option (List (List ℕ)) → Bool → List Message → Type 0
+HasSent None lost messages = Unit {0}
+HasSent (Some sessions) lost messages =
+    (bytes : List ℕ) × (rest : List ℕ) × (sessions ≡ bytes ∷ []) × IsSentForm false false bytes messages rest × (lost ≡ false → rest ≡ [])
+
+-- Less than the whole piece was taken.
+abbrev pub SendsFront : Option (List (List ℕ)) → Option (List (List ℕ)) → List ℕ → Type 0
+SendsFront old new piece = (n : ℕ) × (n < length piece) × SendsPiece old new (take n piece)
+
+-- the messages of a session to which one was sent, and which may have been lost at it
+abbrev pub sent_messages : Bool → List Message → Message → List Message
+sent_messages lost messages m = if lost then messages else messages ++ m ∷ []

@@ -1,0 +1,55 @@
+-- The statuses: their numbers and their lines in the report.
+use Rattle.std.specs.Prelude.{ℕ, Bool, true, false, List, [], codes}
+use Rattle.ug_run.specs.declared.stop.Stop.{Stop}
+use Rattle.ug_run.specs.declared.stop.Stop.TheVariants as stops
+use Rattle.ug_run.specs.declared.status.Status.{Status}
+use Rattle.ug_run.specs.declared.status.Status.TheVariants as statuses
+
+abbrev pub status_number : Status → ℕ
+status_number statuses.Ok = 0
+status_number statuses.Usage = 1
+status_number statuses.ReadFault = 3
+status_number statuses.ReportFault = 4
+status_number statuses.SiteFault = 5
+status_number statuses.NoMemory = 6
+status_number statuses.TooLong = 7
+status_number (statuses.Lost peer session) = 8
+
+-- The line of a status. At `Ok` and where the report failed there is none.
+unfoldable pub status_text : Status → List ℕ
+status_text statuses.Ok = []
+status_text statuses.Usage = codes "status 1 usage\n"
+status_text statuses.ReadFault = codes "status 3 read\n"
+status_text statuses.ReportFault = []
+status_text statuses.SiteFault = codes "status 5 site\n"
+status_text statuses.NoMemory = codes "status 6 memory\n"
+status_text statuses.TooLong = codes "status 7 too-long\n"
+status_text (statuses.Lost peer session) = codes "status 8 lost p1 1\n"
+
+-- the status of a run that ended early
+abbrev pub status_of : Stop → Status
+status_of stops.Read = statuses.ReadFault
+status_of stops.Report = statuses.ReportFault
+status_of stops.NoMemory = statuses.NoMemory
+status_of stops.TooLong = statuses.TooLong
+
+abbrev pub is_read_fault : Status → Bool
+is_read_fault statuses.Ok = false
+is_read_fault statuses.Usage = false
+is_read_fault statuses.ReadFault = true
+is_read_fault statuses.ReportFault = false
+is_read_fault statuses.SiteFault = false
+is_read_fault statuses.NoMemory = false
+is_read_fault statuses.TooLong = false
+is_read_fault (statuses.Lost peer session) = false
+
+-- whether the run completed: all events were read, and the whole report was written
+abbrev pub is_complete : Status → Bool
+is_complete statuses.Ok = true
+is_complete statuses.Usage = false
+is_complete statuses.ReadFault = false
+is_complete statuses.ReportFault = false
+is_complete statuses.SiteFault = false
+is_complete statuses.NoMemory = false
+is_complete statuses.TooLong = false
+is_complete (statuses.Lost peer session) = true

@@ -1,0 +1,107 @@
+//! What the speaker of `one` says of its own routes: three sets of attributes, one for each origin, and End-of-RIB.
+
+ghost use Rattle.std.specs.Prelude.{◌≡◌, ◌≤◌, false, Some, IfOk};
+ghost use Rattle.std.specs.Coded.{Coded-set};
+ghost use Rattle.ug_message.specs.Texts.{written};
+ghost use Rattle.ug_run.specs.One.{announced};
+ghost use Rattle.ug_run.specs.Course.{announces, end_of_rib};
+ghost use Rattle.ug_run.specs.Origins.{origin_number};
+
+use std::alloc::Global;
+use ug_message::written_within_limits;
+use ug_types::{Addr, AttrParts, Attrs, ByteList, Key, NoMemory, Prefix, Segment, Sequence};
+use ug_update::{write_eor, write_update};
+
+/// ORIGIN, where a route came from.
+#[derive(Clone, Copy, PartialEq, Eq)]
+pub enum Origin {
+    Igp,
+    Egp,
+    Incomplete,
+}
+
+/// The attributes with which the peer is told of routes, by their origin.
+#[derive(Drop)]
+pub struct Announcements {
+    igp: Attrs,
+    egp: Attrs,
+    incomplete: Attrs,
+    ghost igp_is: { igp ≡ announced 0 } by { Coded-set igp-code igp (announced 0) },
+    ghost egp_is: { egp ≡ announced 1 } by { Coded-set egp-code egp (announced 1) },
+    ghost incomplete_is: { incomplete ≡ announced 2 } by { Coded-set incomplete-code incomplete (announced 2) },
+}
+
+impl Announcements {
+    pub fn new(alloc: Global) -> Result<Announcements, NoMemory> {
+        let igp = attributes(alloc, 0)?;
+        let egp = attributes(alloc, 1)?;
+        let incomplete = attributes(alloc, 2)?;
+        Ok(Announcements {
+            igp,
+            egp,
+            incomplete,
+        })
+    }
+
+    fn of(&self, origin: Origin) -> &Attrs
+        ensures { result.now ≡ announced (origin_number origin) }
+    {
+        match origin {
+            Origin::Igp => &self.igp,
+            Origin::Egp => &self.egp,
+            Origin::Incomplete => &self.incomplete,
+        }
+    }
+
+    /// The UPDATE that announces a prefix.
+    pub fn message(
+        &self,
+        alloc: Global,
+        prefix: Prefix,
+        origin: Origin,
+    ) -> Result<ByteList, NoMemory>
+        ensures { IfOk result (λ bytes. written false false (announces prefix (origin_number origin)) ≡ Some bytes.items) }
+    {
+        let _len = prefix.len;
+        let key = Key { prefix, id: 0 };
+        let written = write_update(alloc, self.of(origin), &[key])?;
+        written_within_limits();
+        Ok(written.bytes)
+    }
+}
+
+/// End-of-RIB.
+pub fn end_of_rib(alloc: Global) -> Result<ByteList, NoMemory>
+    ensures { IfOk result (λ bytes. written false false end_of_rib ≡ Some bytes.items) }
+{
+    write_eor(alloc)
+}
+
+/// The attributes of a route of the speaker's own, behind the address that the peer knows it by.
+fn attributes(alloc: Global, origin: u8) -> Result<Attrs, NoMemory>
+    requires { origin ≤ 2 }
+    ensures { IfOk result (λ attrs. attrs ≡ announced origin) }
+{
+    let numbers = Sequence::from_vec(Vec::from_slice(alloc, &[65001])?);
+    let mut segments = Vec::new(alloc);
+    segments.push(Segment {
+        is_set: false,
+        numbers,
+    })?;
+    let parts = AttrParts {
+        origin,
+        path: Sequence::from_vec(segments),
+        next_hop: Addr::v4(0xC000_0201),
+        med: None,
+        local_pref: None,
+        atomic: false,
+        aggregator: None,
+        communities: Sequence::new(alloc),
+        originator: None,
+        clusters: Sequence::new(alloc),
+    };
+    match Attrs::new(parts) {
+        Ok(attrs) => Ok(attrs),
+        Err(_) => unreachable!(),
+    }
+}

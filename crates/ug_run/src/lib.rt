@@ -1,0 +1,20 @@
+//! The run.
+#![tactic(auto)]
+
+mod announce;
+mod intake;
+mod line;
+mod reader;
+mod report;
+mod serving;
+mod session;
+#[cfg(test)]
+mod slow;
+mod speaker;
+mod status;
+mod stop;
+mod text;
+mod words;
+
+pub use serving::{Done, WireList, serve};
+pub use status::Status;

@@ -1,0 +1,252 @@
+//! The top call.
+
+ghost use Rattle.std.specs.Prelude.{◌≡◌, ◌+◌, ◌<◌, ◌≤◌, ◌++◌, [], ◌∷◌, List, ℕ, map, length, Some, None, Option, IfOk, IfErr, OnOk, OnErr, IsErrOf, true, false, ◌↔◌};
+ghost use Rattle.std.specs.String.{string_bytes};
+ghost use Rattle.ug_edge.specs.Told.{Rose, HasPicked, IsEnded, IsFresh, AppendsPiece, FileText};
+ghost use Rattle.ug_run.specs.Words.{OneCommand, command_of, is_command};
+ghost use Rattle.ug_run.specs.One.{configured_world, up_p1};
+ghost use Rattle.ug_run.specs.Statuses.{status_text, is_complete};
+ghost use Rattle.ug_run.specs.Promise.{WireTold, AppendsThenStatus, IsPromised, file_told};
+ghost use Rattle.ug_run.specs.Reporting.{AppendsFront};
+ghost use Rattle.ug_run.specs.Ending.{lost_text, IsOutcome, IsConcluded, IsUnbegun, IsUnmade};
+ghost use Rattle.ug_run.specs.Intake.{IsReading};
+ghost use Rattle.ug_run.specs.OriginMap.{origins_in};
+
+use crate::intake::Intake;
+use crate::reader::{Run, Tally};
+use crate::report::{counts_text, write_all};
+use crate::speaker::{Prepared, Speaker};
+use crate::status::Status;
+use crate::stop::Stop;
+use crate::words::command;
+use std::alloc::Global;
+use std::sync::Wait;
+use std::sync::ledger::Ledger;
+use std::thread::Threads;
+use ug_edge::{Failed, Sink, Site, SiteFault, Source, Wire};
+use ug_types::{NoMemory, Prefix, Sequence, Steps};
+
+/// The wires of a run, one a configured peer, in configured order.
+pub type WireList<W> = Sequence<W>;
+
+/// How a run ended, and the wires that were made for it.
+#[derive(Drop)]
+pub struct Done<W: Wire> {
+    pub status: Status,
+    pub wires: WireList<W>,
+}
+
+/// Runs the command that the words are.
+pub fn serve<R: Threads + Wait + Sync, E: Site, K: Sink, L: Ledger>(
+    _rt: &R,
+    alloc: Global,
+    words: &[String],
+    site: &mut E,
+    report: &mut K,
+    _steps: &mut Steps<L>,
+) -> Done<E::Wire>
+    ensures promise { (command : OneCommand) → command_of (map string_bytes words.now) ≡ Some command →
+        IsPromised configured_world (up_p1 ∷ []) (file_told (E.files site.old) command.events) result.status
+        (map (λ wire. record { sessions = E.Wire.sessions wire; faults = E.Wire.faults wire }) result.wires.items) (K.held report.old) (K.held report.new) (Rose (K.faults report.old) (K.faults report.new)) }
+    ensures usage { (result.status ≡ Status.Usage) ↔ (is_command (map string_bytes words.now) ≡ false) }
+    ensures no_command { is_command (map string_bytes words.now) ≡ false →
+        AppendsThenStatus (K.held report.old) (K.held report.new) (Rose (K.faults report.old) (K.faults report.new)) [] (status_text Status.Usage) }
+    ensures no_wires { is_command (map string_bytes words.now) ≡ false → result.wires.items ≡ [] }
+    ensures unread { is_command (map string_bytes words.now) ≡ false → E.left site.new ≡ E.left site.old }
+    ensures read { result.status ≡ Status.ReadFault → Rose (E.faults site.old) (E.faults site.new) }
+    ensures report { result.status ≡ Status.ReportFault → Rose (K.faults report.old) (K.faults report.new) }
+    ensures site { result.status ≡ Status.SiteFault → Rose (E.wire_faults site.old) (E.wire_faults site.new) }
+    ensures ended { is_complete result.status ≡ true → IsEnded (E.left site.new) }
+    ensures steps { _steps.new ≡ _steps.old }
+{
+    let Some(words) = command(words) else {
+        return Done {
+            status: end(report, Status::Usage),
+            wires: Sequence::new(alloc),
+        };
+    };
+    one(alloc, words.events, words.dir, site, report)
+}
+
+/// Runs `one`.
+fn one<E: Site, K: Sink>(
+    alloc: Global,
+    events: &str,
+    dir: &str,
+    site: &mut E,
+    report: &mut K,
+) -> Done<E::Wire>
+    ensures promise { IsPromised configured_world (up_p1 ∷ []) (file_told (E.files site.old) events.now) result.status
+        (map (λ wire. record { sessions = E.Wire.sessions wire; faults = E.Wire.faults wire }) result.wires.items) (K.held report.old) (K.held report.new) (Rose (K.faults report.old) (K.faults report.new)) }
+    ensures usage { result.status ≡ Status.Usage → ⊥ }
+    ensures read { result.status ≡ Status.ReadFault → Rose (E.faults site.old) (E.faults site.new) }
+    ensures report { result.status ≡ Status.ReportFault → Rose (K.faults report.old) (K.faults report.new) }
+    ensures site { result.status ≡ Status.SiteFault → Rose (E.wire_faults site.old) (E.wire_faults site.new) }
+    ensures ended { is_complete result.status ≡ true → IsEnded (E.left site.new) }
+{
+    let mut wires = Sequence::new(alloc);
+    let (prepared, wire) = match prepare(alloc, dir, &mut wires, site) {
+        Ok(made) => made,
+        Err(status) => {
+            return Done {
+                status: end(report, status),
+                wires,
+            };
+        }
+    };
+    if let Err(status) = pick(events, site) {
+        put(&mut wires, wire);
+        return Done {
+            status: end(report, status),
+            wires,
+        };
+    }
+    let mut intake = Intake::new(alloc, Speaker::open(alloc, prepared, wire));
+    let status = run(&mut intake, site, report);
+    put(&mut wires, intake.into_wire());
+    Done {
+        status: end(report, status),
+        wires,
+    }
+}
+
+/// Reads all the events, and concludes the report where that went well.
+fn run<W: Wire, E: Source, K: Sink>(intake: &mut Intake<W>, site: &mut E, report: &mut K) -> Status
+    ensures outcome { (before : Option (List ℕ)) →
+        IsReading before [] [] (W.sessions intake.old.run.speaker.session.wire) intake.old.run.speaker.session.lost (origins_in ⟦<Prefix as Ord>⟧.cmp intake.old.run.speaker.origins)
+        intake.old.run.tally.lines intake.old.run.tally.accepted intake.old.run.tally.refused intake.old.carry.items (K.held report.old) →
+        IsOutcome result before (E.left site.old) (E.left site.new) (W.sessions intake.new.run.speaker.session.wire) intake.new.run.speaker.session.lost (K.held report.new) (Rose (K.faults report.old) (K.faults report.new)) }
+    ensures usage { result ≡ Status.Usage → ⊥ }
+    ensures made { result ≡ Status.SiteFault → ⊥ }
+    ensures read { result ≡ Status.ReadFault → Rose (E.faults site.old) (E.faults site.new) }
+    ensures report { result ≡ Status.ReportFault → Rose (K.faults report.old) (K.faults report.new) }
+    ensures faults { K.faults report.old ≤ K.faults report.new }
+    ensures site_faults { E.faults site.old ≤ E.faults site.new }
+    ensures files { E.files site.new ≡ E.files site.old }
+    ensures wire_faults { E.wire_faults site.new ≡ E.wire_faults site.old }
+{
+    match intake.read_events(site, report) {
+        Ok(()) => complete(&intake.run, report),
+        Err(stop) => stop.status(),
+    }
+}
+
+/// Makes what the session needs, and the wire.
+fn prepare<E: Site>(
+    alloc: Global,
+    dir: &str,
+    wires: &mut WireList<E::Wire>,
+    site: &mut E,
+) -> Result<(Prepared, E::Wire), Status>
+    ensures room { OnOk result (1 ≤ wires.new.spare) }
+    ensures wires { wires.new.items ≡ wires.old.items }
+    ensures sessions { IfOk result (λ made. IsFresh (E.Wire.sessions made.1)) }
+    ensures begun { IfOk result (λ made. E.Wire.begun made.1 ≡ 0) }
+    ensures no_faults { IfOk result (λ made. E.Wire.faults made.1 ≡ 0) }
+    ensures status { IfErr result IsUnmade }
+    ensures failed { IsErrOf result Status.SiteFault → Rose (E.wire_faults site.old) (E.wire_faults site.new) }
+    ensures wire_faults { E.wire_faults site.old ≤ E.wire_faults site.new }
+    ensures left { E.left site.new ≡ E.left site.old }
+    ensures faults { E.faults site.new ≡ E.faults site.old }
+    ensures files { E.files site.new ≡ E.files site.old }
+{
+    match wires.reserve(1) {
+        Ok(()) => {}
+        Err(NoMemory) => return Err(Status::NoMemory),
+    }
+    let prepared = match Prepared::new(alloc) {
+        Ok(prepared) => prepared,
+        Err(NoMemory) => return Err(Status::NoMemory),
+    };
+    match site.wire(dir, "p1") {
+        Ok(wire) => Ok((prepared, wire)),
+        Err(SiteFault::Failed) => Err(Status::SiteFault),
+        Err(SiteFault::NoMemory) => Err(Status::NoMemory),
+    }
+}
+
+/// Picks the events' file.
+fn pick<E: Site>(events: &str, site: &mut E) -> Result<(), Status>
+    ensures picked { OnOk result (HasPicked (E.files site.old) events.now (E.left site.new)) }
+    ensures status { IfErr result IsUnbegun }
+    ensures failed { IsErrOf result Status.ReadFault → Rose (E.faults site.old) (E.faults site.new) }
+    ensures faults { E.faults site.old ≤ E.faults site.new }
+    ensures files { E.files site.new ≡ E.files site.old }
+    ensures wire_faults { E.wire_faults site.new ≡ E.wire_faults site.old }
+{
+    match site.pick(events) {
+        Ok(()) => Ok(()),
+        Err(SiteFault::Failed) => Err(Status::ReadFault),
+        Err(SiteFault::NoMemory) => Err(Status::NoMemory),
+    }
+}
+
+/// Puts a wire into the room that was reserved for it.
+fn put<W: Wire>(wires: &mut WireList<W>, wire: W)
+    requires { 1 ≤ wires.old.spare }
+    ensures { wires.new.items ≡ wires.old.items ++ wire ∷ [] }
+{
+    match wires.push(wire) {
+        Ok(()) => {}
+        Err(_) => unreachable!(),
+    }
+}
+
+/// Writes the last lines of a run that read all its events.
+fn complete<W: Wire, K: Sink>(run: &Run<W>, report: &mut K) -> Status
+    ensures concluded { IsConcluded result run.now.speaker.session.lost run.now.tally.accepted run.now.tally.refused (K.held report.old) (K.held report.new) (Rose (K.faults report.old) (K.faults report.new)) }
+    ensures faults { K.faults report.old ≤ K.faults report.new }
+{
+    let Ok(counts) = counts_text(run.alloc, run.tally.accepted, run.tally.refused) else {
+        return Status::NoMemory;
+    };
+    let lost = run.speaker.session.lost;
+    match write_both(report, lost_text(lost), counts.as_bytes()) {
+        Ok(()) => {}
+        Err(Failed) => return Status::ReportFault,
+    }
+    if lost {
+        return Status::Lost {
+            peer: 0,
+            session: 1,
+        };
+    }
+    Status::Ok
+}
+
+/// The line of the session, where it was lost.
+#[tactic(auto, unfolding(crate::specs::Ending::lost_text))]
+fn lost_text(lost: bool) -> &'static [u8]
+    ensures { result.now ≡ lost_text lost }
+{
+    if lost { b"lost p1 1\n" } else { b"" }
+}
+
+/// Writes two texts, where no call fails.
+fn write_both<K: Sink>(report: &mut K, first: &[u8], second: &[u8]) -> Result<(), Failed>
+    ensures ok { OnOk result (AppendsPiece (K.held report.old) (K.held report.new) (first.now ++ second.now)) }
+    ensures err { OnErr result (AppendsFront (K.held report.old) (K.held report.new) (first.now ++ second.now)) }
+    ensures failed { OnErr result (Rose (K.faults report.old) (K.faults report.new)) }
+    ensures faults { K.faults report.old ≤ K.faults report.new }
+{
+    match write_all(report, first) {
+        Ok(()) => {}
+        Err(Failed) => return Err(Failed),
+    }
+    match write_all(report, second) {
+        Ok(()) => Ok(()),
+        Err(Failed) => Err(Failed),
+    }
+}
+
+/// Tries the status line once.
+fn end<K: Sink>(report: &mut K, status: Status) -> Status
+    ensures status { result ≡ status }
+    ensures report { AppendsThenStatus (K.held report.old) (K.held report.new) (Rose (K.faults report.old) (K.faults report.new)) [] (status_text status) }
+    ensures faults { K.faults report.old ≤ K.faults report.new }
+{
+    match write_all(report, status.text()) {
+        Ok(()) => status,
+        Err(Failed) => status,
+    }
+}

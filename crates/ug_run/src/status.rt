@@ -1,0 +1,77 @@
+//! How a run ended.
+
+ghost use Rattle.std.specs.Prelude.{◌≡◌};
+ghost use Rattle.ug_run.specs.Statuses.{status_number, status_text, status_of};
+
+use crate::stop::Stop;
+use ug_types::PeerId;
+
+/// How a run ended: as it should, or for which cause.
+#[derive(Clone, Copy, Debug, PartialEq, Eq)]
+pub enum Status {
+    /// All events were read, and no session was lost.
+    Ok,
+    /// The words are no command.
+    Usage,
+    /// The events could not be read.
+    ReadFault,
+    /// The report could not be written.
+    ReportFault,
+    /// A wire could not be made.
+    SiteFault,
+    /// Memory was wanting.
+    NoMemory,
+    /// A limit of the input was passed.
+    TooLong,
+    /// All events were read, and a session was lost: the first, by its peer, counted from 0, and its number.
+    Lost { peer: PeerId, session: u32 },
+}
+
+impl Status {
+    /// The number with which a program exits.
+    pub fn number(self) -> u8
+        ensures { result ≡ status_number self }
+    {
+        match self {
+            Status::Ok => 0,
+            Status::Usage => 1,
+            Status::ReadFault => 3,
+            Status::ReportFault => 4,
+            Status::SiteFault => 5,
+            Status::NoMemory => 6,
+            Status::TooLong => 7,
+            Status::Lost { .. } => 8,
+        }
+    }
+
+    /// The status's line of the report of `one`. It takes no memory.
+    #[tactic(auto, unfolding(crate::specs::Statuses::status_text))]
+    pub fn text(self) -> &'static [u8]
+        ensures { result.now ≡ status_text self }
+    {
+        match self {
+            Status::Ok => b"",
+            Status::Usage => b"status 1 usage\n",
+            Status::ReadFault => b"status 3 read\n",
+            Status::ReportFault => b"",
+            Status::SiteFault => b"status 5 site\n",
+            Status::NoMemory => b"status 6 memory\n",
+            Status::TooLong => b"status 7 too-long\n",
+            Status::Lost { .. } => b"status 8 lost p1 1\n",
+        }
+    }
+}
+
+impl Stop {
+    /// The status of a run that ended early.
+    pub fn status(self) -> Status
+        ensures { result ≡ status_of self }
+    {
+        match self {
+            Stop::Read => Status::ReadFault,
+            Stop::Report => Status::ReportFault,
+            Stop::NoMemory => Status::NoMemory,
+            Stop::TooLong => Status::TooLong,
+        }
+    }
+}
