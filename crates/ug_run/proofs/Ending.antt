@@ -28,7 +28,7 @@ use Rattle.ug_run.specs.Report.{Loss, line_texts, loss_text, counts_text, losses
 use Rattle.ug_run.specs.Reporting.{AppendsFront}
 use Rattle.ug_run.specs.Limits.{IsPastLimits}
 use Rattle.ug_run.specs.Intake.{lines_text, IsRun, IsReading, IsReportedUntil, HasReadAll, HasStopped}
-use Rattle.ug_run.specs.Statuses.{status_text, status_of, is_complete, is_read_fault}
+use Rattle.ug_run.specs.Statuses.{status_text, status_of, is_complete, is_read_fault, made_wires}
 use Rattle.ug_run.specs.Promise.{IsPartOf, file_told, is_empty, lines_counted, WireTold, Content, EachFrom, EachSession, HaveSessions, HaveMessages, AreNeverBack, HaveEnd, HaveLosses, has_rest, times_up, name_of, is_lost, AppendsThenStatus, HasReport, IsFirstLoss, IsLimited, IsPromised}
 use Rattle.ug_run.specs.Ending.{lost_text, losses_where, IsConcluded, IsOutcome, IsUnbegun, IsUnmade}
 use Rattle.ug_run.specs.declared.status.Status.{Status}
@@ -501,6 +501,10 @@ promised_unbegun status file before held sessions faults failed unbegun fresh h 
       first_loss = early_loss status early;
     }
 
+not_made : (status : Status) → IsUnmade status → made_wires status ≡ true → ⊥
+not_made status (inl e) made = let m : made_wires statuses.SiteFault ≡ true = ap made_wires (sym e) ∙ made in cc
+not_made status (inr e) made = let m : made_wires statuses.NoMemory ≡ true = ap made_wires (sym e) ∙ made in cc
+
 pub promised_unmade : (status : Status) (file : Option (List ℕ)) (before held : Option (List ℕ)) (failed : Type 0) (wires : List WireTold)
     → wires ≡ [] → IsUnmade status → AppendsThenStatus before held failed [] (status_text status) → IsPromised configured_world (up_p1 ∷ []) file status wires before held failed
 promised_unmade status file before held failed wires none unmade h =
@@ -514,7 +518,7 @@ promised_unmade status file before held failed wires none unmade h =
       limits = early_limits status early;
       lost = [];
       contents = [];
-      sessions = record { count = omega arith; all = λ e. absurd (not_complete_early status early e); each = λ p wire ss at e. absurd cc; each_all = λ complete p wire ss at e. absurd cc };
+      sessions = record { count = omega arith; all = λ e. absurd (not_made status unmade e); each = λ p wire ss at e. absurd cc; each_all = λ complete p wire ss at e. absurd cc };
       messages = tt;
       never_back = tt;
       end = tt;

@@ -16,7 +16,7 @@ use Rattle.ug_run.specs.Grammar.{line_of}
 use Rattle.ug_run.specs.Report.{Loss, line_texts, losses_status, completed_text, report_text}
 use Rattle.ug_run.specs.Reporting.{AppendsFront}
 use Rattle.ug_run.specs.Limits.{IsPastLimits}
-use Rattle.ug_run.specs.Statuses.{is_read_fault, is_complete, status_text}
+use Rattle.ug_run.specs.Statuses.{is_read_fault, is_complete, made_wires, status_text}
 use Rattle.ug_run.specs.declared.status.Status.{Status}
 use Rattle.ug_run.specs.declared.status.Status.TheVariants as statuses
 
@@ -110,11 +110,11 @@ is_lost name n lost = list_any (names_session name n) lost
 
 -- ---- the promises
 
--- `sessions`: one wire a configured peer, in configured order, as far as they were made; each has no more sessions
--- than its peer came up, and where the run completed just as many.
+-- `sessions`: one wire a configured peer, in configured order, as far as they were made, and all of them where the
+-- run came past that; each has no more sessions than its peer came up, and where the run completed just as many.
 pub record HaveSessions (status : Status) (w : World) (wires : List WireTold) : Type 0 where
   pub count : length wires ≤ length w.peers
-  pub all : is_complete status ≡ true → length wires ≡ length w.peers
+  pub all : made_wires status ≡ true → length wires ≡ length w.peers
   pub each : (p : ℕ) (wire : WireTold) (sessions : List (List ℕ)) → slice_get wires p ≡ Some wire → wire.sessions ≡ Some sessions → length sessions ≤ times_up (slice_get w.peers p)
   pub each_all : is_complete status ≡ true → (p : ℕ) (wire : WireTold) (sessions : List (List ℕ)) → slice_get wires p ≡ Some wire → wire.sessions ≡ Some sessions → length sessions ≡ times_up (slice_get w.peers p)
 

@@ -53,3 +53,14 @@ is_complete statuses.SiteFault = false
 is_complete statuses.NoMemory = false
 is_complete statuses.TooLong = false
 is_complete (statuses.Lost peer session) = true
+
+-- whether a run that ended so had made all its wires; where memory was wanting it may have
+abbrev pub made_wires : Status → Bool
+made_wires statuses.Ok = true
+made_wires statuses.Usage = false
+made_wires statuses.ReadFault = true
+made_wires statuses.ReportFault = true
+made_wires statuses.SiteFault = false
+made_wires statuses.NoMemory = false
+made_wires statuses.TooLong = true
+made_wires (statuses.Lost peer session) = true

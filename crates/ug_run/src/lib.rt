@@ -13,7 +13,11 @@ mod slow;
 mod speaker;
 mod status;
 mod stop;
+#[cfg(test)]
+mod tests;
 mod text;
+#[cfg(test)]
+mod trickle;
 mod words;
 
 pub use serving::{Done, WireList, serve};
