@@ -1,4 +1,5 @@
 //! The program: a run over the files of the system.
+#![tactic(auto)]
 
 ghost use Rattle.std.specs.Prelude.{◌≡◌, ◌<◌};
 
