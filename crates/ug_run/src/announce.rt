@@ -32,7 +32,12 @@ pub struct Announcements {
 }
 
 impl Announcements {
-    pub fn new(alloc: Global) -> Result<Announcements, NoMemory> {
+    /// The three sets.
+    pub fn new(alloc: Global) -> Result<Announcements, NoMemory>
+        ensures igp { IfOk result (λ made. made.igp ≡ announced 0) }
+        ensures egp { IfOk result (λ made. made.egp ≡ announced 1) }
+        ensures incomplete { IfOk result (λ made. made.incomplete ≡ announced 2) }
+    {
         let igp = attributes(alloc, 0)?;
         let egp = attributes(alloc, 1)?;
         let incomplete = attributes(alloc, 2)?;

@@ -2,22 +2,21 @@
 
 ghost use Rattle.std.specs.Prelude.{◌≡◌, ◌+◌, ◌<◌, ◌≤◌, ◌++◌, [], ◌∷◌, List, ℕ, map, length, Some, None, Option, IfOk, IfErr, OnOk, OnErr, IsErrOf, true, false, ◌↔◌};
 ghost use Rattle.std.specs.String.{string_bytes};
-ghost use Rattle.ug_edge.specs.Told.{Rose, HasPicked, IsEnded, IsFresh, AppendsPiece, FileText};
+ghost use Rattle.ug_edge.specs.Told.{Rose, HasPicked, IsEnded, IsFresh, AppendsPiece};
 ghost use Rattle.ug_run.specs.Words.{OneCommand, command_of, is_command};
 ghost use Rattle.ug_run.specs.One.{configured_world, up_p1};
 ghost use Rattle.ug_run.specs.Statuses.{status_text, is_complete};
-ghost use Rattle.ug_run.specs.Promise.{WireTold, AppendsThenStatus, IsPromised, file_told};
+ghost use Rattle.ug_run.specs.Promise.{AppendsThenStatus, IsPromised, file_told};
 ghost use Rattle.ug_run.specs.Reporting.{AppendsFront};
 ghost use Rattle.ug_run.specs.Ending.{lost_text, IsOutcome, IsConcluded, IsUnbegun, IsUnmade};
 ghost use Rattle.ug_run.specs.Intake.{IsReading};
 ghost use Rattle.ug_run.specs.OriginMap.{origins_in};
 
 use crate::intake::Intake;
-use crate::reader::{Run, Tally};
+use crate::reader::Run;
 use crate::report::{counts_text, write_all};
 use crate::speaker::{Prepared, Speaker};
 use crate::status::Status;
-use crate::stop::Stop;
 use crate::words::command;
 use std::alloc::Global;
 use std::sync::Wait;
@@ -36,7 +35,11 @@ pub struct Done<W: Wire> {
     pub wires: WireList<W>,
 }
 
-/// Runs the command that the words are.
+/// Runs the command that the words are, the first of them its name; so far that is `one EVENTS DIR`, over one peer.
+/// It reads the file EVENTS of the site, sends the peer's session into a wire that the site makes for DIR, and writes
+/// the report. Words that are no command are `Usage`, and leave the site unread. `ReadFault`, `ReportFault` and
+/// `SiteFault` come only where that count of faults rose, `TooLong` only past a limit of the file, `Lost` only where
+/// the wire failed; want of memory can end a run at any point. The steps count nothing yet.
 pub fn serve<R: Threads + Wait + Sync, E: Site, K: Sink, L: Ledger>(
     _rt: &R,
     alloc: Global,

@@ -1,9 +1,10 @@
 //! The speaker of `one`: its one peer's session, and the routes that it has.
 
-ghost use Rattle.std.specs.Prelude.{◌≡◌, ◌++◌, [], ◌∷◌, List, OnOk, OnErr, Some, false};
+ghost use Rattle.std.specs.Prelude.{◌≡◌, ◌++◌, [], ◌∷◌, List, OnOk, OnErr, IfOk, Some, false};
 ghost use Rattle.ug_message.specs.Texts.{written};
 ghost use Rattle.ug_edge.specs.Told.{IsFresh};
 ghost use Rattle.ug_run.specs.Worlds.{Line, Happened};
+ghost use Rattle.ug_run.specs.Sessions.{HasSent};
 ghost use Rattle.ug_run.specs.Views.{paths_seen};
 ghost use Rattle.ug_run.specs.Course.{IsCourse, end_of_rib as end_of_rib_message};
 ghost use Rattle.ug_run.specs.OriginMap.{origins_in};
@@ -34,7 +35,10 @@ pub struct Speaker<W: Wire> {
 }
 
 impl Prepared {
-    pub fn new(alloc: Global) -> Result<Prepared, NoMemory> {
+    /// Makes what the session needs.
+    pub fn new(alloc: Global) -> Result<Prepared, NoMemory>
+        ensures { IfOk result (λ made. written false false end_of_rib_message ≡ Some made.end_of_rib.items) }
+    {
         let announcements = Announcements::new(alloc)?;
         let end_of_rib = end_of_rib(alloc)?;
         Ok(Prepared {
@@ -49,7 +53,8 @@ impl<W: Wire> Speaker<W> {
     pub fn open(alloc: Global, prepared: Prepared, wire: W) -> Speaker<W>
         requires begun { W.begun wire ≡ 0 }
         requires fresh { IsFresh (W.sessions wire) }
-        ensures { IsCourse [] (W.sessions result.session.wire) result.session.lost (origins_in ⟦<Prefix as Ord>⟧.cmp result.origins) }
+        ensures end_of_rib { result.session.lost ≡ false → HasSent (W.sessions result.session.wire) false (end_of_rib_message ∷ []) }
+        ensures course { IsCourse [] (W.sessions result.session.wire) result.session.lost (origins_in ⟦<Prefix as Ord>⟧.cmp result.origins) }
     {
         let mut session = Session::begin(wire);
         session.send(prepared.end_of_rib.as_slice());

@@ -14,7 +14,10 @@ pub struct Trickle {
 
 impl Trickle {
     /// A site of which a read gives at most so many bytes, and one where that is none.
-    pub fn new(site: MemSite, most: usize) -> Trickle {
+    pub fn new(site: MemSite, most: usize) -> Trickle
+        ensures site { result.site ≡ site }
+        ensures most { 1 ≤ most → result.most ≡ most }
+    {
         Trickle {
             site,
             most: most.max(1),

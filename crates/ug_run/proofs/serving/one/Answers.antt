@@ -19,7 +19,7 @@ pub returns-clause-promise : goal.returns-clause-promise
 returns-clause-promise g c =
     let wire = c.into_wire.result in
     let one : c.put-2.new.wires.items ≡ wire ∷ [] = c.put-2.ensures ∙ ap (λ (ws : List _). ws ++ wire ∷ []) (c.in-Ok.ensures.wires ∙ c.new-wires.ensures) in
-    let reading = reading_begins (g.K.Sink.held c.args.report.now) _ _ _ _ _ _ _ c.open.ensures c.new-intake.ensures.lines c.new-intake.ensures.accepted c.new-intake.ensures.refused c.new-intake.ensures.carry in
+    let reading = reading_begins (g.K.Sink.held c.args.report.now) _ _ _ _ _ _ _ c.open.ensures.course c.new-intake.ensures.lines c.new-intake.ensures.accepted c.new-intake.ensures.refused c.new-intake.ensures.carry in
     let outcome = c.run-status.ensures.outcome (g.K.Sink.held c.args.report.now) (rw c.new-intake.ensures.speaker reading) in
     let picked = subst (λ (files : Option (List FileText)). HasPicked files c.args.events.now (g.E.Source.left c.pick.new.site)) c.in-Ok.ensures.files c.in_default.ensures.picked in
     let line = later_status _ _ _ _ [] _ (λ rose. Rose-later _ _ _ c.run-status.ensures.faults c.end-2.ensures.faults rose) c.end-2.ensures.report in
@@ -28,6 +28,6 @@ returns-clause-promise g c =
 
 pub returns-clause-ended : goal.returns-clause-ended
 returns-clause-ended g c =
-    let reading = reading_begins (g.K.Sink.held c.args.report.now) _ _ _ _ _ _ _ c.open.ensures c.new-intake.ensures.lines c.new-intake.ensures.accepted c.new-intake.ensures.refused c.new-intake.ensures.carry in
+    let reading = reading_begins (g.K.Sink.held c.args.report.now) _ _ _ _ _ _ _ c.open.ensures.course c.new-intake.ensures.lines c.new-intake.ensures.accepted c.new-intake.ensures.refused c.new-intake.ensures.carry in
     let outcome = c.run-status.ensures.outcome (g.K.Sink.held c.args.report.now) (rw c.new-intake.ensures.speaker reading) in
     λ complete. outcome_ended c.run-status.result _ _ _ _ _ _ _ outcome (ap is_complete (sym c.end-2.ensures.status) ∙ complete)
