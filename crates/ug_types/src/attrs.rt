@@ -118,6 +118,14 @@ impl Attrs {
         &self.parts
     }
 
+    /// The attributes one by one, in their own memory.
+    pub fn into_parts(self) -> AttrParts
+        ensures parts { attributes_of result ≡ self }
+        ensures well_formed { IsAttributes self }
+    {
+        self.parts
+    }
+
     /// Equal attributes of their own.
     pub fn copy(&self, alloc: Global) -> Result<Attrs, NoMemory>
         ensures { IfOk result (λ copy. copy ≡ self.now) }

@@ -3,6 +3,8 @@
 ghost use Rattle.std.specs.Prelude.{◌≡◌, ◌+◌, ◌-◌, ◌<◌, ◌≤◌, [], ◌∷◌, ◌++◌, length, OnOk, OnErr, IfOk, IfErr, IfNone, IfSome, IsOk, insert, remove, slice_get, slice_set, Some, IsTrue, ◌↔◌};
 ghost use Rattle.std.specs.Vec.{vec_len, vec_capacity};
 ghost use Rattle.std.specs.Borrow.{sem, Lends};
+ghost use Rattle.std.specs.Fn.{CalledAt};
+ghost use Rattle.std.specs.List.Retain.{IsFiltered};
 ghost use Rattle.std.specs.Cmp.{on_equiv, on_total, on_po, on_per};
 ghost use Rattle.std.specs.Cmp.Lexicographic.{pointwise, slice_cmp, slice_partial_cmp, lists_equiv, lists_agrees, lists_total, lists_ties, lists_po, lists_per};
 ghost use Rattle.std.specs.Hash as fed;
@@ -132,6 +134,17 @@ impl<T> Sequence<T> {
         }
     }
 
+    /// Drops each item of which `keeps` says no; the others stay in their order.
+    pub fn retain<F: FnMut(&T) -> bool>(&mut self, keeps: F)
+    where
+        T: Drop,
+        requires { F.IsAlwaysCallable keeps }
+        ensures items { IsFiltered (CalledAt F.FnMut) keeps self.old.items self.new.items }
+        ensures spare { self.old.spare ≤ self.new.spare }
+    {
+        self.items.retain(keeps);
+    }
+
     /// The items as a slice.
     pub fn as_slice(&self) -> &[T]
         ensures { result.now ≡ self.now.items }
@@ -143,6 +156,7 @@ impl<T> Sequence<T> {
     pub fn reserve(&mut self, n: usize) -> Result<(), NoMemory>
         ensures items { self.new.items ≡ self.old.items }
         ensures room { OnOk result (n ≤ self.new.spare) }
+        ensures enough { n ≤ self.old.spare → IsOk result }
         ensures spare { self.old.spare ≤ self.new.spare }
     {
         self.items.reserve(n)?;
