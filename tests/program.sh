@@ -8,6 +8,8 @@ trap 'rm -rf "$work"' EXIT
 cd "$work" || exit 1
 mkdir there
 printf 'paths 10.0.0.0/8 id=1 from=local nh=0.0.0.0 origin=igp as=-\n' > events
+(cat events; echo 'withdraw 10.0.0.0/8') > gone
+(cat gone; echo 'withdraw 10.0.0.0/8') > gone-twice
 passed=0
 failed=0
 
@@ -30,6 +32,8 @@ expect() {
 }
 
 expect "one announcement" 0 "accepted 1 refused 0" 68 one events there
+expect "an announcement and its withdrawal" 0 "accepted 2 refused 0" 93 one gone there
+expect "a withdrawal of no prefix" 0 $'line 3 refused 4 no-such-prefix\naccepted 2 refused 1' 93 one gone-twice there
 expect "no file of events" 3 "status 3 read" - one nothing there
 expect "a folder as the file of events" 3 "status 3 read" 23 one there there
 expect "no folder" 5 "status 5 site" - one events nowhere

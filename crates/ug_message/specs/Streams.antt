@@ -1,5 +1,5 @@
 -- A session's bytes as messages.
-use Rattle.std.specs.Prelude.{◌≡◌, ℕ, ◌<◌, Bool, List, [], ◌∷◌, ◌++◌, length, Some}
+use Rattle.std.specs.Prelude.{◌≡◌, ℕ, ◌<◌, Bool, true, false, ◌&&◌, List, [], ◌∷◌, ◌++◌, length, Some}
 use Rattle.ug_types.specs.Messages.{Message, Updates, Begins, Ends, Ignored}
 use Rattle.ug_message.specs.Texts.{written}
 
@@ -31,3 +31,14 @@ IsUpdate (Updates u) = Unit {0}
 IsUpdate Begins = ⊥
 IsUpdate Ends = ⊥
 IsUpdate Ignored = ⊥
+
+abbrev is_empty : {T : Type 0} → List T → Bool
+is_empty [] = true
+is_empty (x ∷ xs) = false
+
+-- The message is End-of-RIB (RFC 4724 section 2): an UPDATE that withdraws nothing and announces nothing.
+abbrev pub says_nothing : Message → Bool
+says_nothing (Updates u) = is_empty u.withdrawn && is_empty u.announced
+says_nothing Begins = false
+says_nothing Ends = false
+says_nothing Ignored = false

@@ -6,7 +6,7 @@ use Rattle.ug_types.specs.declared.family.Family.TheVariants.{V4, V6}
 use Rattle.ug_types.specs.Attributes.{Attributes}
 use Rattle.ug_types.specs.Spelling.{attributes, attribute}
 use Rattle.ug_update.specs.Updates.{announcement_size}
-use Rattle.ug_run.specs.One.{announced}
+use Rattle.ug_rib.specs.One.{announced}
 
 announced_length : (origin : ℕ) → length (attributes (announced origin)) ≡ 20
 unfolding attributes attribute

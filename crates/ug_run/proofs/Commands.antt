@@ -2,7 +2,8 @@
 use Rattle.std.proofs.Common.{◌≡◌, ℕ, suc, ◌≤◌, true, false, List, [], ◌∷◌, length, Option, Some, None, refl, arith, option_and_then, codes, inl, inr, cond}
 use Rattle.std.proofs.lemmas.Bool.{cases_lt}
 use Rattle.std.specs.Option.{option_map}
-use Rattle.ug_run.specs.Words.{same_bytes, is_option, positional, events_and_dir}
+use Rattle.ug_event.specs.Bytes.{same_bytes}
+use Rattle.ug_run.specs.Words.{is_option, positional, events_and_dir}
 
 -- The positional words are at most one fewer than the words, and no more.
 abbrev IsNear : ℕ → Option (List (List ℕ)) → Type 0

@@ -2,8 +2,9 @@
 use Rattle.std.proofs.Common.{◌≡◌, ℕ, zero, suc, ◌-◌, ◌<◌, ◌≤◌, min, Bool, true, false, cond, eqb, ltb, List, [], ◌∷◌, ◌++◌, length, take, Option, Some, None, refl, sym, ap, ◌∙◌, append_assoc, arith, inl, inr}
 use Rattle.std.proofs.lemmas.List.{append-nil, length-take}
 use Rattle.std.proofs.lemmas.Bool.{cases_lt, lt-ltb}
-use Rattle.ug_run.specs.Lines.{ended_from, rest_from, where_some_bytes}
-use Rattle.ug_run.specs.Grammar.{cut_at, with_front, line_of}
+use Rattle.ug_run.specs.Lines.{ended_from, rest_from}
+use Rattle.ug_event.specs.Bytes.{where_some_bytes}
+use Rattle.ug_event.specs.Grammar.{cut_at, with_front, line_of}
 use Rattle.ug_run.specs.Intake.{carried}
 
 -- how the first newline cuts bytes

@@ -1,6 +1,6 @@
 -- How a run of `one` keeps its promise, whatever its end.
 use Rattle.std.proofs.Common.{◌≡◌, ℕ, zero, suc, ◌+◌, ◌≤◌, inl, inr, Bool, true, false, ◌&&◌, not, cond, List, [], ◌∷◌, ◌++◌, map, length, Option, Some, None, refl, sym, ap, subst, ◌∙◌, arith, codes}
-use Rattle.std.specs.Prelude.{filter, slice_get}
+use Rattle.std.specs.Prelude.{filter, slice_get, take}
 use Rattle.std.specs.Fmt.{digits}
 use Rattle.std.specs.List.{flat_map, AllByRecursion}
 use Rattle.std.specs.FinMap.{FinMap}
@@ -10,26 +10,27 @@ use Rattle.ug_types.specs.Keys.{prefix_cmp}
 use Rattle.ug_types.specs.Messages.{Message}
 use Rattle.ug_types.specs.declared.key.Key.{Key}
 use Rattle.ug_types.specs.declared.route.Path.{Path}
-use Rattle.ug_message.specs.Streams.{IsSentForm, IsUpdate}
+use Rattle.ug_message.specs.Streams.{IsSentForm, IsUpdate, says_nothing}
 use Rattle.ug_tables.specs.Tables.{tables_after, table_of}
 use Rattle.ug_tables.specs.Climbing.{NeverBack, Follows}
 use Rattle.ug_tables.specs.ClimbingLaws.{NeverBack-from}
 use Rattle.ug_edge.specs.Told.{AppendsPiece, TakesFront, IsEnded, IsFresh, HasPicked, FileText}
-use Rattle.ug_run.specs.Words.{same_bytes}
+use Rattle.ug_event.specs.Bytes.{same_bytes}
 use Rattle.ug_run.specs.Lines.{ended_from, rest_from, most_bytes, most_lines, lines_read}
-use Rattle.ug_run.specs.World.{World, PeerState, Up, Paths, with_up, verdict}
-use Rattle.ug_run.specs.Worlds.{Line, Blank, Sync, Happened, Refused, outcome, judged, world_after, last_world, past}
-use Rattle.ug_run.specs.Outbound.{private_table}
-use Rattle.ug_run.specs.Grammar.{line_of}
-use Rattle.ug_run.specs.One.{configured_world, one_world, up_p1}
-use Rattle.ug_run.specs.Course.{opened, run_worlds, run_world, session_past, IsCourse}
+use Rattle.ug_rib.specs.World.{World, PeerState, with_up, verdict}
+use Rattle.ug_event.specs.Events.{Withdraw, Up, Paths, Line, Blank, Sync, Happened, Refused}
+use Rattle.ug_rib.specs.Worlds.{outcome, judged, world_after, last_world, past}
+use Rattle.ug_rib.specs.Outbound.{private_table}
+use Rattle.ug_event.specs.Grammar.{line_of}
+use Rattle.ug_rib.specs.One.{configured_world, one_world, up_p1}
+use Rattle.ug_run.specs.Course.{opened, run_worlds, run_world, session_past, IsCourse, IsOpening}
 use Rattle.ug_run.specs.Sessions.{HasSent}
 use Rattle.ug_run.specs.Report.{Loss, line_texts, loss_text, counts_text, losses_status, completed_text, report_text, accepted_count, refused_count}
 use Rattle.ug_run.specs.Reporting.{AppendsFront}
 use Rattle.ug_run.specs.Limits.{IsPastLimits}
 use Rattle.ug_run.specs.Intake.{lines_text, IsRun, IsReading, IsReportedUntil, HasReadAll, HasStopped}
 use Rattle.ug_run.specs.Statuses.{status_text, status_of, is_complete, is_read_fault, made_wires}
-use Rattle.ug_run.specs.Promise.{IsPartOf, file_told, is_empty, lines_counted, WireTold, Content, EachFrom, EachSession, HaveSessions, HaveMessages, AreNeverBack, HaveEnd, HaveLosses, has_rest, times_up, name_of, is_lost, AppendsThenStatus, HasReport, IsFirstLoss, IsLimited, IsPromised}
+use Rattle.ug_run.specs.Promise.{ends_of_rib, IsPrivate, HaveEndOfRib, AreOpened, IsPartOf, file_told, is_empty, lines_counted, WireTold, Content, EachFrom, EachSession, HaveSessions, HaveMessages, AreNeverBack, HaveEnd, HaveLosses, has_rest, times_up, name_of, is_lost, AppendsThenStatus, HasReport, IsFirstLoss, IsLimited, IsPromised}
 use Rattle.ug_run.specs.Ending.{lost_text, losses_where, IsConcluded, IsOutcome, IsUnbegun, IsUnmade}
 use Rattle.ug_run.specs.declared.status.Status.{Status}
 use Rattle.ug_run.specs.declared.status.Status.TheVariants as statuses
@@ -38,6 +39,7 @@ use Rattle.ug_run.specs.declared.stop.Stop.TheVariants as stops
 use Rattle.ug_run.proofs.Appending.{AppendsPiece-none, AppendsPiece-more, AppendsFront-more, AppendsFront-longer}
 use Rattle.ug_run.proofs.Progress.{Follows-more}
 use Rattle.ug_run.proofs.Taking.{line_texts-append}
+use Rattle.ug_run.proofs.Opening.{at_most_one, just_one, private_then}
 
 -- ---- the one wire
 
@@ -49,6 +51,7 @@ record OneWire (lines : List Line) (sessions : Option (List (List ℕ))) (faults
   content : Content
   messages : HaveMessages configured_world 0 (told sessions faults) (content ∷ [])
   never_back : AreNeverBack (run_worlds lines) 0 (told sessions faults) (content ∷ [])
+  end_of_rib : HaveEndOfRib (run_worlds lines) 0 (told sessions faults) (content ∷ [])
   whole : lost ≡ false → content.rest ≡ []
   same : content.messages ≡ sent
 
@@ -58,20 +61,24 @@ few_rests messages (b ∷ rest) true faults whole blamed = blamed refl
 few_rests messages (b ∷ rest) false faults whole blamed = let e = whole refl in absurd cc
 
 one_wire : (lines : List Line) (messages : List Message) (sessions : Option (List (List ℕ))) (faults : ℕ) (lost : Bool)
-    → (lost ≡ true → 1 ≤ faults) → HasSent sessions lost messages → AllByRecursion IsUpdate messages → Follows (session_past lines) (tables_after messages) → OneWire lines sessions faults lost messages
-one_wire lines messages None faults lost blamed sent updates follows = record {
+    → (lost ≡ true → 1 ≤ faults) → HasSent sessions lost messages → AllByRecursion IsUpdate messages → IsOpening lost messages → Follows (session_past lines) (tables_after messages) → OneWire lines sessions faults lost messages
+one_wire lines messages None faults lost blamed sent updates opening follows = record {
   content = record { messages = messages; rest = [] };
   messages = (tt, omega arith);
   never_back = tt;
+  end_of_rib = tt;
   whole = λ e. refl;
   same = refl;
 }
-one_wire lines messages (Some sessions) faults lost blamed sent updates follows =
+one_wire lines messages (Some sessions) faults lost blamed sent updates opening follows =
     let c : Content = record { messages = messages; rest = sent.1 } in
     record {
       content = c;
       messages = (subst (λ (ss : List (List ℕ)). EachFrom (λ n bytes c. IsSentForm false false bytes c.messages c.rest × AllByRecursion IsUpdate c.messages) 1 ss (c ∷ [])) (sym sent.2) ((sent.3, updates), tt), few_rests messages sent.1 lost faults sent.4 blamed);
       never_back = subst (λ (ss : List (List ℕ)). EachFrom (λ n bytes c. NeverBack (past 0 n (run_worlds lines)) (tables_after c.messages)) 1 ss (c ∷ [])) (sym sent.2) (NeverBack-from (session_past lines) (tables_after messages) follows, tt);
+      end_of_rib = subst (λ (ss : List (List ℕ)). EachFrom (λ n bytes c. (ends_of_rib c.messages ≤ 1)
+          × ((i : ℕ) (m : Message) → slice_get c.messages i ≡ Some m → says_nothing m ≡ true → IsPrivate 0 n (run_worlds lines) (table_of (take (i + 1) c.messages)))) 1 ss (c ∷ [])) (sym sent.2)
+          ((at_most_one lost messages opening, private_then lines lost messages opening), tt);
       whole = sent.4;
       same = refl;
     }
@@ -96,6 +103,10 @@ has_p1_after w (Happened (Up name)) h = elim (verdict w (Up name)) as (λ v. Has
   | Some number ↦ h
 ]
 has_p1_after w (Happened (Paths prefix paths)) h = elim (verdict w (Paths prefix paths)) as (λ v. HasP1 (world_after w (judged w (Paths prefix paths) v))) [
+  | None ↦ record { state = h.state; peers = h.peers; times = h.times }
+  | Some number ↦ h
+]
+has_p1_after w (Happened (Withdraw prefix)) h = elim (verdict w (Withdraw prefix)) as (λ v. HasP1 (world_after w (judged w (Withdraw prefix) v))) [
   | None ↦ record { state = h.state; peers = h.peers; times = h.times }
   | Some number ↦ h
 ]
@@ -292,7 +303,7 @@ promised_stopped stop files name before left now mid held sessions faults lost f
     let t = taken_lines stop before left now mid sessions lost h in
     let k = h.kept in
     let follows : Follows (session_past counted) (tables_after k.messages) = subst (λ (ls : List Line). Follows (session_past ls) (tables_after k.messages)) (sym t.parts) (Follows-more h.lines t.more (tables_after k.messages) k.follows) in
-    let wire = one_wire counted k.messages sessions faults lost blamed k.sent k.updates follows in
+    let wire = one_wire counted k.messages sessions faults lost blamed k.sent k.updates k.opening follows in
     record {
       read = h.read;
       rest = rest_of now;
@@ -304,6 +315,8 @@ promised_stopped stop files name before left now mid held sessions faults lost f
       sessions = sessions_counted (status_of stop) counted sessions faults 1 (λ all e. one_session sessions lost k.messages all k.sent e) (omega arith) (λ e. absurd (not_complete stop e));
       messages = (wire.messages, tt);
       never_back = (wire.never_back, tt);
+      end_of_rib = (wire.end_of_rib, tt);
+      opened = ((λ complete. absurd (not_complete stop complete)), tt);
       end = ((λ complete. absurd (not_complete stop complete)), tt);
       losses = ((λ complete. absurd (not_complete stop complete)), tt);
       report = stopped_report stop before mid held failed h.lines t.more counted (losses_where lost) t.parts t.reported t.full t.all status;
@@ -337,6 +350,17 @@ end_of_one status w rib (Some sessions) faults false messages c world sent whole
 end_of_one status w rib (Some sessions) faults true messages c world sent whole current = λ complete up.
     let named : is_lost (name_of (slice_get w.peers 0)) 1 (losses_where true) ≡ true = ap (λ (v : World). is_lost (name_of (slice_get v.peers 0)) 1 (losses_where true)) world in
     subst (λ (ss : List (List ℕ)). EachFrom (λ n bytes c. n ≡ times_up (slice_get w.peers 0) → is_lost (name_of (slice_get w.peers 0)) n (losses_where true) ≡ false → (c.rest ≡ []) × ((key : Key) → table_of c.messages key ≡ private_table 0 w key)) 1 ss (c ∷ [])) (sym sent.2)
+    ((λ n not_lost. absurd (true_false (sym named ∙ not_lost))), tt)
+
+opened_of_one : (status : Status) (w : World) (rib : FinMap prefix_cmp (List Path)) (sessions : Option (List (List ℕ))) (faults : ℕ) (lost : Bool) (messages : List Message) (c : Content)
+    → w ≡ one_world rib → HasSent sessions lost messages → (lost ≡ false → ends_of_rib c.messages ≡ 1) → AreOpened status w (losses_where lost) 0 (told sessions faults) (c ∷ [])
+opened_of_one status w rib None faults lost messages c world sent one = λ complete up. tt
+opened_of_one status w rib (Some sessions) faults false messages c world sent one = λ complete up.
+    subst (λ (ss : List (List ℕ)). EachFrom (λ n bytes c. n ≡ times_up (slice_get w.peers 0) → is_lost (name_of (slice_get w.peers 0)) n [] ≡ false → ends_of_rib c.messages ≡ 1) 1 ss (c ∷ [])) (sym sent.2)
+    ((λ n lost. one refl), tt)
+opened_of_one status w rib (Some sessions) faults true messages c world sent one = λ complete up.
+    let named : is_lost (name_of (slice_get w.peers 0)) 1 (losses_where true) ≡ true = ap (λ (v : World). is_lost (name_of (slice_get v.peers 0)) 1 (losses_where true)) world in
+    subst (λ (ss : List (List ℕ)). EachFrom (λ n bytes c. n ≡ times_up (slice_get w.peers 0) → is_lost (name_of (slice_get w.peers 0)) n (losses_where true) ≡ false → ends_of_rib c.messages ≡ 1) 1 ss (c ∷ [])) (sym sent.2)
     ((λ n not_lost. absurd (true_false (sym named ∙ not_lost))), tt)
 
 losses_of_one : (status : Status) (sessions : Option (List (List ℕ))) (faults : ℕ) (lost : Bool) (messages : List Message) (c : Content)
@@ -391,7 +415,7 @@ promised_read status files name before left now mid last held sessions faults lo
     ap (λ (bs : List ℕ). map line_of (lines_read (is_empty bs && not (is_read_fault status)) h.read)) (no_rest now h.ended) ∙ ap (λ (f : Bool). map line_of (lines_read (true && not f) h.read)) (all_read status lost a r mid last done concluded) in
     let run : IsRun before counted sessions lost origins c a r mid = subst (λ (ls : List Line). IsRun before ls sessions lost origins c a r mid) (sym whole) h.run in
     let k = run.course.kept in
-    let wire = one_wire counted k.messages sessions faults lost blamed k.sent k.updates k.follows in
+    let wire = one_wire counted k.messages sessions faults lost blamed k.sent k.updates k.opening k.follows in
     let world = run.course.routes.world in
     record {
       read = h.read;
@@ -404,6 +428,12 @@ promised_read status files name before left now mid last held sessions faults lo
       sessions = sessions_counted status counted sessions faults 1 (λ all e. one_session sessions lost k.messages all k.sent e) (omega arith) (λ e. sym (ap (λ (w : World). times_up (slice_get w.peers 0)) world));
       messages = (wire.messages, tt);
       never_back = (wire.never_back, tt);
+      end_of_rib = (wire.end_of_rib, tt);
+      opened = (
+        opened_of_one status (run_world counted) run.course.routes.rib sessions faults lost k.messages wire.content world k.sent
+            (λ live. ap ends_of_rib wire.same ∙ just_one lost k.messages k.opening live),
+        tt,
+      );
       end = (
         end_of_one status (run_world counted) run.course.routes.rib sessions faults lost k.messages wire.content world k.sent wire.whole
             (λ e key. ap (λ (ms : List Message). table_of ms key) wire.same ∙ run.course.current e key),
@@ -495,6 +525,8 @@ promised_unbegun status file before held sessions faults failed unbegun fresh h 
       sessions = sessions_counted status counted sessions faults 0 (λ all e. no_session sessions all fresh e) (omega arith) (λ e. absurd (not_complete_early status early e));
       messages = ((no_content _ sessions fresh, omega arith), tt);
       never_back = (no_content _ sessions fresh, tt);
+      end_of_rib = (no_content _ sessions fresh, tt);
+      opened = ((λ complete. absurd (not_complete_early status early complete)), tt);
       end = ((λ complete. absurd (not_complete_early status early complete)), tt);
       losses = ((λ complete. absurd (not_complete_early status early complete)), tt);
       report = early_report status before held failed counted early (counted_none status (rest_of file)) h;
@@ -521,6 +553,8 @@ promised_unmade status file before held failed wires none unmade h =
       sessions = record { count = omega arith; all = λ e. absurd (not_made status unmade e); each = λ p wire ss at e. absurd cc; each_all = λ complete p wire ss at e. absurd cc };
       messages = tt;
       never_back = tt;
+      end_of_rib = tt;
+      opened = tt;
       end = tt;
       losses = tt;
       report = early_report status before held failed counted early (counted_none status (rest_of file)) h;

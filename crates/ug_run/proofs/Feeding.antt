@@ -2,9 +2,10 @@
 use Rattle.std.proofs.Common.{◌≡◌, ℕ, ◌+◌, ◌<◌, ◌≤◌, Bool, List, [], ◌∷◌, ◌++◌, map, length, Option, Some, None, refl, sym, ap, subst, ◌∙◌, append_assoc, arith}
 use Rattle.std.proofs.lemmas.List.{append-nil, length-append, length-map}
 use Rattle.ug_types.specs.Ip.{IpPrefix}
-use Rattle.ug_run.specs.Lines.{ended_from, rest_from, where_some_bytes, most_lines}
-use Rattle.ug_run.specs.Worlds.{Line}
-use Rattle.ug_run.specs.Grammar.{line_of, cut_at}
+use Rattle.ug_run.specs.Lines.{ended_from, rest_from, most_lines}
+use Rattle.ug_event.specs.Bytes.{where_some_bytes}
+use Rattle.ug_event.specs.Events.{Line}
+use Rattle.ug_event.specs.Grammar.{line_of, cut_at}
 use Rattle.ug_run.specs.Intake.{carried, ended_lines, IsRun, IsReading, IsStopped, IsStoppedWithin}
 use Rattle.ug_run.specs.declared.stop.Stop.{Stop}
 use Rattle.ug_run.specs.declared.stop.Stop.TheVariants as stops

@@ -1,4 +1,3 @@
-pub mod Texts
 pub mod Sending
 pub mod Progress
 pub mod Announcing
@@ -8,4 +7,5 @@ pub mod Cutting
 pub mod Feeding
 pub mod Reading
 mod Commands
+pub mod Opening
 pub mod Ending

@@ -5,10 +5,11 @@ use Rattle.std.proofs.lemmas.List.{append-nil, length-append, length-map, length
 use Rattle.std.proofs.Math.Seq.{take-append_seam}
 use Rattle.ug_types.specs.Ip.{IpPrefix}
 use Rattle.ug_edge.specs.Told.{Rose, TakesFront, IsEnded}
-use Rattle.ug_run.specs.Lines.{ended_from, rest_from, where_some_bytes, most_bytes, most_lines, lines_read}
+use Rattle.ug_run.specs.Lines.{ended_from, rest_from, most_bytes, most_lines, lines_read}
+use Rattle.ug_event.specs.Bytes.{where_some_bytes}
 use Rattle.ug_run.specs.Limits.{IsPastLimits}
-use Rattle.ug_run.specs.Worlds.{Line}
-use Rattle.ug_run.specs.Grammar.{line_of}
+use Rattle.ug_event.specs.Events.{Line}
+use Rattle.ug_event.specs.Grammar.{line_of}
 use Rattle.ug_run.specs.Reporting.{AppendsFront}
 use Rattle.ug_run.specs.Intake.{lines_text, carried, ended_lines, IsRun, IsReading, IsStopped, IsStoppedWithin, IsPastLines, IsReportedUntil, HasReadAll, HasStopped}
 use Rattle.ug_run.specs.declared.stop.Stop.{Stop}

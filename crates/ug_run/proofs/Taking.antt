@@ -1,15 +1,15 @@
 -- How the counts and the report go on by one line.
 use Rattle.std.proofs.Common.{◌≡◌, ℕ, ◌+◌, Bool, List, [], ◌∷◌, ◌++◌, length, Option, refl, sym, ap, subst, ◌∙◌, append_assoc, arith}
+use Rattle.std.specs.Prelude.{Result, Ok, Err, OnOk, IfErr}
 use Rattle.std.specs.List.{concat}
-use Rattle.std.specs.FinMap.{insert}
 use Rattle.std.proofs.lemmas.List.{append-nil, length-append}
 use Rattle.std.proofs.lemmas.List.Folds.{concat-append}
 use Rattle.ug_types.specs.Ip.{IpPrefix}
 use Rattle.ug_edge.specs.Told.{AppendsPiece}
-use Rattle.ug_run.specs.World.{World}
-use Rattle.ug_run.specs.Worlds.{Line, Blank, Happened, Refused, Outcome, Passes, Accepts, Refuses, outcome, world_after, last_world}
-use Rattle.ug_run.specs.Grammar.{local_paths}
-use Rattle.ug_run.specs.One.{one_world, local_path}
+use Rattle.ug_rib.specs.World.{World}
+use Rattle.ug_event.specs.Events.{Line, Blank, Happened, Refused}
+use Rattle.ug_rib.specs.Worlds.{Outcome, Passes, Accepts, Refuses, outcome, world_after, last_world}
+use Rattle.ug_rib.specs.One.{one_world, local_path}
 use Rattle.ug_run.specs.Report.{refusal_text, where_refused, line_texts, one_if_accepted, one_if_refused, accepted_count, refused_count}
 use Rattle.ug_run.specs.Course.{opened, run_world, IsCourse, IsTally}
 use Rattle.ug_run.specs.Reporting.{AppendsFront}
@@ -70,37 +70,47 @@ IsRun-blank before lines sessions lost origins count accepted refused held h =
     let r : refused + 0 ≡ refused = omega arith in
     subst (λ (n : ℕ). IsRun before (lines ++ Blank ∷ []) sessions lost origins (count + 1) n refused held) a
     (subst (λ (n : ℕ). IsRun before (lines ++ Blank ∷ []) sessions lost origins (count + 1) (accepted + 0) n held) r
-    (pushed before lines Blank sessions lost origins count accepted refused held held Passes refl (IsCourse-passed lines Blank sessions lost origins (λ w. refl) h.course) h.tally h.reported (AppendsPiece-none held)))
+    (pushed before lines Blank sessions lost origins count accepted refused held held Passes refl (IsCourse-passed lines Blank sessions lost origins refl h.course) h.tally h.reported (AppendsPiece-none held)))
 
-pub IsRun-paths : (before : Option (List ℕ)) (lines : List Line) (prefix : IpPrefix) (id next_hop origin : ℕ) (was sessions : Option (List (List ℕ))) (had lost : Bool) (old new : IpPrefix → Option ℕ) (count accepted refused : ℕ) (held : Option (List ℕ))
-    → IsRun before lines was had old count accepted refused held → IsCourse (lines ++ Happened (local_paths prefix id next_hop origin) ∷ []) sessions lost new
-    → IsRun before (lines ++ Happened (local_paths prefix id next_hop origin) ∷ []) sessions lost new (count + 1) (accepted + 1) refused held
-IsRun-paths before lines prefix id next_hop origin was sessions had lost old new count accepted refused held h course =
-    let line = Happened (local_paths prefix id next_hop origin) in
-    let rib = insert h.course.routes.rib prefix (local_path id next_hop origin ∷ []) in
+-- an event was accepted, and it was told
+pub IsRun-accepted : (before : Option (List ℕ)) (lines : List Line) (line : Line) (w : World) (was sessions : Option (List (List ℕ))) (had lost : Bool) (old new : IpPrefix → Option ℕ) (count accepted refused : ℕ) (held : Option (List ℕ))
+    → outcome (run_world lines) line ≡ Accepts w → IsRun before lines was had old count accepted refused held → IsCourse (lines ++ line ∷ []) sessions lost new
+    → IsRun before (lines ++ line ∷ []) sessions lost new (count + 1) (accepted + 1) refused held
+IsRun-accepted before lines line w was sessions had lost old new count accepted refused held accepts h course =
     let r : refused + 0 ≡ refused = omega arith in
     subst (λ (n : ℕ). IsRun before (lines ++ line ∷ []) sessions lost new (count + 1) (accepted + 1) n held) r
-    (pushed before lines line sessions lost new count accepted refused held held (Accepts (one_world rib)) (ap (λ (w : World). outcome w line) h.course.routes.world) course h.tally h.reported (AppendsPiece-none held))
+    (pushed before lines line sessions lost new count accepted refused held held (Accepts w) accepts course h.tally h.reported (AppendsPiece-none held))
 
-pub IsRun-refused : (before : Option (List ℕ)) (lines : List Line) (number : ℕ) (text : List ℕ) (sessions : Option (List (List ℕ))) (lost : Bool) (origins : IpPrefix → Option ℕ) (count accepted refused : ℕ) (old new : Option (List ℕ))
-    → text ≡ refusal_text (count + 1) number → AppendsPiece old new text
-    → IsRun before lines sessions lost origins count accepted refused old → IsRun before (lines ++ Refused number ∷ []) sessions lost origins (count + 1) accepted (refused + 1) new
-IsRun-refused before lines number text sessions lost origins count accepted refused old new is more h =
+pub IsRun-refused : (before : Option (List ℕ)) (lines : List Line) (line : Line) (number : ℕ) (text : List ℕ) (sessions : Option (List (List ℕ))) (lost : Bool) (origins : IpPrefix → Option ℕ) (count accepted refused : ℕ) (old new : Option (List ℕ))
+    → text ≡ refusal_text (count + 1) number → AppendsPiece old new text → outcome (run_world lines) line ≡ Refuses number
+    → IsRun before lines sessions lost origins count accepted refused old → IsRun before (lines ++ line ∷ []) sessions lost origins (count + 1) accepted (refused + 1) new
+IsRun-refused before lines line number text sessions lost origins count accepted refused old new is more refuses h =
     let a : accepted + 0 ≡ accepted = omega arith in
     let k : count + 1 ≡ 1 + length lines = omega (arith, h.tally.count_is) in
     let said : text ≡ concat (where_refused (1 + length lines) (Refuses number)) = is ∙ ap (λ (n : ℕ). refusal_text n number) k ∙ sym (append-nil (refusal_text (1 + length lines) number)) in
-    subst (λ (n : ℕ). IsRun before (lines ++ Refused number ∷ []) sessions lost origins (count + 1) n (refused + 1) new) a
-    (pushed before lines (Refused number) sessions lost origins count accepted refused old new (Refuses number) refl (IsCourse-passed lines (Refused number) sessions lost origins (λ w. refl) h.course) h.tally h.reported
+    let passes : world_after (run_world lines) (outcome (run_world lines) line) ≡ run_world lines = ap (λ (o : Outcome). world_after (run_world lines) o) refuses in
+    subst (λ (n : ℕ). IsRun before (lines ++ line ∷ []) sessions lost origins (count + 1) n (refused + 1) new) a
+    (pushed before lines line sessions lost origins count accepted refused old new (Refuses number) refuses (IsCourse-passed lines line sessions lost origins passes h.course) h.tally h.reported
     (subst (λ (t : List ℕ). AppendsPiece old new t) said more))
 
-pub IsStopped-report : (before : Option (List ℕ)) (lines : List Line) (number : ℕ) (text : List ℕ) (sessions : Option (List (List ℕ))) (lost : Bool) (origins : IpPrefix → Option ℕ) (count accepted refused : ℕ) (old new : Option (List ℕ))
-    → text ≡ refusal_text (count + 1) number → AppendsFront old new text
-    → IsRun before lines sessions lost origins count accepted refused old → IsStopped stops.Report before lines (Refused number ∷ []) sessions lost new
-IsStopped-report before lines number text sessions lost origins count accepted refused old new is front h =
+pub IsStopped-report : (before : Option (List ℕ)) (lines : List Line) (line : Line) (number : ℕ) (text : List ℕ) (sessions : Option (List (List ℕ))) (lost : Bool) (origins : IpPrefix → Option ℕ) (count accepted refused : ℕ) (old new : Option (List ℕ))
+    → text ≡ refusal_text (count + 1) number → AppendsFront old new text → outcome (run_world lines) line ≡ Refuses number
+    → IsRun before lines sessions lost origins count accepted refused old → IsStopped stops.Report before lines (line ∷ []) sessions lost new
+IsStopped-report before lines line number text sessions lost origins count accepted refused old new is front refuses h =
     let k : count + 1 ≡ 1 + length lines = omega (arith, h.tally.count_is) in
     let said : text ≡ concat (where_refused (1 + length lines) (Refuses number)) = is ∙ ap (λ (n : ℕ). refusal_text n number) k ∙ sym (append-nil (refusal_text (1 + length lines) number)) in
+    let text_is : lines_text (lines ++ line ∷ []) ≡ lines_text lines ++ concat (where_refused (1 + length lines) (Refuses number)) =
+    lines_text-push lines line ∙ ap (λ (o : Outcome). lines_text lines ++ concat (where_refused (1 + length lines) o)) refuses in
     record {
       kept = h.course.kept;
-      reported = subst (λ (t : List ℕ). AppendsFront before new t) (sym (lines_text-push lines (Refused number)))
+      reported = subst (λ (t : List ℕ). AppendsFront before new t) (sym text_is)
           (AppendsFront-more before old new (lines_text lines) (concat (where_refused (1 + length lines) (Refuses number))) h.reported (subst (λ (t : List ℕ). AppendsFront old new t) said front));
     }
+
+pub OnOk-then : {T E P Q : Type 0} (r : Result T E) → (P → Q) → OnOk r P → OnOk r Q
+OnOk-then (Ok x) f h = f h
+OnOk-then (Err e) f h = tt
+
+pub IfErr-then : {T E : Type 0} {P Q : E → Type 0} (r : Result T E) → ((e : E) → P e → Q e) → IfErr r P → IfErr r Q
+IfErr-then (Ok x) f h = tt
+IfErr-then (Err e) f h = f e h

@@ -3,9 +3,10 @@ use Rattle.std.specs.Prelude.{◌≡◌, ℕ, ◌+◌, ◌<◌, ◌≤◌, Bool,
 use Rattle.std.specs.List.{concat}
 use Rattle.ug_types.specs.Ip.{IpPrefix}
 use Rattle.ug_edge.specs.Told.{AppendsPiece, TakesFront, IsEnded}
-use Rattle.ug_run.specs.Worlds.{Line}
-use Rattle.ug_run.specs.Lines.{ended_from, rest_from, where_some_bytes, most_lines, lines_read}
-use Rattle.ug_run.specs.Grammar.{line_of}
+use Rattle.ug_event.specs.Events.{Line}
+use Rattle.ug_run.specs.Lines.{ended_from, rest_from, most_lines, lines_read}
+use Rattle.ug_event.specs.Bytes.{where_some_bytes}
+use Rattle.ug_event.specs.Grammar.{line_of}
 use Rattle.ug_run.specs.Report.{line_texts}
 use Rattle.ug_run.specs.Course.{opened, IsKept, IsCourse, IsTally}
 use Rattle.ug_run.specs.Reporting.{AppendsFront}

@@ -1,16 +1,9 @@
 pub mod Words
 pub mod Lines
 pub mod Limits
-pub mod World
-pub mod Outbound
-pub mod Worlds
-pub mod Grammar
-pub mod Views
-pub mod One
 pub mod Report
 pub mod Sessions
 pub mod Course
-pub mod Origins
 pub mod OriginMap
 pub mod Reporting
 pub mod Intake

@@ -1,6 +1,7 @@
 -- The limits of a file of events.
 use Rattle.std.specs.Prelude.{ℕ, ◌+◌, ◌<◌, ◌⊎◌, List, [], length}
-use Rattle.ug_run.specs.Lines.{ended_from, rest_from, where_some_bytes, most_bytes, most_lines}
+use Rattle.ug_run.specs.Lines.{ended_from, rest_from, most_bytes, most_lines}
+use Rattle.ug_event.specs.Bytes.{where_some_bytes}
 
 -- A file has more bytes, or more lines, than are read of it.
 abbrev pub IsPastLimits : List ℕ → Type 0

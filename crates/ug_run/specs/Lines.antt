@@ -1,6 +1,7 @@
 -- A file of events as lines. The file is cut at each newline; bytes after the last newline are a line where there
 -- are any.
 use Rattle.std.specs.Prelude.{ℕ, nat_le, ◌==◌, Bool, ◌&&◌, List, [], ◌∷◌, ◌++◌, length, take, if◌then◌else◌}
+use Rattle.ug_event.specs.Bytes.{where_some_bytes}
 
 -- the lines that a newline ends, of which the first begins with `front`
 unfoldable pub ended_from : List ℕ → List ℕ → List (List ℕ)
@@ -11,10 +12,6 @@ ended_from front (b ∷ bytes) = if b == 10 then front ∷ ended_from [] bytes e
 unfoldable pub rest_from : List ℕ → List ℕ → List ℕ
 rest_from front [] = front
 rest_from front (b ∷ bytes) = if b == 10 then rest_from [] bytes else rest_from (front ++ b ∷ []) bytes
-
-abbrev pub where_some_bytes : List ℕ → List (List ℕ)
-where_some_bytes [] = []
-where_some_bytes (b ∷ bytes) = (b ∷ bytes) ∷ []
 
 -- the most bytes of an event file, and the most lines, blank ones included
 unfoldable pub most_bytes : ℕ

@@ -1,18 +1,19 @@
 -- What a run promises, for any number of peers and sessions.
-use Rattle.std.specs.Prelude.{◌≡◌, ℕ, ◌+◌, ◌≤◌, ◌⊎◌, ◌==◌, Bool, true, false, ◌&&◌, not, List, [], ◌∷◌, ◌++◌, length, map, filter, slice_get, Option, Some, None}
+use Rattle.std.specs.Prelude.{◌≡◌, ℕ, ◌+◌, ◌≤◌, ◌⊎◌, ◌==◌, Bool, true, false, ◌&&◌, not, List, [], ◌∷◌, ◌++◌, length, map, filter, take, slice_get, Option, Some, None, if◌then◌else◌}
 use Rattle.std.specs.List.{concat, list_any, AllByRecursion}
 use Rattle.ug_types.specs.declared.key.Key.{Key}
 use Rattle.ug_types.specs.Messages.{Message}
-use Rattle.ug_message.specs.Streams.{IsSentForm, IsUpdate}
-use Rattle.ug_tables.specs.Tables.{tables_after, table_of}
+use Rattle.ug_message.specs.Streams.{IsSentForm, IsUpdate, says_nothing}
+use Rattle.ug_tables.specs.Tables.{Table, tables_after, table_of}
 use Rattle.ug_tables.specs.Climbing.{NeverBack}
 use Rattle.ug_edge.specs.Told.{AppendsPiece, FileText, file_named}
-use Rattle.ug_run.specs.Words.{same_bytes}
+use Rattle.ug_event.specs.Bytes.{same_bytes}
 use Rattle.ug_run.specs.Lines.{lines_read}
-use Rattle.ug_run.specs.World.{PeerState, World}
-use Rattle.ug_run.specs.Worlds.{Line, worlds, last_world, past}
-use Rattle.ug_run.specs.Outbound.{private_table}
-use Rattle.ug_run.specs.Grammar.{line_of}
+use Rattle.ug_rib.specs.World.{PeerState, World}
+use Rattle.ug_event.specs.Events.{Line}
+use Rattle.ug_rib.specs.Worlds.{worlds, last_world, past, in_session}
+use Rattle.ug_rib.specs.Outbound.{private_table}
+use Rattle.ug_event.specs.Grammar.{line_of}
 use Rattle.ug_run.specs.Report.{Loss, line_texts, losses_status, completed_text, report_text}
 use Rattle.ug_run.specs.Reporting.{AppendsFront}
 use Rattle.ug_run.specs.Limits.{IsPastLimits}
@@ -129,6 +130,28 @@ HaveMessages w p wire contents =
 abbrev pub AreNeverBack : List World → ℕ → WireTold → List Content → Type 0
 AreNeverBack ws p wire contents = EachSession (λ n bytes c. NeverBack (past p n ws) (tables_after c.messages)) wire.sessions contents
 
+-- how many of the messages are End-of-RIB
+abbrev pub ends_of_rib : List Message → ℕ
+ends_of_rib [] = 0
+ends_of_rib (m ∷ ms) = (if says_nothing m then 1 else 0) + ends_of_rib ms
+
+-- The table is the private one of a version of the session.
+abbrev pub IsPrivate : ℕ → ℕ → List World → Table → Type 0
+IsPrivate p n ws table = (place : ℕ) × (w : World) × (slice_get (filter (in_session p n) ws) place ≡ Some w) × ((key : Key) → table key ≡ private_table p w key)
+
+-- `end_of_rib`: a session has at most one End-of-RIB, and the table after it is the private one of a version of the
+-- session.
+abbrev pub HaveEndOfRib : List World → ℕ → WireTold → List Content → Type 0
+HaveEndOfRib ws p wire contents =
+    EachSession (λ n bytes c. (ends_of_rib c.messages ≤ 1)
+    × ((i : ℕ) (m : Message) → slice_get c.messages i ≡ Some m → says_nothing m ≡ true → IsPrivate p n ws (table_of (take (i + 1) c.messages)))) wire.sessions contents
+
+-- `opened`: where the run completed, the last session of a peer that is up and not lost has End-of-RIB.
+abbrev pub AreOpened : Status → World → List Loss → ℕ → WireTold → List Content → Type 0
+AreOpened status w lost p wire contents =
+    is_complete status ≡ true → is_up (slice_get w.peers p) ≡ true
+    → EachSession (λ n bytes c. n ≡ times_up (slice_get w.peers p) → is_lost (name_of (slice_get w.peers p)) n lost ≡ false → ends_of_rib c.messages ≡ 1) wire.sessions contents
+
 -- `end`: where the run completed, the last session of a peer that is up and not lost has no rest, and its table is
 -- the private one of the last world.
 abbrev pub HaveEnd : Status → World → List Loss → ℕ → WireTold → List Content → Type 0
@@ -202,6 +225,8 @@ pub record IsPromised (configured : World) (opening : List Line) (file : Option 
   pub sessions : HaveSessions status (last_world configured (opening ++ lines_counted status read rest)) wires
   pub messages : EachWire (HaveMessages configured) wires contents
   pub never_back : EachWire (AreNeverBack (worlds configured (opening ++ lines_counted status read rest))) wires contents
+  pub end_of_rib : EachWire (HaveEndOfRib (worlds configured (opening ++ lines_counted status read rest))) wires contents
+  pub opened : EachWire (AreOpened status (last_world configured (opening ++ lines_counted status read rest)) lost) wires contents
   pub end : EachWire (HaveEnd status (last_world configured (opening ++ lines_counted status read rest)) lost) wires contents
   pub losses : EachWire (HaveLosses status configured lost) wires contents
   pub report : HasReport status (last_world configured opening) (lines_counted status read rest) lost before held failed

@@ -2,17 +2,19 @@
 use Rattle.std.specs.Prelude.{ℕ, ◌+◌, ◌==◌, List, [], ◌∷◌, ◌++◌, codes, if◌then◌else◌}
 use Rattle.std.specs.List.{concat, flat_map}
 use Rattle.std.specs.Fmt.{decimal}
-use Rattle.ug_run.specs.World.{World}
-use Rattle.ug_run.specs.Worlds.{Line, Outcome, Passes, Accepts, Refuses, outcome, world_after}
+use Rattle.ug_rib.specs.World.{World}
+use Rattle.ug_event.specs.Events.{Line}
+use Rattle.ug_rib.specs.Worlds.{Outcome, Passes, Accepts, Refuses, outcome, world_after}
 
 -- the name of a refusal
 abbrev pub refusal_name : ℕ → List ℕ
 refusal_name number =
     if number == 1 then codes "unknown-peer"
     else (if number == 2 then codes "already-up"
+    else (if number == 4 then codes "no-such-prefix"
     else (if number == 7 then codes "same-path-id"
     else (if number == 8 then codes "too-many-paths"
-    else (if number == 20 then codes "line-too-long" else codes "bad-verb"))))
+    else (if number == 20 then codes "line-too-long" else codes "bad-verb")))))
 
 -- `line N refused CODE NAME`
 unfoldable pub refusal_text : ℕ → ℕ → List ℕ

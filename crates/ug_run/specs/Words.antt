@@ -1,14 +1,7 @@
 -- Which words are a command.
-use Rattle.std.specs.Prelude.{ℕ, nat_lt, ◌==◌, Bool, false, ◌&&◌, List, [], ◌∷◌, length, Option, Some, None, is_some, option_and_then, codes, if◌then◌else◌}
+use Rattle.std.specs.Prelude.{ℕ, nat_lt, Bool, ◌&&◌, List, [], ◌∷◌, length, Option, Some, None, is_some, option_and_then, codes, if◌then◌else◌}
 use Rattle.std.specs.Option.{option_map}
-use Rattle.std.specs.Cmp.Lexicographic.{pointwise}
-
-abbrev pub same_bytes : List ℕ → List ℕ → Bool
-same_bytes = pointwise ◌==◌
-
-abbrev pub begins_with : ℕ → List ℕ → Bool
-begins_with b [] = false
-begins_with b (c ∷ bytes) = c == b
+use Rattle.ug_event.specs.Bytes.{same_bytes, begins_with}
 
 -- a word of two bytes or more that begins with `-`
 abbrev pub is_option : List ℕ → Bool

@@ -1,24 +1,18 @@
-//! What the speaker of `one` says of its own routes: three sets of attributes, one for each origin, and End-of-RIB.
+//! What the speaker of `one` says of its own routes: three sets of attributes, one for each origin, withdrawals, and
+//! End-of-RIB.
 
 ghost use Rattle.std.specs.Prelude.{◌≡◌, ◌≤◌, false, Some, IfOk};
 ghost use Rattle.std.specs.Coded.{Coded-set};
 ghost use Rattle.ug_message.specs.Texts.{written};
-ghost use Rattle.ug_run.specs.One.{announced};
-ghost use Rattle.ug_run.specs.Course.{announces, end_of_rib};
-ghost use Rattle.ug_run.specs.Origins.{origin_number};
+ghost use Rattle.ug_rib.specs.One.{announced};
+ghost use Rattle.ug_run.specs.Course.{announces, withdraws, end_of_rib};
+ghost use Rattle.ug_event.specs.Origins.{origin_number};
 
 use std::alloc::Global;
+use ug_event::Origin;
 use ug_message::written_within_limits;
 use ug_types::{Addr, AttrParts, Attrs, ByteList, Key, NoMemory, Prefix, Segment, Sequence};
-use ug_update::{write_eor, write_update};
-
-/// ORIGIN, where a route came from.
-#[derive(Clone, Copy, PartialEq, Eq)]
-pub enum Origin {
-    Igp,
-    Egp,
-    Incomplete,
-}
+use ug_update::{write_eor, write_update, write_withdraw};
 
 /// The attributes with which the peer is told of routes, by their origin.
 #[derive(Drop)]
@@ -73,6 +67,17 @@ impl Announcements {
         written_within_limits();
         Ok(written.bytes)
     }
+}
+
+/// The UPDATE that withdraws a prefix.
+pub fn withdrawal(alloc: Global, prefix: Prefix) -> Result<ByteList, NoMemory>
+    ensures { IfOk result (λ bytes. written false false (withdraws prefix) ≡ Some bytes.items) }
+{
+    let _len = prefix.len;
+    let key = Key { prefix, id: 0 };
+    let bytes = write_withdraw(alloc, &[key])?;
+    written_within_limits();
+    Ok(bytes)
 }
 
 /// End-of-RIB.

@@ -3,19 +3,20 @@
 ghost use Rattle.std.specs.Prelude.{◌≡◌, ℕ, ◌+◌, ◌<◌, ◌≤◌, ◌++◌, [], ◌∷◌, List, map, Option, length, OnOk, OnErr, IfErr, IsErrOf, IsTrue, ◌↔◌};
 ghost use Rattle.std.specs.Vec.{vec_len};
 ghost use Rattle.ug_edge.specs.Told.{Rose};
-ghost use Rattle.ug_run.specs.Worlds.{Line as LineSaid};
-ghost use Rattle.ug_run.specs.Lines.{rest_from, where_some_bytes};
-ghost use Rattle.ug_run.specs.Grammar.{line_of};
+ghost use Rattle.ug_event.specs.Events.{Line as LineSaid};
+ghost use Rattle.ug_run.specs.Lines.{rest_from};
+ghost use Rattle.ug_event.specs.Bytes.{where_some_bytes};
+ghost use Rattle.ug_event.specs.Grammar.{line_of};
 ghost use Rattle.ug_run.specs.OriginMap.{origins_in};
 ghost use Rattle.ug_run.specs.Intake.{IsRun, IsReading, IsStopped, IsStoppedWithin, HasReadAll, HasStopped, ended_lines, carried};
 
 use crate::reader::{MOST_LINES, Run, Tally};
 use crate::speaker::Speaker;
 use crate::stop::Stop;
-use crate::text::cut_at;
 use std::alloc::Global;
 use std::mem;
 use ug_edge::{Failed, Sink, Source, Wire};
+use ug_event::cut_at;
 use ug_types::{NoMemory, Prefix};
 
 /// The most bytes of an event file.

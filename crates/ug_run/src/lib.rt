@@ -3,7 +3,6 @@
 
 mod announce;
 mod intake;
-mod line;
 mod reader;
 mod report;
 mod serving;
@@ -15,7 +14,6 @@ mod status;
 mod stop;
 #[cfg(test)]
 mod tests;
-mod text;
 #[cfg(test)]
 mod trickle;
 mod words;

@@ -33,6 +33,7 @@ fn refusal_name(number: u8) -> &'static str
     match number {
         1 => "unknown-peer",
         2 => "already-up",
+        4 => "no-such-prefix",
         7 => "same-path-id",
         8 => "too-many-paths",
         20 => "line-too-long",

@@ -4,7 +4,7 @@ ghost use Rattle.std.specs.Prelude.{◌≡◌, ◌+◌, ◌<◌, ◌≤◌, ◌+
 ghost use Rattle.std.specs.String.{string_bytes};
 ghost use Rattle.ug_edge.specs.Told.{Rose, HasPicked, IsEnded, IsFresh, AppendsPiece};
 ghost use Rattle.ug_run.specs.Words.{OneCommand, command_of, is_command};
-ghost use Rattle.ug_run.specs.One.{configured_world, up_p1};
+ghost use Rattle.ug_rib.specs.One.{configured_world, up_p1};
 ghost use Rattle.ug_run.specs.Statuses.{status_text, is_complete};
 ghost use Rattle.ug_run.specs.Promise.{AppendsThenStatus, IsPromised, file_told};
 ghost use Rattle.ug_run.specs.Reporting.{AppendsFront};

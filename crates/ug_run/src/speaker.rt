@@ -1,20 +1,22 @@
 //! The speaker of `one`: its one peer's session, and the routes that it has.
 
-ghost use Rattle.std.specs.Prelude.{◌≡◌, ◌++◌, [], ◌∷◌, List, OnOk, OnErr, IfOk, Some, false};
+ghost use Rattle.std.specs.Prelude.{◌≡◌, ◌++◌, [], ◌∷◌, List, OnOk, OnErr, IfOk, Some, is_some, true, false};
 ghost use Rattle.ug_message.specs.Texts.{written};
 ghost use Rattle.ug_edge.specs.Told.{IsFresh};
-ghost use Rattle.ug_run.specs.Worlds.{Line, Happened};
-ghost use Rattle.ug_run.specs.Sessions.{HasSent};
-ghost use Rattle.ug_run.specs.Views.{paths_seen};
-ghost use Rattle.ug_run.specs.Course.{IsCourse, end_of_rib as end_of_rib_message};
+ghost use Rattle.ug_types.specs.Messages.{Message};
+ghost use Rattle.ug_event.specs.Events.{Line, Happened, Withdraw};
+ghost use Rattle.ug_event.specs.Origins.{origin_number};
+ghost use Rattle.ug_run.specs.Sessions.{HasSent, sent_messages};
+ghost use Rattle.ug_event.specs.Views.{paths_seen};
+ghost use Rattle.ug_run.specs.Course.{IsCourse, withdraws, told_once, end_of_rib as end_of_rib_message};
 ghost use Rattle.ug_run.specs.OriginMap.{origins_in};
 
-use crate::announce::{Announcements, Origin, end_of_rib};
-use crate::line::LocalPaths;
+use crate::announce::{Announcements, end_of_rib, withdrawal};
 use crate::session::Session;
 use std::alloc::Global;
 use std::collections::BTreeMap;
 use ug_edge::Wire;
+use ug_event::{LocalPaths, Origin};
 use ug_types::{ByteList, NoMemory, Prefix};
 
 /// What the speaker says, made before its session begins.
@@ -72,6 +74,9 @@ impl<W: Wire> Speaker<W> {
         ensures ok { OnOk result ((lines : List Line) →
             IsCourse lines (W.sessions self.old.session.wire) self.old.session.lost (origins_in ⟦<Prefix as Ord>⟧.cmp self.old.origins) →
             IsCourse (lines ++ Happened (paths_seen paths.now) ∷ []) (W.sessions self.new.session.wire) self.new.session.lost (origins_in ⟦<Prefix as Ord>⟧.cmp self.new.origins)) }
+        ensures told { OnOk result ((messages : List Message) → HasSent (W.sessions self.old.session.wire) self.old.session.lost messages →
+            HasSent (W.sessions self.new.session.wire) self.new.session.lost
+            (told_once self.new.session.lost messages (origins_in ⟦<Prefix as Ord>⟧.cmp self.old.origins paths.now.prefix) paths.now.prefix (origin_number paths.now.origin))) }
         ensures session { OnErr result (self.new.session ≡ self.old.session) }
     {
         let before = self.origins.insert(paths.prefix, paths.origin)?;
@@ -81,6 +86,28 @@ impl<W: Wire> Speaker<W> {
         let message = self
             .announcements
             .message(self.alloc, paths.prefix, paths.origin)?;
+        self.session.send(message.as_slice());
+        Ok(())
+    }
+    /// Whether the prefix has paths.
+    pub fn has_paths(&self, prefix: &Prefix) -> bool
+        ensures { result ≡ is_some (origins_in ⟦<Prefix as Ord>⟧.cmp self.now.origins prefix.now) }
+    {
+        self.origins.contains_key(prefix)
+    }
+
+    /// The prefix has no path any more. The peer is told, unless its session is lost.
+    pub fn withdraw(&mut self, prefix: Prefix) -> Result<(), NoMemory>
+        requires { is_some (origins_in ⟦<Prefix as Ord>⟧.cmp self.old.origins prefix) ≡ true }
+        ensures ok { OnOk result ((lines : List Line) →
+            IsCourse lines (W.sessions self.old.session.wire) self.old.session.lost (origins_in ⟦<Prefix as Ord>⟧.cmp self.old.origins) →
+            IsCourse (lines ++ Happened (Withdraw prefix) ∷ []) (W.sessions self.new.session.wire) self.new.session.lost (origins_in ⟦<Prefix as Ord>⟧.cmp self.new.origins)) }
+        ensures told { OnOk result ((messages : List Message) → HasSent (W.sessions self.old.session.wire) self.old.session.lost messages →
+            HasSent (W.sessions self.new.session.wire) self.new.session.lost (sent_messages self.new.session.lost messages (withdraws prefix))) }
+        ensures session { OnErr result (self.new.session ≡ self.old.session) }
+    {
+        let message = withdrawal(self.alloc, prefix)?;
+        self.origins.remove(&prefix);
         self.session.send(message.as_slice());
         Ok(())
     }

@@ -3,7 +3,6 @@
 ghost use Rattle.std.specs.Prelude.{◌≡◌, ◌<◌};
 
 use super::*;
-use crate::line::{Line, LocalPaths, read_line};
 use crate::slow::expected_stream;
 use crate::trickle::Trickle;
 use std::alloc::Global;
@@ -14,6 +13,7 @@ use std::sync::ledger::{Blank, Ledger};
 use std::test::Fail;
 use std::thread::Threads;
 use ug_edge::{CallKind, Cut, FailAt, File, MemSink, MemSite, MemWire};
+use ug_event::{Event, Line, read_line};
 use ug_types::{ByteList, NoMemory, NumberList, Sequence, Steps};
 
 const WORDS: &[&str] = &["one", "e", "d"];
@@ -169,15 +169,34 @@ fn ended(
     assert!(rt; has_sent(&outcome.done.wires, session), "at {place}");
 }
 
-/// End-of-RIB, and for each origin and prefix the message that announces it.
-fn stream_of(alloc: Global, told: &[(u8, &[u8])]) -> Result<Vec<u8>, NoMemory> {
+/// What one message of a session says, behind End-of-RIB: a prefix is announced with an origin, or withdrawn.
+#[derive(Clone, Copy)]
+enum Says<'a> {
+    Announced(u8, &'a [u8]),
+    Withdrawn(&'a [u8]),
+}
+
+/// End-of-RIB, and these messages.
+fn stream_of(alloc: Global, told: &[Says<'_>]) -> Result<Vec<u8>, NoMemory> {
     let mut bytes = Vec::new(alloc);
     bytes.extend_from_slice(&[255; 16])?;
     bytes.extend_from_slice(&[0x00, 0x17, 2, 0, 0, 0, 0])?;
-    for (origin, prefix) in told {
-        add_announcement(&mut bytes, *origin, prefix)?;
+    for says in told {
+        match says {
+            Says::Announced(origin, prefix) => add_announcement(&mut bytes, *origin, prefix)?,
+            Says::Withdrawn(prefix) => add_withdrawal(&mut bytes, prefix)?,
+        }
     }
     Ok(bytes)
+}
+
+fn add_withdrawal(bytes: &mut Vec<u8>, prefix: &[u8]) -> Result<(), NoMemory> {
+    let len = prefix.len().min(5) as u8;
+    bytes.extend_from_slice(&[255; 16])?;
+    bytes.extend_from_slice(&[0, 23 + len, 2, 0, len])?;
+    bytes.extend_from_slice(prefix)?;
+    bytes.extend_from_slice(&[0, 0])?;
+    Ok(())
 }
 
 fn add_announcement(bytes: &mut Vec<u8>, origin: u8, prefix: &[u8]) -> Result<(), NoMemory> {
@@ -190,23 +209,43 @@ fn add_announcement(bytes: &mut Vec<u8>, origin: u8, prefix: &[u8]) -> Result<()
     Ok(())
 }
 
-/// One announcement or more: an origin and a prefix each.
-type Told = &'static [(u8, &'static [u8])];
+type Told = &'static [Says<'static>];
 
 const NOTHING: Told = &[];
 
-const TEN: Told = &[(0, &[8, 10])];
+const TEN: Told = &[Says::Announced(0, &[8, 10])];
 
-const TEN_THREE_TIMES: Told = &[(1, &[8, 10]), (0, &[8, 10]), (1, &[8, 10])];
+const TEN_THREE_TIMES: Told = &[
+    Says::Announced(1, &[8, 10]),
+    Says::Announced(0, &[8, 10]),
+    Says::Announced(1, &[8, 10]),
+];
 
-const TWO: Told = &[(2, &[25, 192, 0, 2, 128]), (0, &[8, 10])];
+const TEN_AND_GONE: Told = &[Says::Announced(0, &[8, 10]), Says::Withdrawn(&[8, 10])];
+
+const TEN_AND_BACK: Told = &[
+    Says::Announced(0, &[8, 10]),
+    Says::Withdrawn(&[8, 10]),
+    Says::Announced(0, &[8, 10]),
+];
+
+const TWO: Told = &[
+    Says::Announced(2, &[25, 192, 0, 2, 128]),
+    Says::Announced(0, &[8, 10]),
+];
+
+const TWO_AND_ONE_GONE: Told = &[
+    Says::Announced(2, &[25, 192, 0, 2, 128]),
+    Says::Announced(0, &[8, 10]),
+    Says::Withdrawn(&[25, 192, 0, 2, 128]),
+];
 
 const LINE: &str = "paths 10.0.0.0/8 id=1 from=local nh=0.0.0.0 origin=igp as=-\n";
 
 const NO_VERB: &str = "line 1 refused 21 bad-verb\naccepted 0 refused 1\n";
 
 /// Events, the report and what the session announces.
-const STREAMS: [(&str, &str, Told); 17] = [
+const STREAMS: [(&str, &str, Told); 23] = [
     ("", "accepted 0 refused 0\n", NOTHING),
     (LINE, "accepted 1 refused 0\n", TEN),
     (
@@ -257,17 +296,47 @@ const STREAMS: [(&str, &str, Told); 17] = [
     (
         "paths 1.2.3.4/32 id=4294967295 from=local nh=0.0.0.0 origin=igp as=-\n",
         "accepted 1 refused 0\n",
-        &[(0, &[32, 1, 2, 3, 4])],
+        &[Says::Announced(0, &[32, 1, 2, 3, 4])],
     ),
     (
         "paths 01.2.3.4/32 id=1 from=local nh=0.0.0.0 origin=igp as=-\n",
         "accepted 1 refused 0\n",
-        &[(0, &[32, 1, 2, 3, 4])],
+        &[Says::Announced(0, &[32, 1, 2, 3, 4])],
     ),
     (
         "paths 0.0.0.0/0 id=1 from=local nh=0.0.0.0 origin=igp as=-\n",
         "accepted 1 refused 0\n",
-        &[(0, &[0])],
+        &[Says::Announced(0, &[0])],
+    ),
+    (
+        "paths 10.0.0.0/8 id=1 from=local nh=0.0.0.0 origin=igp as=-\nwithdraw 10.0.0.0/8\n",
+        "accepted 2 refused 0\n",
+        TEN_AND_GONE,
+    ),
+    (
+        "paths 10.0.0.0/8 id=1 from=local nh=0.0.0.0 origin=igp as=-\n  withdraw   10.1.2.3/8  \r\nwithdraw 10.0.0.0/8",
+        "line 3 refused 4 no-such-prefix\naccepted 2 refused 1\n",
+        TEN_AND_GONE,
+    ),
+    (
+        "withdraw 10.0.0.0/8\n",
+        "line 1 refused 4 no-such-prefix\naccepted 0 refused 1\n",
+        NOTHING,
+    ),
+    (
+        "paths 10.0.0.0/8 id=1 from=local nh=0.0.0.0 origin=igp as=-\nwithdraw 10.0.0.0/9\nwithdraw 0.0.0.0/0\nwithdraw 10.0.0.0/7\n",
+        "line 2 refused 4 no-such-prefix\nline 3 refused 4 no-such-prefix\nline 4 refused 4 no-such-prefix\naccepted 1 refused 3\n",
+        TEN,
+    ),
+    (
+        "paths 10.0.0.0/8 id=1 from=local nh=0.0.0.0 origin=igp as=-\nwithdraw 10.0.0.0/8\npaths 10.0.0.0/8 id=1 from=local nh=0.0.0.0 origin=igp as=-\n",
+        "accepted 3 refused 0\n",
+        TEN_AND_BACK,
+    ),
+    (
+        "paths 192.0.2.128/25 id=1 from=local nh=0.0.0.0 origin=incomplete as=-\npaths 10.0.0.0/8 id=1 from=local nh=0.0.0.0 origin=igp as=-\nwithdraw 192.0.2.255/25\n",
+        "accepted 3 refused 0\n",
+        TWO_AND_ONE_GONE,
     ),
     ("bogus\n", NO_VERB, NOTHING),
     (
@@ -312,8 +381,14 @@ fn small_pieces(rt: HostRuntime) -> Result<(), Fail> {
 }
 
 /// Lines that are no event.
-const REFUSED: [&str; 22] = [
-    "withdraw 10.0.0.0/8",
+const REFUSED: [&str; 28] = [
+    "withdraw",
+    "withdraw 10.0.0.0",
+    "withdraw 10.0.0.0/33",
+    "withdraw 10.0.0.0/8 x",
+    "withdrawn 10.0.0.0/8",
+    "WITHDRAW 10.0.0.0/8",
+    "10.0.0.0/8 withdraw",
     "paths",
     "paths 10.0.0.0/8 id=0 from=local nh=0.0.0.0 origin=igp as=-",
     "paths 10.0.0.0/8 id=4294967296 from=local nh=0.0.0.0 origin=igp as=-",
@@ -548,6 +623,9 @@ fn cut<R: Threads + Wait + Sync>(
     run(rt, alloc, &given)
 }
 
+const IGP_GONE: &str =
+    "paths 10.0.0.0/8 id=1 from=local nh=0.0.0.0 origin=igp as=-\nwithdraw 10.0.0.0/8\n";
+
 /// A session that is lost keeps the bytes that it had, and the run goes on.
 #[test]
 fn cuts(rt: HostRuntime) -> Result<(), Fail> {
@@ -566,6 +644,19 @@ fn cuts(rt: HostRuntime) -> Result<(), Fail> {
     Ok(())
 }
 
+/// The same where the last message is a withdrawal.
+#[test]
+fn cut_withdrawals(rt: HostRuntime) -> Result<(), Fail> {
+    let alloc = rt.alloc();
+    let session = stream_of(alloc, TEN_AND_GONE)?;
+    assert_eq!(rt; session.len(), 93);
+    for (total, _) in session.iter().enumerate() {
+        let outcome = cut(&rt, alloc, IGP_GONE, total)?;
+        ended(&rt, total, &outcome, 8, LOST_OF_TWO, &session[..total]);
+    }
+    Ok(())
+}
+
 #[test]
 fn begins(rt: HostRuntime) -> Result<(), Fail> {
     let alloc = rt.alloc();
@@ -580,7 +671,7 @@ fn begins(rt: HostRuntime) -> Result<(), Fail> {
 }
 
 /// Lines that each change what is told, or nothing.
-const LINES: [&str; 9] = [
+const LINES: [&str; 14] = [
     "paths 10.0.0.0/8 id=1 from=local nh=0.0.0.0 origin=igp as=-\n",
     "paths 192.0.2.128/25 id=1 from=local nh=0.0.0.0 origin=incomplete as=-\n",
     "paths 10.0.0.0/8 id=2 from=local nh=198.51.100.7 origin=igp as=-\n",
@@ -590,17 +681,22 @@ const LINES: [&str; 9] = [
     "paths 192.0.2.255/25 id=7 from=local nh=0.0.0.0 origin=igp as=-\n",
     "paths 10.0.0.0/8 id=1 from=local nh=0.0.0.0 origin=igp as=-\n",
     "paths 0.0.0.0/0 id=1 from=local nh=0.0.0.0 origin=incomplete as=-\n",
+    "withdraw 10.0.0.0/8\n",
+    "withdraw 10.0.0.0/8\n",
+    "withdraw 192.0.2.128/25\n",
+    "paths 10.0.0.0/8 id=1 from=local nh=0.0.0.0 origin=igp as=-\n",
+    "withdraw 0.0.0.0/0\n",
 ];
 
-/// The paths that lines give.
-fn paths_of(alloc: Global, lines: &[&str]) -> Result<Vec<LocalPaths>, Fail> {
-    let mut list = Vec::new(alloc);
+/// The events that lines say.
+fn events_of(alloc: Global, lines: &[&str]) -> Result<Vec<Event>, Fail> {
+    let mut events = Vec::new(alloc);
     for line in lines {
-        if let Line::Paths(paths) = read_line(line.trim_end().as_bytes()) {
-            list.push(paths)?;
+        if let Line::Happened(event) = read_line(line.trim_end().as_bytes()) {
+            events.push(event)?;
         }
     }
-    Ok(list)
+    Ok(events)
 }
 
 fn text_of(alloc: Global, lines: &[&str]) -> Result<Vec<u8>, Fail> {
@@ -617,11 +713,11 @@ fn as_the_slow_program(rt: HostRuntime) -> Result<(), Fail> {
     let alloc = rt.alloc();
     for i in 0..LINES.len() + 1 {
         let lines = &LINES[..i];
-        let paths = paths_of(alloc, lines)?;
-        assert_eq!(rt; paths.len(), i);
+        let events = events_of(alloc, lines)?;
+        assert_eq!(rt; events.len(), i);
         let text = text_of(alloc, lines)?;
         let outcome = run(&rt, alloc, &plain(text.as_slice()))?;
-        let session = expected_stream(alloc, paths.as_slice())?;
+        let session = expected_stream(alloc, events.as_slice())?;
         assert_eq!(rt; outcome.done.status.number(), 0);
         assert!(rt;
             has_sent(&outcome.done.wires, session.as_slice()),

@@ -2,7 +2,8 @@
 
 ghost use Rattle.std.specs.Prelude.{◌≡◌, [], ◌∷◌, map, option_and_then};
 ghost use Rattle.std.specs.String.{string_bytes};
-ghost use Rattle.ug_run.specs.Words.{same_bytes, is_option, command_of, events_and_dir, positional};
+ghost use Rattle.ug_event.specs.Bytes.{same_bytes};
+ghost use Rattle.ug_run.specs.Words.{is_option, command_of, events_and_dir, positional};
 ghost use Rattle.ug_run.specs.WordViews.{command_seen};
 
 /// `one EVENTS DIR`: the name of the events' file, and that of the folder for the wires.

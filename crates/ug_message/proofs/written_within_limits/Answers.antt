@@ -1,4 +1,4 @@
-use Rattle.std.proofs.Common.{◌≡◌, ℕ, ◌≤◌, Bool, true, false, List, [], ◌∷◌, length, Option, Some, None, arith}
+use Rattle.std.proofs.Common.{◌≡◌, ℕ, ◌≤◌, Bool, true, false, List, [], ◌∷◌, length, Option, Some, None, sym, ◌∙◌, arith}
 use Rattle.ug_types.specs.Messages.{Message, Updates, Begins, Ends, Ignored}
 use Rattle.ug_types.specs.declared.key.Key.{Key}
 use Rattle.ug_types.specs.Attributes.{Attributes}
@@ -45,3 +45,11 @@ returns-clause-extended c = extended_message
 
 pub returns-clause-plain : goal.returns-clause-plain
 returns-clause-plain c = plain_message
+
+under_extended : (add_path extended : Bool) (m : Message) (text : List ℕ) → written add_path extended m ≡ Some text → written add_path true m ≡ Some text
+under_extended add_path true m text e = e
+under_extended add_path false m text e = extended_message add_path m text e
+
+pub returns-clause-one_text : goal.returns-clause-one_text
+returns-clause-one_text c = λ add_path one other m text again e f.
+    let same : Some text ≡ Some again = sym (under_extended add_path one m text e) ∙ under_extended add_path other m again f in cc

@@ -1,57 +1,57 @@
-//! What p1 is to be sent over the lines, message by message.
+//! What p1 is to be sent over events, message by message.
 
 ghost use Rattle.std.specs.Prelude.{◌≤◌, length};
 ghost use Rattle.ug_types.specs.Attributes.{attributes_of};
 ghost use Rattle.ug_types.specs.Spelling.{attributes};
 
-use crate::line::LocalPaths;
-use crate::slow::table::told;
 use std::alloc::Global;
+use ug_event::Event;
+use ug_rib::{prefix_of, told};
 use ug_types::{AttrParts, Attrs, ByteList, Key, NoMemory, Prefix};
 use ug_update::{write_eor, write_update, write_withdraw};
 
-/// End-of-RIB, and then for each line a message for each prefix of which the table changes at it.
-pub fn expected_stream(alloc: Global, lines: &[LocalPaths]) -> Result<ByteList, NoMemory> {
+/// End-of-RIB, and then for each event a message for each prefix of which the table changes at it.
+pub fn expected_stream(alloc: Global, events: &[Event]) -> Result<ByteList, NoMemory> {
     let mut bytes = write_eor(alloc)?;
-    for i in 0..lines.len() {
-        add_changes(alloc, &mut bytes, lines, &lines[..i], &lines[..i + 1])?;
+    for i in 0..events.len() {
+        add_changes(alloc, &mut bytes, events, &events[..i], &events[..i + 1])?;
     }
     Ok(bytes)
 }
 
-/// Adds a message for each prefix of all the lines of which the table differs after these lines and after those.
+/// Adds a message for each prefix of all the events of which the table differs after these events and after those.
 fn add_changes(
     alloc: Global,
     bytes: &mut ByteList,
-    lines: &[LocalPaths],
-    before: &[LocalPaths],
-    after: &[LocalPaths],
+    events: &[Event],
+    before: &[Event],
+    after: &[Event],
 ) -> Result<(), NoMemory> {
-    for (i, line) in lines.iter().enumerate() {
-        if !speak_of(&lines[..i], &line.prefix) {
-            add_change(alloc, bytes, line.prefix, before, after)?;
+    for (i, event) in events.iter().enumerate() {
+        if !speak_of(&events[..i], &prefix_of(event)) {
+            add_change(alloc, bytes, prefix_of(event), before, after)?;
         }
     }
     Ok(())
 }
 
-/// Whether one of the lines speaks of a prefix.
-fn speak_of(lines: &[LocalPaths], prefix: &Prefix) -> bool {
-    for line in lines {
-        if line.prefix == *prefix {
+/// Whether one of the events speaks of a prefix.
+fn speak_of(events: &[Event], prefix: &Prefix) -> bool {
+    for event in events {
+        if prefix_of(event) == *prefix {
             return true;
         }
     }
     false
 }
 
-/// Adds the message of a prefix, where the table differs after these lines and after those.
+/// Adds the message of a prefix, where the table differs after these events and after those.
 fn add_change(
     alloc: Global,
     bytes: &mut ByteList,
     prefix: Prefix,
-    before: &[LocalPaths],
-    after: &[LocalPaths],
+    before: &[Event],
+    after: &[Event],
 ) -> Result<(), NoMemory> {
     let key = Key { prefix, id: 0 };
     let old = told(alloc, before, &key)?;

@@ -3,7 +3,7 @@ use Rattle.ug_types.specs.Ip.{IpPrefix, width_of}
 use Rattle.ug_types.specs.Messages.{Updates}
 use Rattle.ug_message.specs.Texts.{written}
 use Rattle.ug_update.specs.Updates.{announcing}
-use Rattle.ug_run.specs.Origins.{origin_number}
+use Rattle.ug_event.specs.Origins.{origin_number}
 use Rattle.ug_run.proofs.Announcing.{short_announcement}
 use Rattle.ug_run.proofs.announce.Announcements.message.Goals as goal
 

@@ -3,7 +3,7 @@ use Rattle.std.proofs.lemmas.Bool.{eqb-true}
 use Rattle.std.proofs.lemmas.List.{append-nil, nil_from_length}
 use Rattle.ug_run.specs.declared.stop.Stop.{Stop}
 use Rattle.ug_run.specs.Lines.{most_lines}
-use Rattle.ug_run.specs.Grammar.{cut_at}
+use Rattle.ug_event.specs.Grammar.{cut_at}
 use Rattle.ug_run.specs.Intake.{carried}
 use Rattle.ug_run.proofs.Cutting.{cut_line, carried-append}
 use Rattle.ug_run.proofs.Feeding.{within_init, within_next, within_stopped, within_full, within_starved, within_done, some_ended, some_begun}

@@ -1,7 +1,7 @@
 use Rattle.std.proofs.Common.{ℕ, ◌≤◌, List, Option, length}
 use Rattle.ug_types.specs.contracts.prefix.PrefixOrd.TheImpl as prefix_ord
 use Rattle.ug_run.specs.OriginMap.{origins_in}
-use Rattle.ug_run.specs.Worlds.{Line}
+use Rattle.ug_event.specs.Events.{Line}
 use Rattle.ug_run.specs.Intake.{IsReading}
 use Rattle.ug_run.proofs.Feeding.{IsWithin}
 use Rattle.ug_run.proofs.intake.Intake.feed.Given as goal

@@ -2,9 +2,9 @@ use Rattle.std.proofs.Common.{◌≡◌, ℕ, ◌<◌, List, [], ◌∷◌, ◌+
 use Rattle.std.proofs.lemmas.Bool.{eqb-true}
 use Rattle.std.proofs.lemmas.List.{append-nil, nil_from_length}
 use Rattle.std.specs.Global.{Vec}
-use Rattle.ug_run.specs.Lines.{where_some_bytes}
-use Rattle.ug_run.specs.Worlds.{Line}
-use Rattle.ug_run.specs.Grammar.{line_of}
+use Rattle.ug_event.specs.Bytes.{where_some_bytes}
+use Rattle.ug_event.specs.Events.{Line}
+use Rattle.ug_event.specs.Grammar.{line_of}
 use Rattle.ug_run.proofs.Cutting.{none_carried, some_carried, line_of-carried}
 use Rattle.ug_run.proofs.intake.Intake.finish.Goals as goal
 

@@ -2,7 +2,7 @@ use Rattle.std.proofs.Common.{◌≡◌, ℕ, List, [], ◌++◌, vec_len, sym, 
 use Rattle.std.proofs.lemmas.Bool.{eqb-true}
 use Rattle.std.proofs.lemmas.List.{nil_from_length}
 use Rattle.std.specs.Global.{Vec}
-use Rattle.ug_run.specs.Grammar.{line_of}
+use Rattle.ug_event.specs.Grammar.{line_of}
 use Rattle.ug_run.specs.Intake.{carried}
 use Rattle.ug_run.proofs.Cutting.{nothing_carried, carried-append, line_of-carried}
 use Rattle.ug_run.proofs.intake.Intake.take_ended.Goals as goal

@@ -1,0 +1,35 @@
+//! Events, and what a line of a file says.
+
+use ug_types::Prefix;
+
+/// ORIGIN, where a route came from.
+#[derive(Clone, Copy, PartialEq, Eq)]
+pub enum Origin {
+    Igp,
+    Egp,
+    Incomplete,
+}
+
+/// The paths of a prefix: one, of the speaker's own, with an empty AS_PATH.
+#[derive(Clone, Copy)]
+pub struct LocalPaths {
+    pub prefix: Prefix,
+    pub id: u32,
+    pub next_hop: u32,
+    pub origin: Origin,
+}
+
+/// What happened: a prefix has these paths, in place of those before, or it has no path any more.
+#[derive(Clone, Copy)]
+pub enum Event {
+    Paths(LocalPaths),
+    Withdraw { prefix: Prefix },
+}
+
+/// What a line says: nothing, an event, or why it is refused.
+#[derive(Clone, Copy)]
+pub enum Line {
+    Blank,
+    Happened(Event),
+    Refused { number: u8 },
+}
