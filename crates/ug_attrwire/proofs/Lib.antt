@@ -1,3 +1,5 @@
 pub mod Heads
 pub mod Whole
 pub mod ShortValues
+pub mod Walks
+pub mod Faults

@@ -10,14 +10,14 @@ use crate::room::put;
 use crate::values::{four_bytes, put_numbers, put_segments, segments_size};
 use ug_types::{AttrParts, ByteList};
 
-const WELL_KNOWN: u8 = 64;
+pub const WELL_KNOWN: u8 = 64;
 
-const OPTIONAL: u8 = 128;
+pub const OPTIONAL: u8 = 128;
 
-const OPTIONAL_TRANSITIVE: u8 = 192;
+pub const OPTIONAL_TRANSITIVE: u8 = 192;
 
 // Where the path comes from, one byte.
-const ORIGIN: u8 = 1;
+pub const ORIGIN: u8 = 1;
 
 pub const ORIGIN_SIZE: usize = 4;
 
@@ -30,7 +30,7 @@ pub fn put_origin(out: &mut ByteList, parts: &AttrParts)
 }
 
 // The ASes on the path: a list of segments, which may be empty.
-const AS_PATH: u8 = 2;
+pub const AS_PATH: u8 = 2;
 
 #[tactic(auto, using(crate::proofs::Heads::size_steps))]
 pub fn as_path_size(parts: &AttrParts) -> usize
@@ -55,7 +55,7 @@ pub fn put_as_path(out: &mut ByteList, parts: &AttrParts)
 }
 
 // The address of the next router.
-const NEXT_HOP: u8 = 3;
+pub const NEXT_HOP: u8 = 3;
 
 pub const NEXT_HOP_SIZE: usize = 7;
 
@@ -68,7 +68,7 @@ pub fn put_next_hop(out: &mut ByteList, parts: &AttrParts)
 }
 
 // A number by which a neighbour tells its links apart.
-const MULTI_EXIT_DISC: u8 = 4;
+pub const MULTI_EXIT_DISC: u8 = 4;
 
 #[tactic(auto, using(crate::proofs::Heads::size_steps))]
 pub fn multi_exit_disc_size(parts: &AttrParts) -> usize
@@ -93,7 +93,7 @@ pub fn put_multi_exit_disc(out: &mut ByteList, parts: &AttrParts)
 }
 
 // How much the own AS prefers the route.
-const LOCAL_PREF: u8 = 5;
+pub const LOCAL_PREF: u8 = 5;
 
 #[tactic(auto, using(crate::proofs::Heads::size_steps))]
 pub fn local_pref_size(parts: &AttrParts) -> usize
@@ -118,7 +118,7 @@ pub fn put_local_pref(out: &mut ByteList, parts: &AttrParts)
 }
 
 // That more specific routes were left out, no bytes.
-const ATOMIC_AGGREGATE: u8 = 6;
+pub const ATOMIC_AGGREGATE: u8 = 6;
 
 #[tactic(auto, using(crate::proofs::Heads::size_steps))]
 pub fn atomic_aggregate_size(parts: &AttrParts) -> usize
@@ -139,7 +139,7 @@ pub fn put_atomic_aggregate(out: &mut ByteList, parts: &AttrParts)
 }
 
 // The AS and the address of who made the route out of more specific ones.
-const AGGREGATOR: u8 = 7;
+pub const AGGREGATOR: u8 = 7;
 
 #[tactic(auto, using(crate::proofs::Heads::size_steps))]
 pub fn aggregator_size(parts: &AttrParts) -> usize
@@ -167,7 +167,7 @@ pub fn put_aggregator(out: &mut ByteList, parts: &AttrParts)
 }
 
 // The communities, four bytes each.
-const COMMUNITIES: u8 = 8;
+pub const COMMUNITIES: u8 = 8;
 
 #[tactic(auto, using(crate::proofs::Heads::size_steps))]
 pub fn communities_size(parts: &AttrParts) -> usize
@@ -193,7 +193,7 @@ pub fn put_communities(out: &mut ByteList, parts: &AttrParts)
 }
 
 // Who brought the route into the own AS.
-const ORIGINATOR_ID: u8 = 9;
+pub const ORIGINATOR_ID: u8 = 9;
 
 #[tactic(auto, using(crate::proofs::Heads::size_steps))]
 pub fn originator_id_size(parts: &AttrParts) -> usize
@@ -218,7 +218,7 @@ pub fn put_originator_id(out: &mut ByteList, parts: &AttrParts)
 }
 
 // The clusters that reflected the route, four bytes each.
-const CLUSTER_LIST: u8 = 10;
+pub const CLUSTER_LIST: u8 = 10;
 
 #[tactic(auto, using(crate::proofs::Heads::size_steps))]
 pub fn cluster_list_size(parts: &AttrParts) -> usize

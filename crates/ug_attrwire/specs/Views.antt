@@ -1,0 +1,55 @@
+-- What the reader's own values stand for, and how its answers stand to what reading gives.
+use Rattle.std.specs.Prelude.{◌≡◌, ℕ, map, option_map, Result, Ok, Err}
+use Rattle.ug_types.specs.declared.attrs.Segment.{Segment}
+use Rattle.ug_types.specs.Listed.{Listed}
+use Rattle.ug_types.specs.Attributes.{segment_of}
+use Rattle.ug_attrwire.specs.declared.fault.AttrFault.{AttrFault}
+use Rattle.ug_attrwire.specs.declared.fault.AttrFault.TheVariants as faults
+use Rattle.ug_attrwire.specs.declared.fault.AttributeFault.{AttributeFault}
+use Rattle.ug_attrwire.specs.declared.fault.AttributeFault.TheVariants as one
+use Rattle.ug_attrwire.specs.declared.found.Found.{Found}
+use Rattle.ug_attrwire.specs.declared.found.Standing.{Standing}
+use Rattle.ug_attrwire.specs.Walking.{Fault, fault}
+use Rattle.ug_attrwire.specs.Reading.{ReadSoFar, Attribute}
+
+abbrev pub so_far : Found → ReadSoFar
+so_far f = record {
+  types = f.types.items;
+  origin = f.origin;
+  path = option_map (λ (p : Listed Segment). map segment_of p.items) f.path;
+  next_hop = f.next_hop;
+  med = f.med;
+  local_pref = f.local_pref;
+  atomic = f.atomic;
+  aggregator = f.aggregator;
+  communities = f.communities.items;
+  originator = f.originator;
+  clusters = f.clusters.items;
+}
+
+abbrev pub standing : Standing → Attribute
+standing a = record { flags = a.flags; type = a.kind; value = a.value.now }
+
+-- Want of memory says nothing of the bytes.
+abbrev pub Fails : {Y : Type 0} → AttrFault → Result Y Fault → Type 0
+Fails faults.NoMemory read = Unit {0}
+Fails (faults.Refused number place) read = read ≡ Err (fault number place)
+
+-- What a function returned, seen by view, is what reading gives, unless memory was wanting.
+abbrev pub Gives : {X Y : Type 0} → (X → Y) → Result X AttrFault → Result Y Fault → Type 0
+Gives view (Ok x) read = read ≡ Ok (view x)
+Gives view (Err e) read = Fails e read
+
+-- the same of one attribute, whose faults have no place
+abbrev pub FailsOne : {Y : Type 0} → AttributeFault → Result Y ℕ → Type 0
+FailsOne one.NoMemory read = Unit {0}
+FailsOne (one.Refused number) read = read ≡ Err number
+
+abbrev pub GivesOne : {X Y : Type 0} → (X → Y) → Result X AttributeFault → Result Y ℕ → Type 0
+GivesOne view (Ok x) read = read ≡ Ok (view x)
+GivesOne view (Err e) read = FailsOne e read
+
+-- an attribute's fault at its place
+abbrev pub placed : AttributeFault → ℕ → AttrFault
+placed one.NoMemory place = faults.NoMemory
+placed (one.Refused number) place = faults.Refused number place
