@@ -28,29 +28,30 @@ pub walk_fault : {S E : Type 0} (step : Step S E) (place : ℕ) (so_far : S) (e 
 walk_fault step place so_far e [] some is = absurd (omega arith)
 walk_fault step place so_far e (b ∷ bytes) some is = rw is refl
 
--- ---- the same along all bytes, of which `rest` are those from the place on
+-- ---- the same along all bytes, of which `rest` are those that are left after some are gone
 
-pub walk_from : {S E : Type 0} (step : Step S E) (n place : ℕ) (so_far next : S) (bytes rest : List ℕ) → rest ≡ drop place bytes → 1 ≤ n → n ≤ length rest
-    → step place so_far rest ≡ Ok (next, n)
-    → walk step 0 (place + n) next (drop (place + n) bytes) ≡ walk step 0 place so_far (drop place bytes)
-walk_from {S} {E} step n place so_far next bytes rest at some le is =
-    ap (λ (r : List ℕ). walk step 0 (place + n) next r) (sym (drop-drop n place bytes) ∙ ap (λ (r : List ℕ). drop n r) (sym at))
-    ∙ sym (walk_on step n place so_far next rest some le is) ∙ ap (λ (r : List ℕ). walk step 0 place so_far r) at
+pub walk_from : {S E : Type 0} (step : Step S E) (n place next_place gone : ℕ) (so_far next : S) (bytes rest : List ℕ) → next_place ≡ place + n → rest ≡ drop gone bytes
+    → 1 ≤ n → n ≤ length rest → step place so_far rest ≡ Ok (next, n)
+    → walk step 0 next_place next (drop (gone + n) bytes) ≡ walk step 0 place so_far (drop gone bytes)
+walk_from {S} {E} step n place next_place gone so_far next bytes rest on left some le is =
+    ap (λ (p : ℕ). walk step 0 p next (drop (gone + n) bytes)) on
+    ∙ ap (λ (r : List ℕ). walk step 0 (place + n) next r) (sym (drop-drop n gone bytes) ∙ ap (λ (r : List ℕ). drop n r) (sym left))
+    ∙ sym (walk_on step n place so_far next rest some le is) ∙ ap (λ (r : List ℕ). walk step 0 place so_far r) left
 
-pub walk_stops : {S E : Type 0} (step : Step S E) (place : ℕ) (so_far : S) (e : E) (bytes rest : List ℕ) → rest ≡ drop place bytes → 0 < length rest
-    → step place so_far rest ≡ Err e → walk step 0 place so_far (drop place bytes) ≡ Err e
-walk_stops {S} {E} step place so_far e bytes rest at some is =
-    ap (λ (r : List ℕ). walk step 0 place so_far r) (sym at) ∙ walk_fault step place so_far e rest some is
+pub walk_stops : {S E : Type 0} (step : Step S E) (place gone : ℕ) (so_far : S) (e : E) (bytes rest : List ℕ) → rest ≡ drop gone bytes → 0 < length rest
+    → step place so_far rest ≡ Err e → walk step 0 place so_far (drop gone bytes) ≡ Err e
+walk_stops {S} {E} step place gone so_far e bytes rest left some is =
+    ap (λ (r : List ℕ). walk step 0 place so_far r) (sym left) ∙ walk_fault step place so_far e rest some is
 
 -- one thing more was read, and put at the end
-pub collect_from : {A E : Type 0} (one : ℕ → List ℕ → Result (A × ℕ) E) (n place : ℕ) (x : A) (so_far done : List A) (bytes rest : List ℕ) → rest ≡ drop place bytes → 1 ≤ n → n ≤ length rest
-    → one place rest ≡ Ok (x, n) → done ≡ so_far ++ x ∷ []
-    → walk (with_one one) 0 (place + n) done (drop (place + n) bytes) ≡ walk (with_one one) 0 place so_far (drop place bytes)
-collect_from {A} {E} one n place x so_far done bytes rest at some le is put =
-    ap (λ (so_far : List A). walk (with_one one) 0 (place + n) so_far (drop (place + n) bytes)) put
-    ∙ walk_from (with_one one) n place so_far (so_far ++ x ∷ []) bytes rest at some le (ap (λ (r : Result (A × ℕ) E). r >>= λ x. Ok (so_far ++ x.0 ∷ [], x.1)) is)
+pub collect_from : {A E : Type 0} (one : ℕ → List ℕ → Result (A × ℕ) E) (n place next_place gone : ℕ) (x : A) (so_far done : List A) (bytes rest : List ℕ) → next_place ≡ place + n → rest ≡ drop gone bytes
+    → 1 ≤ n → n ≤ length rest → one place rest ≡ Ok (x, n) → done ≡ so_far ++ x ∷ []
+    → walk (with_one one) 0 next_place done (drop (gone + n) bytes) ≡ walk (with_one one) 0 place so_far (drop gone bytes)
+collect_from {A} {E} one n place next_place gone x so_far done bytes rest on left some le is put =
+    ap (λ (so_far : List A). walk (with_one one) 0 next_place so_far (drop (gone + n) bytes)) put
+    ∙ walk_from (with_one one) n place next_place gone so_far (so_far ++ x ∷ []) bytes rest on left some le (ap (λ (r : Result (A × ℕ) E). r >>= λ x. Ok (so_far ++ x.0 ∷ [], x.1)) is)
 
-pub collect_stops : {A E : Type 0} (one : ℕ → List ℕ → Result (A × ℕ) E) (place : ℕ) (so_far : List A) (e : E) (bytes rest : List ℕ) → rest ≡ drop place bytes → 0 < length rest
-    → one place rest ≡ Err e → walk (with_one one) 0 place so_far (drop place bytes) ≡ Err e
-collect_stops {A} {E} one place so_far e bytes rest at some is =
-    walk_stops (with_one one) place so_far e bytes rest at some (ap (λ (r : Result (A × ℕ) E). r >>= λ x. Ok (so_far ++ x.0 ∷ [], x.1)) is)
+pub collect_stops : {A E : Type 0} (one : ℕ → List ℕ → Result (A × ℕ) E) (place gone : ℕ) (so_far : List A) (e : E) (bytes rest : List ℕ) → rest ≡ drop gone bytes → 0 < length rest
+    → one place rest ≡ Err e → walk (with_one one) 0 place so_far (drop gone bytes) ≡ Err e
+collect_stops {A} {E} one place gone so_far e bytes rest left some is =
+    walk_stops (with_one one) place gone so_far e bytes rest left some (ap (λ (r : Result (A × ℕ) E). r >>= λ x. Ok (so_far ++ x.0 ∷ [], x.1)) is)

@@ -1,5 +1,5 @@
 -- What the reader's own values stand for, and how its answers stand to what reading gives.
-use Rattle.std.specs.Prelude.{◌≡◌, ℕ, map, option_map, Result, Ok, Err}
+use Rattle.std.specs.Prelude.{◌≡◌, ℕ, ◌≤◌, map, option_map, Result, Ok, Err}
 use Rattle.ug_types.specs.declared.attrs.Segment.{Segment}
 use Rattle.ug_types.specs.Listed.{Listed}
 use Rattle.ug_types.specs.Attributes.{segment_of}
@@ -53,3 +53,13 @@ GivesOne view (Err e) read = FailsOne e read
 abbrev pub placed : AttributeFault → ℕ → AttrFault
 placed one.NoMemory place = faults.NoMemory
 placed (one.Refused number) place = faults.Refused number place
+
+-- a fault from 1 to 8
+abbrev pub HasNumber : AttributeFault → Type 0
+HasNumber one.NoMemory = Unit {0}
+HasNumber (one.Refused number) = number ≤ 8
+
+-- a fault from 1 to 8, no further back than so many bytes
+abbrev pub IsWithin : ℕ → AttrFault → Type 0
+IsWithin len faults.NoMemory = Unit {0}
+IsWithin len (faults.Refused number place) = (number ≤ 8) × (place ≤ len)

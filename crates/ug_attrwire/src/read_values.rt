@@ -1,10 +1,10 @@
 //! Reading the values of attributes.
 
-ghost use Rattle.std.specs.Prelude.{◌≡◌, ◌/◌, ◌≤◌, true, length, map, IfOk};
+ghost use Rattle.std.specs.Prelude.{◌≡◌, ◌/◌, ◌≤◌, true, length, map, IfOk, IfErr};
 ghost use Rattle.std.specs.List.{list_all};
 ghost use Rattle.ug_types.specs.Attributes.{segment_of, is_segment};
 ghost use Rattle.ug_attrwire.specs.Reading.{number_in, address_in, aggregator_in, origin_in, numbers_in, segment_at, path_in};
-ghost use Rattle.ug_attrwire.specs.Views.{GivesOne};
+ghost use Rattle.ug_attrwire.specs.Views.{GivesOne, HasNumber};
 
 use crate::fault::AttributeFault;
 use std::alloc::{AllocError, Global};
@@ -37,6 +37,7 @@ pub fn aggregator_in(bytes: &[u8]) -> Aggregator
 pub fn origin_in(bytes: &[u8]) -> Result<u8, AttributeFault>
     requires { 1 ≤ length bytes.now }
     ensures exact { GivesOne (λ n. n) result (origin_in bytes.now) }
+    ensures number { IfErr result HasNumber }
     ensures sound { IfOk result (λ n. n ≤ 2) }
 {
     if bytes[0] > 2 {
@@ -62,6 +63,7 @@ pub fn numbers_in(alloc: Global, bytes: &[u8]) -> Result<NumberList, AllocError>
 #[tactic(auto, unfolding(crate::specs::Reading::segment_at))]
 fn segment_at(alloc: Global, bytes: &[u8]) -> Result<(Segment, usize), AttributeFault>
     ensures exact { GivesOne (λ x. (segment_of x.0, x.1)) result (segment_at bytes.now) }
+    ensures number { IfErr result HasNumber }
     ensures sound { IfOk result (λ x. is_segment (segment_of x.0) ≡ true) }
     ensures within { IfOk result (λ x. (1 ≤ x.1) × (x.1 ≤ length bytes.now)) }
 {
@@ -86,6 +88,7 @@ fn segment_at(alloc: Global, bytes: &[u8]) -> Result<(Segment, usize), Attribute
 
 pub fn path_in(alloc: Global, bytes: &[u8]) -> Result<SegmentList, AttributeFault>
     ensures exact { GivesOne (λ path. map segment_of path.items) result (path_in bytes.now) }
+    ensures number { IfErr result HasNumber }
     ensures sound { IfOk result (λ path. list_all is_segment (map segment_of path.items) ≡ true) }
 {
     let mut path = Vec::new(alloc);

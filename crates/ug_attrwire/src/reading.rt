@@ -1,9 +1,9 @@
 //! Reading the attributes of one message.
 
-ghost use Rattle.std.specs.Prelude.{◌≡◌, ◌+◌, ◌≤◌, true, length, IfOk};
+ghost use Rattle.std.specs.Prelude.{◌≡◌, ◌+◌, ◌≤◌, true, length, IfOk, IfErr};
 ghost use Rattle.ug_attrwire.specs.Walking.{walk_all};
 ghost use Rattle.ug_attrwire.specs.Reading.{attribute_at, head_size, value_size, is_known, are_flags, flags_of, is_length, with_value, with_known, with_attribute, one_attribute, attribute_step, nothing_read, attributes_in, at_end, read_attributes};
-ghost use Rattle.ug_attrwire.specs.Views.{so_far, standing, placed, Gives, GivesOne};
+ghost use Rattle.ug_attrwire.specs.Views.{so_far, standing, placed, Gives, GivesOne, HasNumber, IsWithin};
 
 use crate::attributes::{
     AGGREGATOR, AS_PATH, ATOMIC_AGGREGATE, CLUSTER_LIST, COMMUNITIES, LOCAL_PREF, MULTI_EXIT_DISC,
@@ -27,6 +27,7 @@ fn attribute_at(bytes: &[u8]) -> Result<(Standing<'_>, usize), AttributeFault>
     ensures exact { GivesOne (λ x. standing x.0) result (attribute_at bytes.now) }
     ensures size { IfOk result (λ x. x.1 ≡ head_size bytes.now + value_size bytes.now) }
     ensures within { IfOk result (λ x. (1 ≤ x.1) × (x.1 ≤ length bytes.now)) }
+    ensures number { IfErr result HasNumber }
 {
     let passes_the_end = AttributeFault::Refused(1);
     if bytes.len() < 3 {
@@ -93,7 +94,8 @@ fn read_value(
     value: &[u8],
 ) -> Result<(), AttributeFault>
     requires { is_length kind (length value.now) ≡ true }
-    ensures { GivesOne (λ _. so_far found.new) result (with_value kind value.now (so_far found.old)) }
+    ensures exact { GivesOne (λ _. so_far found.new) result (with_value kind value.now (so_far found.old)) }
+    ensures number { IfErr result HasNumber }
 {
     match kind {
         ORIGIN => found.origin = Some(origin_in(value)?),
@@ -113,7 +115,8 @@ fn read_value(
 #[tactic(auto, unfolding(crate::specs::Reading::with_known))]
 fn read_known(alloc: Global, found: &mut Found, a: Standing<'_>) -> Result<(), AttributeFault>
     requires { is_known a.kind ≡ true }
-    ensures { GivesOne (λ _. so_far found.new) result (with_known (standing a.entry) (so_far found.old)) }
+    ensures exact { GivesOne (λ _. so_far found.new) result (with_known (standing a.entry) (so_far found.old)) }
+    ensures number { IfErr result HasNumber }
 {
     if !are_flags(a.kind, a.flags) {
         return Err(AttributeFault::Refused(3));
@@ -126,7 +129,8 @@ fn read_known(alloc: Global, found: &mut Found, a: Standing<'_>) -> Result<(), A
 
 #[tactic(auto, unfolding(crate::specs::Reading::with_attribute))]
 fn read_attribute(alloc: Global, found: &mut Found, a: Standing<'_>) -> Result<(), AttributeFault>
-    ensures { GivesOne (λ _. so_far found.new) result (with_attribute (standing a.entry) (so_far found.old)) }
+    ensures exact { GivesOne (λ _. so_far found.new) result (with_attribute (standing a.entry) (so_far found.old)) }
+    ensures number { IfErr result HasNumber }
 {
     if found.types.as_slice().contains(&a.kind) {
         return Err(AttributeFault::Refused(2));
@@ -149,6 +153,7 @@ fn read_attribute(alloc: Global, found: &mut Found, a: Standing<'_>) -> Result<(
 fn read_one(alloc: Global, found: &mut Found, bytes: &[u8]) -> Result<usize, AttributeFault>
     ensures exact { GivesOne (λ size. (so_far found.new, size)) result (one_attribute (so_far found.old) bytes.now) }
     ensures within { IfOk result (λ size. (1 ≤ size) × (size ≤ length bytes.now)) }
+    ensures number { IfErr result HasNumber }
 {
     let (attribute, size) = attribute_at(bytes)?;
     read_attribute(alloc, found, attribute)?;
@@ -184,7 +189,8 @@ fn placed(fault: AttributeFault, place: usize) -> AttrFault
 }
 
 fn read_all(alloc: Global, bytes: &[u8]) -> Result<Found, AttrFault>
-    ensures { Gives so_far result (walk_all attribute_step nothing_read bytes.now) }
+    ensures exact { Gives so_far result (walk_all attribute_step nothing_read bytes.now) }
+    ensures within { IfErr result (IsWithin (length bytes.now)) }
 {
     let mut found = nothing_read(alloc);
     let mut place = 0;
@@ -200,7 +206,8 @@ fn read_all(alloc: Global, bytes: &[u8]) -> Result<Found, AttrFault>
 
 /// The attributes, where the three that each route needs are there.
 fn finish(found: Found, need: bool) -> Result<Option<Attrs>, AttrFault>
-    ensures { Gives (λ attrs. attrs) result (at_end need (attributes_in (so_far found))) }
+    ensures exact { Gives (λ attrs. attrs) result (at_end need (attributes_in (so_far found))) }
+    ensures within { IfErr result (IsWithin 0) }
 {
     let (Some(origin), Some(path), Some(next_hop)) = (found.origin, found.path, found.next_hop)
     else {
@@ -235,7 +242,8 @@ fn finish(found: Found, need: bool) -> Result<Option<Attrs>, AttrFault>
 /// where ORIGIN, AS_PATH or NEXT_HOP is missing and `need` is false.
 #[tactic(auto, unfolding(crate::specs::Reading::read_attributes))]
 pub fn read_attrs(alloc: Global, bytes: &[u8], need: bool) -> Result<Option<Attrs>, AttrFault>
-    ensures { Gives (λ attrs. attrs) result (read_attributes need bytes.now) }
+    ensures exact { Gives (λ attrs. attrs) result (read_attributes need bytes.now) }
+    ensures within { IfErr result (IsWithin (length bytes.now)) }
 {
     let found = read_all(alloc, bytes)?;
     finish(found, need)

@@ -1,1 +1,4 @@
 pub mod Updates
+pub mod Reading
+pub mod Streams
+pub mod Views

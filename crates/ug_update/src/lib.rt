@@ -3,6 +3,9 @@
 #![tactic(auto)]
 
 mod alike;
+mod fault;
+mod parts;
+mod reading;
 mod writing;
 
 pub use alike::routes_are_alike;

@@ -1,4 +1,4 @@
-use Rattle.std.proofs.Common.{◌∙◌, ap, List, map, arith}
+use Rattle.std.proofs.Common.{◌+◌, refl, ◌∙◌, ap, List, map, arith}
 use Rattle.std.proofs.lemmas.List.{map_push}
 use Rattle.std.proofs.lemmas.Grind.{common_steps}
 use Rattle.std.proofs.lemmas.Result.{err_from_is_err_and}
@@ -18,8 +18,8 @@ loop-place-preserved c =
       within = omega (arith, read.within);
       sound = grind (arith, common_steps, read.sound);
       same =
-          collect_from (λ place. segment_at) c.in_ok-segment.size c.loop-place.place (segment_of segment) (map segment_of path) (map segment_of c.push.new.self.items) c.args.bytes.now c.split_at.result.1.now
-          c.split_at.ensures.back read.within.0 read.within.1 read.exact (ap (λ (p : List Segment). map segment_of p) c.in_ok-push.ensures.items ∙ map_push segment_of path segment)
+          collect_from (λ place. segment_at) c.in_ok-segment.size c.loop-place.place (c.loop-place.place + c.in_ok-segment.size) c.loop-place.place (segment_of segment) (map segment_of path) (map segment_of c.push.new.self.items) c.args.bytes.now c.split_at.result.1.now
+          refl c.split_at.ensures.back read.within.0 read.within.1 read.exact (ap (λ (p : List Segment). map segment_of p) c.in_ok-push.ensures.items ∙ map_push segment_of path segment)
           ∙ c.loop-place.invariant.same;
     }
 
