@@ -1,3 +1,6 @@
 pub mod Texts
 pub mod RoutesRead
 pub mod RouteFaults
+pub mod Headers
+pub mod Fronts
+pub mod Goes

@@ -2,3 +2,4 @@ pub mod Updates
 pub mod Reading
 pub mod Streams
 pub mod Views
+pub mod Readers

@@ -1,14 +1,18 @@
-//! UPDATE messages as bytes: routes announced with the attributes that they share, routes withdrawn, and the
-//! End-of-RIB marker.
+//! Messages as bytes: UPDATEs written, with routes announced with the attributes that they share, routes withdrawn, or
+//! nothing, as End-of-RIB; and streams of UPDATEs and ROUTE-REFRESHes read, in whatever pieces they come.
 #![tactic(auto)]
 
+mod ahead;
 mod alike;
 mod fault;
 mod parts;
+mod reader;
 mod reading;
+mod window;
 mod writing;
 
 pub use alike::routes_are_alike;
+pub use reader::Reader;
 pub use writing::{write_eor, write_update, write_withdraw};
 
 #[cfg(test)]
