@@ -1,0 +1,29 @@
+-- A receiver's table as rows in key order, and the keys that are stale.
+use Rattle.std.specs.Prelude.{List, [], Option, Some, None}
+use Rattle.std.specs.Map.{lookup}
+use Rattle.std.specs.BTreeMap.Range.{IsLtBy}
+use Rattle.std.specs.declared.cmp.Ordering.{Ordering}
+use Rattle.ug_types.specs.declared.key.Key.{Key}
+use Rattle.ug_types.specs.Keys.{same_key}
+use Rattle.ug_types.specs.Attributes.{Attributes}
+use Rattle.ug_tables.specs.Tables.{Reading, among}
+
+pub record Rows : Type 0 where
+  pub rows : List (Key × Attributes)
+  pub stale : List Key
+
+-- the attributes of the row with that key, where there is one
+abbrev pub row_at : List (Key × Attributes) → Key → Option Attributes
+row_at rows key = lookup (same_key key) rows
+
+-- what a receiver that has these rows has read
+abbrev pub reading_of : Rows → Reading
+reading_of r = record { table = row_at r.rows; stale = among r.stale }
+
+abbrev pub no_rows : Rows
+no_rows = record { rows = []; stale = [] }
+
+-- a key that stands after another, or after none
+abbrev pub IsAfter : (Key → Key → Ordering) → Option Key → Key → Type 0
+IsAfter cmp None q = Unit {0}
+IsAfter cmp (Some key) q = IsLtBy cmp key q

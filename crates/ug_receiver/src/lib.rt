@@ -1,0 +1,8 @@
+//! What a receiver has read of a session: the rows of its table, and which of them are stale.
+#![tactic(auto)]
+
+mod rows;
+mod stale;
+mod table;
+
+pub use table::Table;
