@@ -1,7 +1,8 @@
 //! The program: a run over the files of the system.
 #![tactic(auto)]
 
-ghost use Rattle.std.specs.Prelude.{◌≡◌, ◌<◌};
+ghost use Rattle.std.specs.Prelude.{◌≡◌, ◌<◌, IfErr, true};
+ghost use Rattle.ug_run.specs.Statuses.{is_fixed};
 
 use std::alloc::Global;
 use std::env;
@@ -36,7 +37,9 @@ fn main(rt: HostRuntime) -> ExitCode {
 }
 
 /// The arguments after the program's own name. Ones that are no text are no command.
-fn words(rt: &HostRuntime) -> Result<Vec<String>, Status> {
+fn words(rt: &HostRuntime) -> Result<Vec<String>, Status>
+    ensures { IfErr result (λ status. is_fixed status ≡ true) }
+{
     let mut args = match env::args(rt) {
         Ok(args) => args,
         Err(e) => {
@@ -77,7 +80,10 @@ fn run<L: Ledger, R: Threads + Wait + Sync, E: Site, K: Sink>(
 }
 
 /// Says the status of a run that could not begin.
-fn refuse(rt: &HostRuntime, status: Status) -> Status {
+fn refuse(rt: &HostRuntime, status: Status) -> Status
+    requires { is_fixed status ≡ true }
+    ensures { result ≡ status }
+{
     let _ = io::writer(rt).write_all(status.text());
     status
 }

@@ -1,5 +1,6 @@
 ghost use Rattle.std.specs.Prelude.{◌≡◌, ◌==◌, length, Some, None, OnOk, IsSome, IfSome, IfNone, option_copied};
 ghost use Rattle.std.specs.Map.{keys_of};
+ghost use Rattle.std.specs.Map.Iter.{ShowsInOrder, deref_pair};
 ghost use Rattle.std.specs.BTreeMap.Range.{IsLeBy};
 ghost use Rattle.std.specs.List.Sorted.{IsStrictlySortedBy};
 ghost use Rattle.ug_types.specs.declared.key.Key as route_keys;
@@ -10,6 +11,7 @@ ghost use Rattle.ug_receiver.specs.Rows.{reading_of, row_at, no_rows, IsAfter};
 use crate::rows::{first_after, key_order, put_rows, remove_rows};
 use crate::stale::{mark_all, sweep, unmark};
 use std::alloc::Global;
+use std::collections::btree_map::Iter;
 use std::collections::{BTreeMap, BTreeSet};
 use std::marker::Model;
 use ug_types::{Attrs, Item, Key, NoMemory, Update};
@@ -113,5 +115,14 @@ impl Table {
     {
         key_order();
         first_after(&self.rows, key)
+    }
+
+    /// The rows in key order.
+    pub fn iter(&self) -> Iter<'_, Key, Attrs>
+        ensures rows { result ≡ self.now.rows }
+        ensures runs { ShowsInOrder (deref_pair {K = Key} {X = Attrs}) }
+        ensures ascending { IsStrictlySortedBy ⟦<Key as Ord>⟧.cmp (keys_of self.now.rows) }
+    {
+        self.rows.iter()
     }
 }

@@ -26,7 +26,7 @@ use Rattle.ug_rib.specs.One.{configured_world, one_world, up_p1}
 use Rattle.ug_run.specs.Course.{opened, run_worlds, run_world, session_past, IsCourse, IsOpening}
 use Rattle.ug_run.specs.Sessions.{HasSent}
 use Rattle.ug_run.specs.Report.{Loss, line_texts, loss_text, counts_text, losses_status, completed_text, report_text, accepted_count, refused_count}
-use Rattle.ug_run.specs.Reporting.{AppendsFront}
+use Rattle.ug_pieces.specs.Reporting.{AppendsFront}
 use Rattle.ug_run.specs.Limits.{IsPastLimits}
 use Rattle.ug_run.specs.Intake.{lines_text, IsRun, IsReading, IsReportedUntil, HasReadAll, HasStopped}
 use Rattle.ug_run.specs.Statuses.{status_text, status_of, is_complete, is_read_fault, made_wires}
@@ -36,7 +36,7 @@ use Rattle.ug_run.specs.declared.status.Status.{Status}
 use Rattle.ug_run.specs.declared.status.Status.TheVariants as statuses
 use Rattle.ug_run.specs.declared.stop.Stop.{Stop}
 use Rattle.ug_run.specs.declared.stop.Stop.TheVariants as stops
-use Rattle.ug_run.proofs.Appending.{AppendsPiece-none, AppendsPiece-more, AppendsFront-more, AppendsFront-longer}
+use Rattle.ug_pieces.specs.AppendingLaws.{AppendsPiece-none, AppendsPiece-more, AppendsFront-more, AppendsFront-longer}
 use Rattle.ug_run.proofs.Progress.{Follows-more}
 use Rattle.ug_run.proofs.Taking.{line_texts-append}
 use Rattle.ug_run.proofs.Opening.{at_most_one, just_one, private_then}
@@ -153,14 +153,14 @@ sessions_counted status lines sessions faults n counted few all =
 
 -- ---- the report
 
-then_status : (before mid held : Option (List ℕ)) (failed : Type 0) (text line : List ℕ) → AppendsPiece before mid text → AppendsThenStatus mid held failed [] line → AppendsThenStatus before held failed text line
+pub then_status : (before mid held : Option (List ℕ)) (failed : Type 0) (text line : List ℕ) → AppendsPiece before mid text → AppendsThenStatus mid held failed [] line → AppendsThenStatus before held failed text line
 then_status before mid held failed text line piece h = (h.0, h.1, h.2, AppendsPiece-more before mid held text h.0 piece h.3, h.4)
 
 nothing : (a b : List ℕ) → [] ≡ a ++ b → a ≡ []
 nothing [] b e = refl
 nothing (x ∷ a) b e = absurd cc
 
-no_status : (before mid held : Option (List ℕ)) (failed : Type 0) (text : List ℕ) → AppendsFront before mid text → AppendsThenStatus mid held failed [] [] → AppendsFront before held text
+pub no_status : (before mid held : Option (List ℕ)) (failed : Type 0) (text : List ℕ) → AppendsFront before mid text → AppendsThenStatus mid held failed [] [] → AppendsFront before held text
 no_status before mid held failed text front h =
     let none = nothing h.0 h.1 h.2 in
     (front.0, front.1, front.2, subst (λ (bs : List ℕ). AppendsPiece before held bs) (ap (λ (bs : List ℕ). front.0 ++ bs) none ∙ append-nil front.0) (AppendsPiece-more before mid held front.0 h.0 front.3 h.3))
@@ -193,7 +193,7 @@ no_losses : losses_status (losses_where false) ≡ []
 unfolding losses_status
 no_losses = refl
 
-no_line : (before held : Option (List ℕ)) (failed : Type 0) (text : List ℕ) → AppendsThenStatus before held failed text [] → AppendsPiece before held (text ++ [])
+pub no_line : (before held : Option (List ℕ)) (failed : Type 0) (text : List ℕ) → AppendsThenStatus before held failed text [] → AppendsPiece before held (text ++ [])
 no_line before held failed text h = subst (λ (bs : List ℕ). AppendsPiece before held (text ++ bs)) (nothing h.0 h.1 h.2) h.3
 
 -- what the report holds where all events were read
@@ -219,6 +219,7 @@ concluded_report status lost accepted refused before mid last held done failed c
     by_status statuses.ReadFault concluded h = absurd concluded
     by_status statuses.SiteFault concluded h = absurd concluded
     by_status statuses.TooLong concluded h = absurd concluded
+    by_status (statuses.Malformed cause offset) concluded h = absurd concluded
     by_status statuses.NoMemory concluded h =
         (line_texts 1 opened counted, [], sym (append-nil (line_texts 1 opened counted)), then_status before last held failed (lines_text counted) _ (subst (λ (m : Option (List ℕ)). AppendsPiece before m (lines_text counted)) (sym concluded) piece) h)
     by_status statuses.ReportFault concluded h =
@@ -234,11 +235,11 @@ concluded_report status lost accepted refused before mid last held done failed c
 
 -- ---- the file
 
-rest_of : Option (List ℕ) → List ℕ
+pub rest_of : Option (List ℕ) → List ℕ
 rest_of None = []
 rest_of (Some left) = left
 
-part_read : (files : Option (List FileText)) (name : List ℕ) (left now : Option (List ℕ)) (read : List ℕ) → HasPicked files name left → TakesFront left now read → IsPartOf (file_told files name) read (rest_of now)
+pub part_read : (files : Option (List FileText)) (name : List ℕ) (left now : Option (List ℕ)) (read : List ℕ) → HasPicked files name left → TakesFront left now read → IsPartOf (file_told files name) read (rest_of now)
 unfolding rest_of
 part_read None name None now read picked taken = tt
 part_read None name (Some left) now read picked taken = absurd picked
@@ -246,7 +247,7 @@ part_read (Some files) name None now read picked taken = absurd picked
 part_read (Some files) name (Some left) None read picked taken = absurd taken
 part_read (Some files) name (Some left) (Some now) read picked taken = subst (λ (file : Option (List ℕ)). IsPartOf file read now) (sym picked) taken
 
-no_rest : (now : Option (List ℕ)) → IsEnded now → rest_of now ≡ []
+pub no_rest : (now : Option (List ℕ)) → IsEnded now → rest_of now ≡ []
 unfolding rest_of
 no_rest None h = refl
 no_rest (Some left) h = h
@@ -384,6 +385,7 @@ all_read statuses.SiteFault lost accepted refused mid last done h = refl
 all_read statuses.NoMemory lost accepted refused mid last done h = refl
 all_read statuses.TooLong lost accepted refused mid last done h = refl
 all_read (statuses.Lost peer session) lost accepted refused mid last done h = refl
+all_read (statuses.Malformed cause offset) lost accepted refused mid last done h = absurd h
 
 first_lost : (status : Status) (lost : Bool) (accepted refused : ℕ) (mid last : Option (List ℕ)) (done : Type 0) → IsConcluded status lost accepted refused mid last done → IsFirstLoss status configured_world (losses_where lost)
 first_lost statuses.Ok lost accepted refused mid last done h = ap losses_where h.0
@@ -393,6 +395,7 @@ first_lost statuses.ReportFault lost accepted refused mid last done h = tt
 first_lost statuses.SiteFault lost accepted refused mid last done h = tt
 first_lost statuses.NoMemory lost accepted refused mid last done h = tt
 first_lost statuses.TooLong lost accepted refused mid last done h = tt
+first_lost (statuses.Malformed cause offset) lost accepted refused mid last done h = tt
 first_lost (statuses.Lost peer session) lost accepted refused mid last done h =
     ([], ap losses_where h.0 ∙ ap (λ (s : ℕ). record { peer = codes "p1"; session = s } ∷ []) (sym h.2) ∙ ap (λ (p : ℕ). record { peer = name_of (slice_get configured_world.peers p); session = session } ∷ []) (sym h.1))
 
@@ -404,6 +407,7 @@ within_limits_of statuses.ReportFault lost accepted refused mid last done read h
 within_limits_of statuses.SiteFault lost accepted refused mid last done read h within = tt
 within_limits_of statuses.NoMemory lost accepted refused mid last done read h within = tt
 within_limits_of statuses.TooLong lost accepted refused mid last done read h within = absurd h
+within_limits_of (statuses.Malformed cause offset) lost accepted refused mid last done read h within = absurd h
 within_limits_of (statuses.Lost peer session) lost accepted refused mid last done read h within = within
 
 pub promised_read : (status : Status) (files : Option (List FileText)) (name : List ℕ) (before left now mid last held : Option (List ℕ)) (sessions : Option (List (List ℕ))) (faults : ℕ) (lost : Bool) (origins : IpPrefix → Option ℕ) (c a r : ℕ) (done failed : Type 0)
@@ -455,6 +459,7 @@ IsEarly statuses.SiteFault = Unit {0}
 IsEarly statuses.NoMemory = Unit {0}
 IsEarly statuses.TooLong = ⊥
 IsEarly (statuses.Lost peer session) = ⊥
+IsEarly (statuses.Malformed cause offset) = ⊥
 
 not_complete_early : (status : Status) → IsEarly status → is_complete status ≡ true → ⊥
 not_complete_early statuses.ReadFault h e = cc
@@ -465,6 +470,7 @@ not_complete_early statuses.Usage h e = absurd h
 not_complete_early statuses.ReportFault h e = absurd h
 not_complete_early statuses.TooLong h e = absurd h
 not_complete_early (statuses.Lost peer session) h e = absurd h
+not_complete_early (statuses.Malformed cause offset) h e = absurd h
 
 early_report : (status : Status) (before held : Option (List ℕ)) (failed : Type 0) (counted : List Line) → IsEarly status → counted ≡ [] → AppendsThenStatus before held failed [] (status_text status) → HasReport status opened counted [] before held failed
 early_report statuses.ReadFault before held failed counted early none h = rw none h
@@ -475,6 +481,7 @@ early_report statuses.Usage before held failed counted early none h = absurd ear
 early_report statuses.ReportFault before held failed counted early none h = absurd early
 early_report statuses.TooLong before held failed counted early none h = absurd early
 early_report (statuses.Lost peer session) before held failed counted early none h = absurd early
+early_report (statuses.Malformed cause offset) before held failed counted early none h = absurd early
 
 early_loss : (status : Status) → IsEarly status → IsFirstLoss status configured_world []
 early_loss statuses.ReadFault early = tt
@@ -485,6 +492,7 @@ early_loss statuses.Usage early = absurd early
 early_loss statuses.ReportFault early = absurd early
 early_loss statuses.TooLong early = absurd early
 early_loss (statuses.Lost peer session) early = absurd early
+early_loss (statuses.Malformed cause offset) early = absurd early
 
 no_content : (P : ℕ → List ℕ → Content → Type 0) (sessions : Option (List (List ℕ))) → IsFresh sessions → EachSession P sessions []
 no_content P None fresh = tt
@@ -507,6 +515,7 @@ early_limits statuses.Usage early = absurd early
 early_limits statuses.ReportFault early = absurd early
 early_limits statuses.TooLong early = absurd early
 early_limits (statuses.Lost peer session) early = absurd early
+early_limits (statuses.Malformed cause offset) early = absurd early
 
 pub promised_unbegun : (status : Status) (file : Option (List ℕ)) (before held : Option (List ℕ)) (sessions : Option (List (List ℕ))) (faults : ℕ) (failed : Type 0)
     → IsUnbegun status → IsFresh sessions → AppendsThenStatus before held failed [] (status_text status)
@@ -579,6 +588,7 @@ concluded_for F G statuses.SiteFault lost a r before held f h = h
 concluded_for F G statuses.NoMemory lost a r before held f h = h
 concluded_for F G statuses.TooLong lost a r before held f h = h
 concluded_for F G (statuses.Lost peer session) lost a r before held f h = h
+concluded_for F G (statuses.Malformed cause offset) lost a r before held f h = h
 
 pub outcome_ended : (status : Status) (before left now : Option (List ℕ)) (sessions : Option (List (List ℕ))) (lost : Bool) (held : Option (List ℕ)) (failed : Type 0)
     → IsOutcome status before left now sessions lost held failed → is_complete status ≡ true → IsEnded now

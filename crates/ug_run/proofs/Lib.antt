@@ -1,7 +1,6 @@
 pub mod Sending
 pub mod Progress
 pub mod Announcing
-pub mod Appending
 pub mod Taking
 pub mod Cutting
 pub mod Feeding
@@ -9,3 +8,4 @@ pub mod Reading
 mod Commands
 pub mod Opening
 pub mod Ending
+pub mod Checks

@@ -12,11 +12,11 @@ use Rattle.ug_rib.specs.Worlds.{Outcome, Passes, Accepts, Refuses, outcome, worl
 use Rattle.ug_rib.specs.One.{one_world, local_path}
 use Rattle.ug_run.specs.Report.{refusal_text, where_refused, line_texts, one_if_accepted, one_if_refused, accepted_count, refused_count}
 use Rattle.ug_run.specs.Course.{opened, run_world, IsCourse, IsTally}
-use Rattle.ug_run.specs.Reporting.{AppendsFront}
+use Rattle.ug_pieces.specs.Reporting.{AppendsFront}
 use Rattle.ug_run.specs.Intake.{lines_text, IsRun, IsStopped}
 use Rattle.ug_run.specs.declared.stop.Stop.TheVariants as stops
 use Rattle.ug_run.proofs.Progress.{IsCourse-passed}
-use Rattle.ug_run.proofs.Appending.{AppendsPiece-none, AppendsPiece-more, AppendsFront-more}
+use Rattle.ug_pieces.specs.AppendingLaws.{AppendsPiece-none, AppendsPiece-more, AppendsFront-more}
 
 pub line_texts-append : (n : ℕ) (w : World) (a b : List Line) → line_texts n w (a ++ b) ≡ line_texts n w a ++ line_texts (n + length a) (last_world w a) b
 line_texts-append n w [] b = let z : n ≡ n + 0 = omega arith in ap (λ (k : ℕ). line_texts k w b) z

@@ -3,7 +3,7 @@ use Rattle.std.specs.Prelude.{◌≡◌, ℕ, Bool, true, false, List, [], ◌�
 use Rattle.ug_types.specs.Ip.{IpPrefix}
 use Rattle.ug_edge.specs.Told.{AppendsPiece}
 use Rattle.ug_run.specs.Report.{Loss, counts_text}
-use Rattle.ug_run.specs.Reporting.{AppendsFront}
+use Rattle.ug_pieces.specs.Reporting.{AppendsFront}
 use Rattle.ug_run.specs.Intake.{HasReadAll, HasStopped}
 use Rattle.ug_run.specs.Statuses.{status_of}
 use Rattle.ug_run.specs.declared.stop.Stop.{Stop}
@@ -29,6 +29,7 @@ IsConcluded statuses.Usage lost accepted refused before held failed = ⊥
 IsConcluded statuses.ReadFault lost accepted refused before held failed = ⊥
 IsConcluded statuses.SiteFault lost accepted refused before held failed = ⊥
 IsConcluded statuses.TooLong lost accepted refused before held failed = ⊥
+IsConcluded (statuses.Malformed cause offset) lost accepted refused before held failed = ⊥
 
 -- the statuses of a run whose file wasn't picked, and of one whose wire wasn't made
 abbrev pub IsUnbegun : Status → Type 0

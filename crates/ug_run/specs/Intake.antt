@@ -9,7 +9,7 @@ use Rattle.ug_event.specs.Bytes.{where_some_bytes}
 use Rattle.ug_event.specs.Grammar.{line_of}
 use Rattle.ug_run.specs.Report.{line_texts}
 use Rattle.ug_run.specs.Course.{opened, IsKept, IsCourse, IsTally}
-use Rattle.ug_run.specs.Reporting.{AppendsFront}
+use Rattle.ug_pieces.specs.Reporting.{AppendsFront}
 use Rattle.ug_run.specs.Limits.{IsPastLimits}
 use Rattle.ug_run.specs.declared.stop.Stop.{Stop}
 use Rattle.ug_run.specs.declared.stop.Stop.TheVariants as stops

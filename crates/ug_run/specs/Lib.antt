@@ -5,9 +5,9 @@ pub mod Report
 pub mod Sessions
 pub mod Course
 pub mod OriginMap
-pub mod Reporting
 pub mod Intake
 pub mod WordViews
 pub mod Statuses
 pub mod Promise
 pub mod Ending
+pub mod Checked

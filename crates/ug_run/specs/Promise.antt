@@ -15,7 +15,7 @@ use Rattle.ug_rib.specs.Worlds.{worlds, last_world, past, in_session}
 use Rattle.ug_rib.specs.Outbound.{private_table}
 use Rattle.ug_event.specs.Grammar.{line_of}
 use Rattle.ug_run.specs.Report.{Loss, line_texts, losses_status, completed_text, report_text}
-use Rattle.ug_run.specs.Reporting.{AppendsFront}
+use Rattle.ug_pieces.specs.Reporting.{AppendsFront}
 use Rattle.ug_run.specs.Limits.{IsPastLimits}
 use Rattle.ug_run.specs.Statuses.{is_read_fault, is_complete, made_wires, status_text}
 use Rattle.ug_run.specs.declared.status.Status.{Status}
@@ -184,6 +184,7 @@ HasReport statuses.NoMemory w lines lost before held failed =
     (front : List (List ℕ)) × (more : List (List ℕ)) × (line_texts 1 w lines ≡ front ++ more) × AppendsThenStatus before held failed (concat front) (status_text statuses.NoMemory)
 HasReport statuses.TooLong w lines lost before held failed = AppendsThenStatus before held failed (concat (line_texts 1 w lines)) (status_text statuses.TooLong)
 HasReport (statuses.Lost peer session) w lines lost before held failed = AppendsThenStatus before held failed (completed_text w lines lost) (losses_status lost)
+HasReport (statuses.Malformed cause offset) w lines lost before held failed = ⊥
 
 -- where nothing was lost at status `Ok`, and at `Lost` this session was the first
 abbrev pub IsFirstLoss : Status → World → List Loss → Type 0
@@ -196,6 +197,7 @@ IsFirstLoss statuses.ReportFault w lost = Unit {0}
 IsFirstLoss statuses.SiteFault w lost = Unit {0}
 IsFirstLoss statuses.NoMemory w lost = Unit {0}
 IsFirstLoss statuses.TooLong w lost = Unit {0}
+IsFirstLoss (statuses.Malformed cause offset) w lost = Unit {0}
 
 -- Status `TooLong` comes only where a limit was passed, and where it wasn't the cause the limits were kept; a run
 -- that ended before for want of memory or of the report may have read past them.
@@ -208,6 +210,7 @@ IsLimited statuses.Usage read = Unit {0}
 IsLimited statuses.ReportFault read = Unit {0}
 IsLimited statuses.SiteFault read = Unit {0}
 IsLimited statuses.NoMemory read = Unit {0}
+IsLimited (statuses.Malformed cause offset) read = Unit {0}
 
 -- ---- the whole
 

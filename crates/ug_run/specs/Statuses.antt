@@ -1,5 +1,6 @@
 -- The statuses: their numbers and their lines in the report.
-use Rattle.std.specs.Prelude.{ℕ, Bool, true, false, List, [], codes}
+use Rattle.std.specs.Prelude.{ℕ, Bool, true, false, List, [], ◌++◌, codes}
+use Rattle.std.specs.Fmt.{decimal}
 use Rattle.ug_run.specs.declared.stop.Stop.{Stop}
 use Rattle.ug_run.specs.declared.stop.Stop.TheVariants as stops
 use Rattle.ug_run.specs.declared.status.Status.{Status}
@@ -14,6 +15,11 @@ status_number statuses.SiteFault = 5
 status_number statuses.NoMemory = 6
 status_number statuses.TooLong = 7
 status_number (statuses.Lost peer session) = 8
+status_number (statuses.Malformed cause offset) = 9
+
+-- `status 9 malformed CAUSE OFFSET`
+unfoldable pub malformed_text : ℕ → ℕ → List ℕ
+malformed_text cause offset = codes "status 9 malformed " ++ (decimal cause ++ (codes " " ++ (decimal offset ++ codes "\n")))
 
 -- The line of a status. At `Ok` and where the report failed there is none.
 unfoldable pub status_text : Status → List ℕ
@@ -25,6 +31,19 @@ status_text statuses.SiteFault = codes "status 5 site\n"
 status_text statuses.NoMemory = codes "status 6 memory\n"
 status_text statuses.TooLong = codes "status 7 too-long\n"
 status_text (statuses.Lost peer session) = codes "status 8 lost p1 1\n"
+status_text (statuses.Malformed cause offset) = malformed_text cause offset
+
+-- whether the line is always the same
+abbrev pub is_fixed : Status → Bool
+is_fixed statuses.Ok = true
+is_fixed statuses.Usage = true
+is_fixed statuses.ReadFault = true
+is_fixed statuses.ReportFault = true
+is_fixed statuses.SiteFault = true
+is_fixed statuses.NoMemory = true
+is_fixed statuses.TooLong = true
+is_fixed (statuses.Lost peer session) = true
+is_fixed (statuses.Malformed cause offset) = false
 
 -- the status of a run that ended early
 abbrev pub status_of : Stop → Status
@@ -42,6 +61,7 @@ is_read_fault statuses.SiteFault = false
 is_read_fault statuses.NoMemory = false
 is_read_fault statuses.TooLong = false
 is_read_fault (statuses.Lost peer session) = false
+is_read_fault (statuses.Malformed cause offset) = false
 
 -- whether the run completed: all events were read, and the whole report was written
 abbrev pub is_complete : Status → Bool
@@ -53,6 +73,7 @@ is_complete statuses.SiteFault = false
 is_complete statuses.NoMemory = false
 is_complete statuses.TooLong = false
 is_complete (statuses.Lost peer session) = true
+is_complete (statuses.Malformed cause offset) = false
 
 -- whether a run that ended so had made all its wires; where memory was wanting it may have
 abbrev pub made_wires : Status → Bool
@@ -64,3 +85,4 @@ made_wires statuses.SiteFault = false
 made_wires statuses.NoMemory = false
 made_wires statuses.TooLong = true
 made_wires (statuses.Lost peer session) = true
+made_wires (statuses.Malformed cause offset) = false

@@ -1,8 +1,26 @@
 -- The command that the code read, without where its words lie in memory.
-use Rattle.std.specs.Prelude.{Option}
+use Rattle.std.specs.Prelude.{ℕ, List, Option}
+use Rattle.std.specs.Borrow.{Bor}
 use Rattle.std.specs.Option.{option_map}
-use Rattle.ug_run.specs.Words.{OneCommand}
+use Rattle.ug_run.specs.Words.{OneCommand, CheckCommand, CheckWords, Command, One, Check}
 use Rattle.ug_run.specs.declared.words.OneWords.{OneWords}
+use Rattle.ug_run.specs.declared.words.CheckWords as code
+use Rattle.ug_run.specs.declared.words.CheckSoFar.{CheckSoFar}
+use Rattle.ug_run.specs.declared.words.Command as commands
+use Rattle.ug_run.specs.declared.words.Command.TheVariants as command
 
-abbrev pub command_seen : Option OneWords → Option OneCommand
-command_seen command = option_map (λ (c : OneWords). record { events = c.events.now; dir = c.dir.now }) command
+abbrev pub one_seen : OneWords → OneCommand
+one_seen c = record { events = c.events.now; dir = c.dir.now }
+
+abbrev pub check_seen : code.CheckWords → CheckCommand
+check_seen c = record { add_path = c.add_path; extended = c.extended; stream = c.stream.now }
+
+abbrev pub seen : commands.Command → Command
+seen (command.One c) = One (one_seen c)
+seen (command.Check c) = Check (check_seen c)
+
+abbrev pub command_seen : Option commands.Command → Option Command
+command_seen c = option_map seen c
+
+abbrev pub so_far_seen : CheckSoFar → CheckWords
+so_far_seen c = record { may_be_option = c.may_be_option; add_path = c.add_path; extended = c.extended; stream = option_map (λ (w : Bor (List ℕ)). w.now) c.stream }

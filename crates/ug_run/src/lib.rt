@@ -2,6 +2,8 @@
 #![tactic(auto)]
 
 mod announce;
+mod checking;
+mod frame;
 mod intake;
 mod reader;
 mod report;

@@ -11,12 +11,13 @@ ghost use Rattle.ug_run.specs.OriginMap.{origins_in};
 ghost use Rattle.ug_run.specs.Course.{run_world};
 ghost use Rattle.ug_run.specs.Intake.{IsRun, IsReading, IsStopped, carried};
 
-use crate::report::{refusal_text, write_all};
+use crate::report::refusal_text;
 use crate::speaker::Speaker;
 use crate::stop::Stop;
 use std::alloc::Global;
 use ug_edge::{Failed, Sink, Wire};
 use ug_event::{Event, Line, read_line};
+use ug_pieces::write_all;
 use ug_types::Prefix;
 
 /// The most lines of an event file, blank ones included.

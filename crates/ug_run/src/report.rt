@@ -1,30 +1,12 @@
 //! What is written to the report.
 
-ghost use Rattle.std.specs.Prelude.{◌≡◌, ◌+◌, ◌≤◌, OnOk, OnErr, IfOk, codes};
+ghost use Rattle.std.specs.Prelude.{◌≡◌, IfOk, codes};
 ghost use Rattle.std.specs.String.{string_bytes};
-ghost use Rattle.ug_edge.specs.Told.{Rose, AppendsPiece};
 ghost use Rattle.ug_run.specs.Report.{refusal_name, refusal_text, counts_text};
-ghost use Rattle.ug_run.specs.Reporting.{AppendsFront};
+ghost use Rattle.ug_run.specs.Statuses.{malformed_text};
 
 use std::alloc::Global;
-use ug_edge::{Failed, Sink};
 use ug_types::NoMemory;
-
-/// Writes all of the text, where no call fails.
-pub fn write_all<K: Sink>(report: &mut K, text: &[u8]) -> Result<(), Failed>
-    ensures ok { OnOk result (AppendsPiece (K.held report.old) (K.held report.new) text.now) }
-    ensures err { OnErr result (AppendsFront (K.held report.old) (K.held report.new) text.now) }
-    ensures failed { OnErr result (Rose (K.faults report.old) (K.faults report.new)) }
-    ensures faults { K.faults report.old ≤ K.faults report.new }
-{
-    let mut at = 0;
-    while at < text.len() {
-        let (_, rest) = text.split_at(at);
-        let n = report.write(rest)?;
-        at += n;
-    }
-    Ok(())
-}
 
 /// The name of a refusal.
 fn refusal_name(number: u8) -> &'static str
@@ -56,4 +38,12 @@ pub fn counts_text(alloc: Global, accepted: u32, refused: u32) -> Result<String,
     ensures { IfOk result (λ text. string_bytes text ≡ counts_text accepted refused) }
 {
     Ok(format!(in alloc; "accepted {accepted} refused {refused}\n")?)
+}
+
+/// The status line of a stream with a fault.
+#[tactic(auto, unfolding(crate::specs::Statuses::malformed_text))]
+pub fn malformed_text(alloc: Global, cause: u8, offset: u64) -> Result<String, NoMemory>
+    ensures { IfOk result (λ text. string_bytes text ≡ malformed_text cause offset) }
+{
+    Ok(format!(in alloc; "status 9 malformed {cause} {offset}\n")?)
 }

@@ -3,26 +3,30 @@
 ghost use Rattle.std.specs.Prelude.{◌≡◌, ◌+◌, ◌<◌, ◌≤◌, ◌++◌, [], ◌∷◌, List, ℕ, map, length, Some, None, Option, IfOk, IfErr, OnOk, OnErr, IsErrOf, true, false, ◌↔◌};
 ghost use Rattle.std.specs.String.{string_bytes};
 ghost use Rattle.ug_edge.specs.Told.{Rose, HasPicked, IsEnded, IsFresh, AppendsPiece};
-ghost use Rattle.ug_run.specs.Words.{OneCommand, command_of, is_command};
+ghost use Rattle.ug_run.specs.Words.{OneCommand, CheckCommand, One, Check, command_of, is_command};
 ghost use Rattle.ug_rib.specs.One.{configured_world, up_p1};
-ghost use Rattle.ug_run.specs.Statuses.{status_text, is_complete};
+ghost use Rattle.ug_run.specs.Statuses.{status_text, is_complete, is_fixed};
+ghost use Rattle.ug_run.specs.Checked.{IsChecked};
 ghost use Rattle.ug_run.specs.Promise.{AppendsThenStatus, IsPromised, file_told};
-ghost use Rattle.ug_run.specs.Reporting.{AppendsFront};
+ghost use Rattle.ug_pieces.specs.Reporting.{AppendsFront};
 ghost use Rattle.ug_run.specs.Ending.{lost_text, IsOutcome, IsConcluded, IsUnbegun, IsUnmade};
 ghost use Rattle.ug_run.specs.Intake.{IsReading};
 ghost use Rattle.ug_run.specs.OriginMap.{origins_in};
 
+use crate::checking::check;
+use crate::frame::{end, pick};
 use crate::intake::Intake;
 use crate::reader::Run;
-use crate::report::{counts_text, write_all};
+use crate::report::counts_text;
 use crate::speaker::{Prepared, Speaker};
 use crate::status::Status;
-use crate::words::command;
+use crate::words::{Command, read_command};
 use std::alloc::Global;
 use std::sync::Wait;
 use std::sync::ledger::Ledger;
 use std::thread::Threads;
 use ug_edge::{Failed, Sink, Site, SiteFault, Source, Wire};
+use ug_pieces::write_all;
 use ug_types::{NoMemory, Prefix, Sequence, Steps};
 
 /// The wires of a run, one a configured peer, in configured order.
@@ -35,11 +39,14 @@ pub struct Done<W: Wire> {
     pub wires: WireList<W>,
 }
 
-/// Runs the command that the words are, the first of them its name; so far that is `one EVENTS DIR`, over one peer.
-/// It reads the file EVENTS of the site, sends the peer's session into a wire that the site makes for DIR, and writes
-/// the report. Words that are no command are `Usage`, and leave the site unread. `ReadFault`, `ReportFault` and
-/// `SiteFault` come only where that count of faults rose, `TooLong` only past a limit of the file, `Lost` only where
-/// the wire failed; want of memory can end a run at any point. The steps count nothing yet.
+/// Runs the command that the words are, the first of them its name.
+///
+/// `one EVENTS DIR` reads the file EVENTS of the site, sends the session of its one peer into a wire that the site
+/// makes for DIR, and writes the report. `check [--add-path] [--extended] STREAM` reads the bytes of a session and
+/// reports what they leave at the receiver. Words that are no command are `Usage`, and leave the site unread.
+/// `ReadFault`, `ReportFault` and `SiteFault` come only where that count of faults rose, `TooLong` only past a limit of
+/// the file, `Lost` only where the wire failed, and `Malformed` exactly where the stream's first fault is that one;
+/// want of memory can end a run at any point. The steps count nothing yet.
 pub fn serve<R: Threads + Wait + Sync, E: Site, K: Sink, L: Ledger>(
     _rt: &R,
     alloc: Global,
@@ -48,9 +55,12 @@ pub fn serve<R: Threads + Wait + Sync, E: Site, K: Sink, L: Ledger>(
     report: &mut K,
     _steps: &mut Steps<L>,
 ) -> Done<E::Wire>
-    ensures promise { (command : OneCommand) → command_of (map string_bytes words.now) ≡ Some command →
+    ensures promise { (command : OneCommand) → command_of (map string_bytes words.now) ≡ Some (One command) →
         IsPromised configured_world (up_p1 ∷ []) (file_told (E.files site.old) command.events) result.status
         (map (λ wire. record { sessions = E.Wire.sessions wire; faults = E.Wire.faults wire }) result.wires.items) (K.held report.old) (K.held report.new) (Rose (K.faults report.old) (K.faults report.new)) }
+    ensures checked { (command : CheckCommand) → command_of (map string_bytes words.now) ≡ Some (Check command) →
+        IsChecked command (file_told (E.files site.old) command.stream) result.status (K.held report.old) (K.held report.new) (Rose (K.faults report.old) (K.faults report.new)) }
+    ensures check_wires { (command : CheckCommand) → command_of (map string_bytes words.now) ≡ Some (Check command) → result.wires.items ≡ [] }
     ensures usage { (result.status ≡ Status.Usage) ↔ (is_command (map string_bytes words.now) ≡ false) }
     ensures no_command { is_command (map string_bytes words.now) ≡ false →
         AppendsThenStatus (K.held report.old) (K.held report.new) (Rose (K.faults report.old) (K.faults report.new)) [] (status_text Status.Usage) }
@@ -62,13 +72,19 @@ pub fn serve<R: Threads + Wait + Sync, E: Site, K: Sink, L: Ledger>(
     ensures ended { is_complete result.status ≡ true → IsEnded (E.left site.new) }
     ensures steps { _steps.new ≡ _steps.old }
 {
-    let Some(words) = command(words) else {
+    let Some(command) = read_command(words) else {
         return Done {
             status: end(report, Status::Usage),
             wires: Sequence::new(alloc),
         };
     };
-    one(alloc, words.events, words.dir, site, report)
+    match command {
+        Command::One(words) => one(alloc, words.events, words.dir, site, report),
+        Command::Check(words) => Done {
+            status: check(alloc, &words, site, report),
+            wires: Sequence::new(alloc),
+        },
+    }
 }
 
 /// Runs `one`.
@@ -121,6 +137,7 @@ fn run<W: Wire, E: Source, K: Sink>(intake: &mut Intake<W>, site: &mut E, report
         IsOutcome result before (E.left site.old) (E.left site.new) (W.sessions intake.new.run.speaker.session.wire) intake.new.run.speaker.session.lost (K.held report.new) (Rose (K.faults report.old) (K.faults report.new)) }
     ensures usage { result ≡ Status.Usage → ⊥ }
     ensures made { result ≡ Status.SiteFault → ⊥ }
+    ensures fixed { is_fixed result ≡ true }
     ensures read { result ≡ Status.ReadFault → Rose (E.faults site.old) (E.faults site.new) }
     ensures report { result ≡ Status.ReportFault → Rose (K.faults report.old) (K.faults report.new) }
     ensures faults { K.faults report.old ≤ K.faults report.new }
@@ -147,6 +164,7 @@ fn prepare<E: Site>(
     ensures begun { IfOk result (λ made. E.Wire.begun made.1 ≡ 0) }
     ensures no_faults { IfOk result (λ made. E.Wire.faults made.1 ≡ 0) }
     ensures status { IfErr result IsUnmade }
+    ensures fixed { IfErr result (λ status. is_fixed status ≡ true) }
     ensures failed { IsErrOf result Status.SiteFault → Rose (E.wire_faults site.old) (E.wire_faults site.new) }
     ensures wire_faults { E.wire_faults site.old ≤ E.wire_faults site.new }
     ensures left { E.left site.new ≡ E.left site.old }
@@ -168,22 +186,6 @@ fn prepare<E: Site>(
     }
 }
 
-/// Picks the events' file.
-fn pick<E: Site>(events: &str, site: &mut E) -> Result<(), Status>
-    ensures picked { OnOk result (HasPicked (E.files site.old) events.now (E.left site.new)) }
-    ensures status { IfErr result IsUnbegun }
-    ensures failed { IsErrOf result Status.ReadFault → Rose (E.faults site.old) (E.faults site.new) }
-    ensures faults { E.faults site.old ≤ E.faults site.new }
-    ensures files { E.files site.new ≡ E.files site.old }
-    ensures wire_faults { E.wire_faults site.new ≡ E.wire_faults site.old }
-{
-    match site.pick(events) {
-        Ok(()) => Ok(()),
-        Err(SiteFault::Failed) => Err(Status::ReadFault),
-        Err(SiteFault::NoMemory) => Err(Status::NoMemory),
-    }
-}
-
 /// Puts a wire into the room that was reserved for it.
 fn put<W: Wire>(wires: &mut WireList<W>, wire: W)
     requires { 1 ≤ wires.old.spare }
@@ -197,6 +199,7 @@ fn put<W: Wire>(wires: &mut WireList<W>, wire: W)
 
 /// Writes the last lines of a run that read all its events.
 fn complete<W: Wire, K: Sink>(run: &Run<W>, report: &mut K) -> Status
+    ensures fixed { is_fixed result ≡ true }
     ensures concluded { IsConcluded result run.now.speaker.session.lost run.now.tally.accepted run.now.tally.refused (K.held report.old) (K.held report.new) (Rose (K.faults report.old) (K.faults report.new)) }
     ensures faults { K.faults report.old ≤ K.faults report.new }
 {
@@ -239,17 +242,5 @@ fn write_both<K: Sink>(report: &mut K, first: &[u8], second: &[u8]) -> Result<()
     match write_all(report, second) {
         Ok(()) => Ok(()),
         Err(Failed) => Err(Failed),
-    }
-}
-
-/// Tries the status line once.
-fn end<K: Sink>(report: &mut K, status: Status) -> Status
-    ensures status { result ≡ status }
-    ensures report { AppendsThenStatus (K.held report.old) (K.held report.new) (Rose (K.faults report.old) (K.faults report.new)) [] (status_text status) }
-    ensures faults { K.faults report.old ≤ K.faults report.new }
-{
-    match write_all(report, status.text()) {
-        Ok(()) => status,
-        Err(Failed) => status,
     }
 }

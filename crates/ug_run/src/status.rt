@@ -1,7 +1,7 @@
 //! How a run ended.
 
-ghost use Rattle.std.specs.Prelude.{◌≡◌};
-ghost use Rattle.ug_run.specs.Statuses.{status_number, status_text, status_of};
+ghost use Rattle.std.specs.Prelude.{◌≡◌, true};
+ghost use Rattle.ug_run.specs.Statuses.{status_number, status_text, is_fixed, status_of};
 
 use crate::stop::Stop;
 use ug_types::PeerId;
@@ -25,6 +25,8 @@ pub enum Status {
     TooLong,
     /// All events were read, and a session was lost: the first, by its peer, counted from 0, and its number.
     Lost { peer: PeerId, session: u32 },
+    /// A stream has a fault: which, and where it lies, counted in bytes from the start of the stream.
+    Malformed { cause: u8, offset: u64 },
 }
 
 impl Status {
@@ -41,12 +43,14 @@ impl Status {
             Status::NoMemory => 6,
             Status::TooLong => 7,
             Status::Lost { .. } => 8,
+            Status::Malformed { .. } => 9,
         }
     }
 
-    /// The status's line of the report of `one`. It takes no memory.
+    /// The status's line of the report, where it is always the same. It takes no memory.
     #[tactic(auto, unfolding(crate::specs::Statuses::status_text))]
     pub fn text(self) -> &'static [u8]
+        requires { is_fixed self ≡ true }
         ensures { result.now ≡ status_text self }
     {
         match self {
@@ -58,6 +62,7 @@ impl Status {
             Status::NoMemory => b"status 6 memory\n",
             Status::TooLong => b"status 7 too-long\n",
             Status::Lost { .. } => b"status 8 lost p1 1\n",
+            Status::Malformed { .. } => unreachable!(),
         }
     }
 }

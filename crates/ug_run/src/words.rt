@@ -3,8 +3,9 @@
 ghost use Rattle.std.specs.Prelude.{◌≡◌, [], ◌∷◌, map, option_and_then};
 ghost use Rattle.std.specs.String.{string_bytes};
 ghost use Rattle.ug_event.specs.Bytes.{same_bytes};
-ghost use Rattle.ug_run.specs.Words.{is_option, command_of, events_and_dir, positional};
-ghost use Rattle.ug_run.specs.WordViews.{command_seen};
+ghost use Rattle.std.specs.Option.{option_map};
+ghost use Rattle.ug_run.specs.Words.{is_option, command_of, check_of, events_and_dir, positional, with_word, with_option, with_stream};
+ghost use Rattle.ug_run.specs.WordViews.{command_seen, one_seen, check_seen, so_far_seen};
 
 /// `one EVENTS DIR`: the name of the events' file, and that of the folder for the wires.
 #[derive(Drop)]
@@ -13,13 +14,117 @@ pub struct OneWords<'a> {
     pub dir: &'a str,
 }
 
+/// `check [--add-path] [--extended] STREAM`: which options the session's messages have, and the name of its file.
+#[derive(Drop)]
+pub struct CheckWords<'a> {
+    pub add_path: bool,
+    pub extended: bool,
+    pub stream: &'a str,
+}
+
+/// A command.
+#[derive(Drop)]
+pub enum Command<'a> {
+    One(OneWords<'a>),
+    Check(CheckWords<'a>),
+}
+
 /// The command that the words are, the first of them its name.
-pub fn command(words: &[String]) -> Option<OneWords<'_>>
+pub fn read_command(words: &[String]) -> Option<Command<'_>>
     ensures { command_seen result ≡ command_of (map string_bytes words.now) }
 {
-    match words {
-        [name, rest @ ..] if name.as_str() == "one" => events_and_dir(rest),
-        _ => None,
+    let [name, rest @ ..] = words else {
+        return None;
+    };
+    if name.as_str() == "one" {
+        let one = events_and_dir(rest)?;
+        return Some(Command::One(one));
+    }
+    if name.as_str() == "check" {
+        let check = check_words(rest)?;
+        return Some(Command::Check(check));
+    }
+    None
+}
+
+/// What the words of `check` have said so far.
+#[derive(Clone, Copy)]
+struct CheckSoFar<'a> {
+    may_be_option: bool,
+    add_path: bool,
+    extended: bool,
+    stream: Option<&'a str>,
+}
+
+/// The words of `check`: its options, each at most once, and one stream. A word `--` ends the options.
+#[tactic(auto, unfolding(crate::specs::Words::with_words))]
+fn check_words(words: &[String]) -> Option<CheckWords<'_>>
+    ensures { option_map check_seen result ≡ check_of (map string_bytes words.now) }
+{
+    let mut so_far = CheckSoFar {
+        may_be_option: true,
+        add_path: false,
+        extended: false,
+        stream: None,
+    };
+    for word in words {
+        so_far = so_far.with_word(word.as_str())?;
+    }
+    let stream = so_far.stream?;
+    Some(CheckWords {
+        add_path: so_far.add_path,
+        extended: so_far.extended,
+        stream,
+    })
+}
+
+impl<'a> CheckSoFar<'a> {
+    fn with_word(self, word: &'a str) -> Option<CheckSoFar<'a>>
+        ensures { option_map so_far_seen result ≡ with_word word.now (so_far_seen self.entry) }
+    {
+        if !self.may_be_option {
+            return self.with_stream(word);
+        }
+        if word == "--" {
+            return Some(CheckSoFar {
+                may_be_option: false,
+                ..self
+            });
+        }
+        if is_option(word) {
+            return self.with_option(word);
+        }
+        self.with_stream(word)
+    }
+
+    fn with_option(self, word: &'a str) -> Option<CheckSoFar<'a>>
+        ensures { option_map so_far_seen result ≡ with_option word.now (so_far_seen self.entry) }
+    {
+        if word == "--add-path" && !self.add_path {
+            return Some(CheckSoFar {
+                add_path: true,
+                ..self
+            });
+        }
+        if word == "--extended" && !self.extended {
+            return Some(CheckSoFar {
+                extended: true,
+                ..self
+            });
+        }
+        None
+    }
+
+    fn with_stream(self, word: &'a str) -> Option<CheckSoFar<'a>>
+        ensures { option_map so_far_seen result ≡ with_stream word.now (so_far_seen self.entry) }
+    {
+        if self.stream.is_some() {
+            return None;
+        }
+        Some(CheckSoFar {
+            stream: Some(word),
+            ..self
+        })
     }
 }
 
@@ -33,7 +138,7 @@ fn is_option(word: &str) -> bool
 
 /// The two positional words, where there are no others and no option. A word `--` ends the options.
 fn events_and_dir(words: &[String]) -> Option<OneWords<'_>>
-    ensures { command_seen result ≡ option_and_then events_and_dir (positional (map string_bytes words.now)) }
+    ensures { option_map one_seen result ≡ option_and_then events_and_dir (positional (map string_bytes words.now)) }
 {
     if words.len() == 2 {
         return two(words[0].as_str(), words[1].as_str());
@@ -45,7 +150,7 @@ fn events_and_dir(words: &[String]) -> Option<OneWords<'_>>
 }
 
 fn two<'a>(a: &'a str, b: &'a str) -> Option<OneWords<'a>>
-    ensures { command_seen result ≡ option_and_then events_and_dir (positional (a.now ∷ b.now ∷ [])) }
+    ensures { option_map one_seen result ≡ option_and_then events_and_dir (positional (a.now ∷ b.now ∷ [])) }
 {
     if is_option(a) || is_option(b) {
         return None;
@@ -54,7 +159,7 @@ fn two<'a>(a: &'a str, b: &'a str) -> Option<OneWords<'a>>
 }
 
 fn three<'a>(a: &'a str, b: &'a str, c: &'a str) -> Option<OneWords<'a>>
-    ensures { command_seen result ≡ option_and_then events_and_dir (positional (a.now ∷ b.now ∷ c.now ∷ [])) }
+    ensures { option_map one_seen result ≡ option_and_then events_and_dir (positional (a.now ∷ b.now ∷ c.now ∷ [])) }
 {
     if a == "--" {
         return Some(OneWords { events: b, dir: c });

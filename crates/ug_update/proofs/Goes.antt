@@ -14,7 +14,7 @@ use Rattle.ug_update.proofs.Fronts.{says_first, awaited_unfinished, spelled_more
 none_given : (r : ReaderState) (stream : List ℕ) (given : List Message) → HasRead r stream given → HasRead r stream (given ++ [])
 none_given r stream given has = subst (λ (g : List Message). HasRead r stream g) (sym (append-nil given)) has
 
-one_given : (r : ReaderState) (m : Message) (stream : List ℕ) (given : List Message) → front r ≡ Says m → HasRead r stream given → HasRead (behind_message r) stream (given ++ m ∷ [])
+pub one_given : (r : ReaderState) (m : Message) (stream : List ℕ) (given : List Message) → front r ≡ Says m → HasRead r stream given → HasRead (behind_message r) stream (given ++ m ∷ [])
 one_given r m stream given is has =
     let first = says_first r.add_path r.extended r.left m is in
     let size = message_size r.left in

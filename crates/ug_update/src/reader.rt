@@ -120,7 +120,8 @@ impl Reader {
 
     /// How many bytes have come and aren't taken.
     pub fn rest(&self) -> usize
-        ensures { result ≡ length self.now.left }
+        ensures rest { result ≡ length self.now.left }
+        ensures fits { self.now.taken + length self.now.left < 2 ^ 64 }
     {
         self.left.len()
     }

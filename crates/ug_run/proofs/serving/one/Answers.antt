@@ -2,7 +2,7 @@ use Rattle.std.proofs.Common.{◌≡◌, List, Option, refl, [], ◌∷◌, ◌+
 use Rattle.ug_edge.specs.Told.{HasPicked, FileText}
 use Rattle.ug_run.specs.Statuses.{is_complete}
 use Rattle.ug_run.proofs.Ending.{promised, promised_unbegun, promised_unmade, reading_begins, outcome_ended, later_status}
-use Rattle.ug_run.proofs.Reading.{Rose-later}
+use Rattle.ug_pieces.specs.ReadingLaws.{Rose-later}
 use Rattle.ug_run.proofs.serving.one.Goals as goal
 
 pub returns-in-Err-clause-promise : goal.returns-in-Err-clause-promise

@@ -1,5 +1,5 @@
 use Rattle.std.proofs.Common.{inr}
-use Rattle.ug_run.proofs.Reading.{Rose-later}
+use Rattle.ug_pieces.specs.ReadingLaws.{Rose-later}
 use Rattle.ug_run.proofs.Ending.{concluded_for}
 use Rattle.ug_run.proofs.serving.run.Goals as goal
 

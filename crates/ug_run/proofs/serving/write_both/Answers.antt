@@ -1,4 +1,4 @@
-use Rattle.ug_run.proofs.Appending.{AppendsFront-more, AppendsFront-longer}
+use Rattle.ug_pieces.specs.AppendingLaws.{AppendsFront-more, AppendsFront-longer}
 use Rattle.ug_run.proofs.serving.write_both.Goals as goal
 
 pub returns-in-Err-clause-err : goal.returns-in-Err-clause-err

@@ -1,7 +1,8 @@
 use Rattle.std.proofs.Common.{◌≡◌, ℕ, ◌-◌, Err, List, take, refl, ap, ◌∙◌, arith, rules}
 use Rattle.ug_run.specs.declared.stop.Stop.{Stop}
 use Rattle.ug_run.specs.Lines.{most_bytes, most_lines}
-use Rattle.ug_run.proofs.Reading.{Rose-later, behind_init, behind_piece, beyond_piece, stopped_within, stopped_past, stopped_unread, stopped_last, read_all, taken_none, piece_within, buffer_back}
+use Rattle.ug_run.proofs.Reading.{behind_init, behind_piece, beyond_piece, stopped_within, stopped_past, stopped_unread, stopped_last, read_all}
+use Rattle.ug_pieces.specs.ReadingLaws.{Rose-later, taken_none, piece_within, buffer_back}
 use Rattle.ug_run.proofs.intake.Intake.read_events.Goals as goal
 
 pub loop-count-init : goal.loop-count-init

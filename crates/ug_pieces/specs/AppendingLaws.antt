@@ -2,7 +2,7 @@
 use Rattle.std.proofs.Common.{ℕ, List, [], ◌++◌, take, drop, Option, Some, None, sym, ap, ◌∙◌, append_assoc}
 use Rattle.std.proofs.lemmas.List.{append-nil, take-append-drop}
 use Rattle.ug_edge.specs.Told.{AppendsPiece}
-use Rattle.ug_run.specs.Reporting.{AppendsFront}
+use Rattle.ug_pieces.specs.Reporting.{AppendsFront}
 
 pub AppendsPiece-none : (held : Option (List ℕ)) → AppendsPiece held held []
 AppendsPiece-none None = tt

@@ -1,6 +1,6 @@
 use Rattle.std.proofs.Common.{take-add, arith}
-use Rattle.ug_run.proofs.Appending.{AppendsPiece-none, AppendsPiece-more}
-use Rattle.ug_run.proofs.report.write_all.Goals as goal
+use Rattle.ug_pieces.specs.AppendingLaws.{AppendsPiece-none, AppendsPiece-more}
+use Rattle.ug_pieces.proofs.writing.write_all.Goals as goal
 
 pub loop-at-init : goal.loop-at-init
 loop-at-init g c = record { within = omega arith; appended = AppendsPiece-none (g.K.Sink.held c.args.report.now); faults = omega arith }

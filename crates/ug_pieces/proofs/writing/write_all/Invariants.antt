@@ -1,6 +1,6 @@
 use Rattle.std.proofs.Common.{◌-◌, ◌≤◌, length, take}
 use Rattle.ug_edge.specs.Told.{AppendsPiece}
-use Rattle.ug_run.proofs.report.write_all.Given as goal
+use Rattle.ug_pieces.proofs.writing.write_all.Given as goal
 
 abbrev pub invariant-loop-at : goal.invariant-loop-at
 invariant-loop-at g l = record {

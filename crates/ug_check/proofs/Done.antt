@@ -1,0 +1,63 @@
+-- A stream that was read whole, decoded.
+use Rattle.std.proofs.Common.{◌≡◌, ℕ, Bool, List, [], ◌∷◌, ◌++◌, length, Option, refl, sym, ap, subst, ◌∙◌}
+use Rattle.std.specs.List.{AllByRecursion}
+use Rattle.std.specs.List.Sorted.{IsStrictlySortedBy}
+use Rattle.std.specs.Map.{keys_of}
+use Rattle.std.specs.declared.cmp.Ordering.{Ordering}
+use Rattle.std.specs.declared.cmp.Ordering.TheVariants.{Less}
+use Rattle.ug_types.specs.declared.key.Key.{Key}
+use Rattle.ug_types.specs.declared.family.Family.{Family}
+use Rattle.ug_types.specs.declared.family.Family.TheVariants.{V4, V6}
+use Rattle.ug_types.specs.contracts.key.KeyOrd.TheImpl as key_ord
+use Rattle.ug_update.specs.Streams.{IsStream}
+use Rattle.ug_update.specs.Readers.{ReaderState}
+use Rattle.ug_receiver.specs.Rows.{Rows}
+use Rattle.ug_check.specs.Decoded.{EachSpells, key_cmp, AreRows, row_texts, totals_text, ends_of_rib, check_lines}
+use Rattle.ug_check.specs.Checks.{IsDone}
+use Rattle.ug_check.specs.Checkers.{HasReadAll}
+use Rattle.ug_check.proofs.Streams.{settled_stream}
+
+-- the derived order of keys is theirs
+ordered : (f g : Family) (a b c d i j : ℕ) → key_ord.ghosts.cmp (record { prefix = record { family = f; bits = a; len = c }; id = i }) (record { prefix = record { family = g; bits = b; len = d }; id = j })
+    ≡ key_cmp (record { prefix = record { family = f; bits = a; len = c }; id = i }) (record { prefix = record { family = g; bits = b; len = d }; id = j })
+ordered V4 V4 a b c d i j = refl
+ordered V6 V6 a b c d i j = refl
+ordered V4 V6 a b c d i j = refl
+ordered V6 V4 a b c d i j = refl
+
+key_order : (k q : Key) → key_ord.ghosts.cmp k q ≡ key_cmp k q
+key_order k q = ordered k.prefix.family q.prefix.family k.prefix.bits q.prefix.bits k.prefix.len q.prefix.len k.id q.id
+
+all_above : (k : Key) (ks : List Key) → AllByRecursion (λ (q : Key). key_ord.ghosts.cmp k q ≡ Less) ks → AllByRecursion (λ (q : Key). key_cmp k q ≡ Less) ks
+all_above k [] h = tt
+all_above k (q ∷ ks) h = (sym (key_order k q) ∙ h.0, all_above k ks h.1)
+
+in_order : (ks : List Key) → IsStrictlySortedBy key_ord.ghosts.cmp ks → IsStrictlySortedBy key_cmp ks
+unfolding IsStrictlySortedBy
+in_order [] h = tt
+in_order (k ∷ ks) h = (all_above k ks h.0, in_order ks h.1)
+
+pub done : (left now : Option (List ℕ)) (add_path extended : Bool) (r : ReaderState) (t : Rows) (messages eors : ℕ) (reported : List (List ℕ) → Type 0)
+    → r.add_path ≡ add_path → r.extended ≡ extended → IsStrictlySortedBy key_ord.ghosts.cmp (keys_of t.rows) → HasReadAll left now r t messages eors
+    → reported (row_texts t.rows ++ totals_text messages eors (length t.rows) (length r.left) ∷ []) → IsDone add_path extended left now reported
+done left now add_path extended r t messages eors reported a x ascending h report =
+    let k = h.settled.checked in
+    record {
+      read = h.stream;
+      taken = h.taken;
+      ended = h.ended;
+      within = h.within;
+      texts = k.texts;
+      messages = k.given;
+      rest = r.left;
+      rows = t.rows;
+      decoded = record {
+        read = subst (λ (z : Bool). IsStream add_path z h.stream k.given r.left) x (subst (λ (z : Bool). IsStream z r.extended h.stream k.given r.left) a (settled_stream r t messages eors h.stream h.settled));
+        spelled = subst (λ (z : Bool). EachSpells add_path z k.texts k.given) x (subst (λ (z : Bool). EachSpells z r.extended k.texts k.given) a k.spelled);
+        parts = k.parts;
+        table = record { ascending = in_order (keys_of t.rows) ascending; each = k.rows };
+      };
+      report = subst reported
+          (ap (λ (n : ℕ). row_texts t.rows ++ totals_text n eors (length t.rows) (length r.left) ∷ []) k.messages_are
+          ∙ ap (λ (n : ℕ). row_texts t.rows ++ totals_text (length k.given) n (length t.rows) (length r.left) ∷ []) k.eors_are) report;
+    }

@@ -1,0 +1,4 @@
+pub mod Steps
+pub mod Reports
+pub mod Streams
+pub mod Done

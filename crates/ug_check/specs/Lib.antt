@@ -1,0 +1,4 @@
+pub mod Decoded
+pub mod Checks
+pub mod Checkers
+pub mod Written

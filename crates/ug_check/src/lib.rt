@@ -1,0 +1,11 @@
+//! The check of a session's bytes: what they leave at the receiver, or their first fault.
+#![tactic(auto)]
+
+mod checker;
+mod checking;
+mod report;
+mod stop;
+mod stream;
+
+pub use checking::check;
+pub use stop::Stop;

@@ -1,0 +1,61 @@
+//! Reading a stream to its end.
+
+ghost use Rattle.std.specs.Prelude.{◌≡◌, ◌≤◌, IfOk, IfErr, IsErrOf};
+ghost use Rattle.ug_edge.specs.Told.{Rose};
+ghost use Rattle.ug_check.specs.Checks.{HasStopped};
+ghost use Rattle.ug_check.specs.Checkers.{HasReadAll};
+
+use crate::checker::Checker;
+use crate::stop::Stop;
+use std::alloc::Global;
+use ug_edge::{Failed, Source};
+
+/// The most bytes of a stream.
+const MOST_BYTES: usize = 1 << 30;
+
+/// How many bytes are asked for at once.
+const PIECE: usize = 1 << 16;
+
+/// Reads the whole stream, and never holds more of it than a piece and a message.
+pub fn read_stream<E: Source>(
+    alloc: Global,
+    add_path: bool,
+    extended: bool,
+    source: &mut E,
+) -> Result<Checker, Stop>
+    ensures ok { IfOk result (λ checker. HasReadAll (E.left source.old) (E.left source.new) checker.reader checker.table checker.messages checker.eors) }
+    ensures add_path { IfOk result (λ checker. checker.reader.add_path ≡ add_path) }
+    ensures extended { IfOk result (λ checker. checker.reader.extended ≡ extended) }
+    ensures stopped { IfErr result (λ stop. HasStopped stop add_path extended (E.left source.old) (E.left source.new)) }
+    ensures unread { IsErrOf result Stop.Read → Rose (E.faults source.old) (E.faults source.new) }
+    ensures no_report { IsErrOf result Stop.Report → ⊥ }
+    ensures faults { E.faults source.old ≤ E.faults source.new }
+    ensures files { E.files source.new ≡ E.files source.old }
+    ensures wire_faults { E.wire_faults source.new ≡ E.wire_faults source.old }
+{
+    let mut buffer = match vec![in alloc; 0u8; PIECE] {
+        Ok(buffer) => buffer,
+        Err(_) => return Err(Stop::NoMemory),
+    };
+    let mut checker = Checker::new(alloc, add_path, extended);
+    let mut total: usize = 0;
+    loop {
+        let count = match source.read(buffer.as_mut_slice()) {
+            Ok(count) => count,
+            Err(Failed) => return Err(Stop::Read),
+        };
+        if count == 0 {
+            return Ok(checker);
+        }
+        let within = count.min(MOST_BYTES - total);
+        let (piece, _) = buffer.as_slice().split_at(within);
+        match checker.take_piece(piece) {
+            Ok(()) => {}
+            Err(stop) => return Err(stop),
+        }
+        if within < count {
+            return Err(Stop::TooLong);
+        }
+        total += count;
+    }
+}

@@ -1,0 +1,3 @@
+pub mod Reporting
+pub mod AppendingLaws
+pub mod ReadingLaws

@@ -1,0 +1,41 @@
+//! What frames each command: the file that it reads, and its status line.
+
+ghost use Rattle.std.specs.Prelude.{◌≡◌, ◌≤◌, [], OnOk, IfErr, IsErrOf, true};
+ghost use Rattle.ug_edge.specs.Told.{Rose, HasPicked};
+ghost use Rattle.ug_run.specs.Statuses.{status_text, is_fixed};
+ghost use Rattle.ug_run.specs.Promise.{AppendsThenStatus};
+ghost use Rattle.ug_run.specs.Ending.{IsUnbegun};
+
+use crate::status::Status;
+use ug_edge::{Failed, Sink, Site, SiteFault};
+use ug_pieces::write_all;
+
+/// Picks a file.
+pub fn pick<E: Site>(name: &str, site: &mut E) -> Result<(), Status>
+    ensures picked { OnOk result (HasPicked (E.files site.old) name.now (E.left site.new)) }
+    ensures status { IfErr result IsUnbegun }
+    ensures fixed { IfErr result (λ status. is_fixed status ≡ true) }
+    ensures failed { IsErrOf result Status.ReadFault → Rose (E.faults site.old) (E.faults site.new) }
+    ensures faults { E.faults site.old ≤ E.faults site.new }
+    ensures files { E.files site.new ≡ E.files site.old }
+    ensures wire_faults { E.wire_faults site.new ≡ E.wire_faults site.old }
+{
+    match site.pick(name) {
+        Ok(()) => Ok(()),
+        Err(SiteFault::Failed) => Err(Status::ReadFault),
+        Err(SiteFault::NoMemory) => Err(Status::NoMemory),
+    }
+}
+
+/// Tries the status line once.
+pub fn end<K: Sink>(report: &mut K, status: Status) -> Status
+    requires { is_fixed status ≡ true }
+    ensures status { result ≡ status }
+    ensures report { AppendsThenStatus (K.held report.old) (K.held report.new) (Rose (K.faults report.old) (K.faults report.new)) [] (status_text status) }
+    ensures faults { K.faults report.old ≤ K.faults report.new }
+{
+    match write_all(report, status.text()) {
+        Ok(()) => status,
+        Err(Failed) => status,
+    }
+}
