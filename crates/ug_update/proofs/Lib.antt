@@ -4,3 +4,4 @@ pub mod RouteFaults
 pub mod Headers
 pub mod Fronts
 pub mod Goes
+pub mod Whole

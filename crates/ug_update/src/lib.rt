@@ -5,6 +5,7 @@
 mod ahead;
 mod alike;
 mod fault;
+mod laws;
 mod parts;
 mod reader;
 mod reading;
@@ -12,6 +13,7 @@ mod window;
 mod writing;
 
 pub use alike::routes_are_alike;
+pub use laws::{streams, whole_messages};
 pub use reader::Reader;
 pub use writing::{write_eor, write_update, write_withdraw};
 

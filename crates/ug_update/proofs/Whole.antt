@@ -1,0 +1,95 @@
+-- Laws of whole messages: where one ends, and that it says one thing.
+use Rattle.std.proofs.Common.{◌≡◌, ℕ, ◌⊎◌, inl, inr, Bool, List, [], ◌∷◌, ◌++◌, length, take, drop, Option, Some, None, Result, Ok, Err, refl, sym, ap, subst, ◌∙◌, arith, append_assoc, length-append}
+use Rattle.std.proofs.lemmas.List.{take-append-le, take_at, drop_at}
+use Rattle.ug_types.specs.Messages.{Message}
+use Rattle.ug_attrwire.specs.Walking.{Fault}
+use Rattle.ug_update.specs.Reading.{message_size, header_fault, read_body, unless_faulty, read_message, IsWhole, Spells, HasFault}
+use Rattle.ug_update.specs.Streams.{AreSpelled, IsUnfinished, IsStream}
+use Rattle.ug_update.proofs.Headers.{same_size}
+
+-- what follows a whole message doesn't change its header
+size_before : (m more : List ℕ) → IsWhole m → message_size (m ++ more) ≡ length m
+size_before m more w = same_size (m ++ more) m (take-append-le 19 m more w.has_header) ∙ sym w.size
+
+none_left : (more : List ℕ) → length more ≡ 0 → more ≡ []
+none_left [] e = refl
+none_left (b ∷ more) e = absurd (omega arith)
+
+pub no_proper_prefix : (m other more : List ℕ) → IsWhole m → IsWhole other → other ≡ m ++ more → more ≡ []
+no_proper_prefix m other more w v e =
+    let size : length other ≡ length m = v.size ∙ ap (λ (b : List ℕ). message_size b) e ∙ size_before m more w in
+    none_left more (omega (arith, size, ap (λ (b : List ℕ). length b) e, length-append m more))
+
+-- ---- one thing said, or one fault
+
+decided : (r : Result Message Fault) → ((says : Message) × (r ≡ Ok says)) ⊎ ((first : Fault) × (r ≡ Err first))
+decided (Ok says) = inl (says, refl)
+decided (Err first) = inr (first, refl)
+
+pub says_or_fails : (add_path extended : Bool) (m : List ℕ) → IsWhole m → ((says : Message) × Spells add_path extended m says) ⊎ ((first : Fault) × HasFault add_path extended m first)
+says_or_fails add_path extended m w =
+    elim (decided (read_message add_path extended m)) [
+      | inl x ↦ inl (x.0, record { whole = w; read = x.1 })
+      | inr x ↦ inr (x.0, record { whole = w; read = x.1 })
+    ]
+
+pub says_once : (add_path extended : Bool) (m : List ℕ) (one other : Message) → Spells add_path extended m one → Spells add_path extended m other → one ≡ other
+says_once add_path extended m one other s t = let e : Ok one ≡ Ok other = sym s.read ∙ t.read in cc
+
+pub fails_once : (add_path extended : Bool) (m : List ℕ) (one other : Fault) → HasFault add_path extended m one → HasFault add_path extended m other → one ≡ other
+fails_once add_path extended m one other s t = let e : Err one ≡ Err other = sym s.read ∙ t.read in cc
+
+pub never_both : (add_path extended : Bool) (m : List ℕ) (says : Message) (first : Fault) → Spells add_path extended m says → HasFault add_path extended m first → ⊥
+never_both add_path extended m says first s t = let e : Ok says ≡ Err first = sym s.read ∙ t.read in absurd cc
+
+-- ---- one reading of a stream
+
+no_fault : (h : Option Fault) (r : Result Message Fault) (says : Message) → unless_faulty h r ≡ Ok says → h ≡ None
+no_fault None r says e = refl
+no_fault (Some f) r says e = absurd cc
+
+spelled_header : (add_path extended : Bool) (m : List ℕ) (says : Message) → Spells add_path extended m says → header_fault extended m ≡ None
+unfolding read_message
+spelled_header add_path extended m says s = no_fault (header_fault extended m) (read_body add_path m) says s.read
+
+-- a whole message at the front is no unfinished one
+not_unfinished : (add_path extended : Bool) (m more : List ℕ) (says : Message) → Spells add_path extended m says → IsUnfinished extended (m ++ more) → ⊥
+not_unfinished add_path extended m more says s (inl short) = omega (arith, s.whole.has_header, length-append m more)
+not_unfinished add_path extended m more says s (inr cut) = omega (arith, cut.1, size_before m more s.whole, length-append m more)
+
+front_is : (m other more rest : List ℕ) → IsWhole m → IsWhole other → m ++ more ≡ other ++ rest → length m ≡ length other
+front_is m other more rest w v e = sym (size_before m more w) ∙ ap (λ (b : List ℕ). message_size b) e ∙ size_before other rest v
+
+same_front : (m other more rest : List ℕ) → length m ≡ length other → m ++ more ≡ other ++ rest → (m ≡ other) × (more ≡ rest)
+same_front m other more rest len e = (
+  sym (take_at m more (length other) len) ∙ ap (λ (b : List ℕ). take (length other) b) e ∙ take_at other rest (length other) refl,
+  sym (drop_at m more (length other) len) ∙ ap (λ (b : List ℕ). drop (length other) b) e ∙ drop_at other rest (length other) refl,
+)
+
+record Same (ms ns : List Message) (left rest : List ℕ) : Type 0 where
+  messages : ms ≡ ns
+  rests : left ≡ rest
+
+same_stream : (add_path extended : Bool) (ms ns : List Message) (whole other left rest : List ℕ) → AreSpelled add_path extended ms whole → AreSpelled add_path extended ns other
+    → IsUnfinished extended left → IsUnfinished extended rest → whole ++ left ≡ other ++ rest → Same ms ns left rest
+same_stream add_path extended [] [] whole other left rest s t u v e =
+    record { messages = refl; rests = ap (λ (w : List ℕ). w ++ left) (sym s) ∙ e ∙ ap (λ (w : List ℕ). w ++ rest) t }
+same_stream add_path extended [] (n ∷ ns) whole other left rest s t u v e =
+    let begins : left ≡ t.0 ++ (t.1 ++ rest) = ap (λ (w : List ℕ). w ++ left) (sym s) ∙ e ∙ ap (λ (w : List ℕ). w ++ rest) t.3 ∙ append_assoc t.0 t.1 rest in
+    absurd (not_unfinished add_path extended t.0 (t.1 ++ rest) n t.2 (subst (λ (b : List ℕ). IsUnfinished extended b) begins u))
+same_stream add_path extended (m ∷ ms) [] whole other left rest s t u v e =
+    let begins : rest ≡ s.0 ++ (s.1 ++ left) = ap (λ (w : List ℕ). w ++ rest) (sym t) ∙ sym e ∙ ap (λ (w : List ℕ). w ++ left) s.3 ∙ append_assoc s.0 s.1 left in
+    absurd (not_unfinished add_path extended s.0 (s.1 ++ left) m s.2 (subst (λ (b : List ℕ). IsUnfinished extended b) begins v))
+same_stream add_path extended (m ∷ ms) (n ∷ ns) whole other left rest s t u v e =
+    let regrouped : s.0 ++ (s.1 ++ left) ≡ t.0 ++ (t.1 ++ rest) =
+    sym (append_assoc s.0 s.1 left) ∙ ap (λ (w : List ℕ). w ++ left) (sym s.3) ∙ e ∙ ap (λ (w : List ℕ). w ++ rest) t.3 ∙ append_assoc t.0 t.1 rest in
+    let front = same_front s.0 t.0 (s.1 ++ left) (t.1 ++ rest) (front_is s.0 t.0 (s.1 ++ left) (t.1 ++ rest) s.2.whole t.2.whole regrouped) regrouped in
+    let said = says_once add_path extended t.0 m n (subst (λ (b : List ℕ). Spells add_path extended b m) front.0 s.2) t.2 in
+    let more = same_stream add_path extended ms ns s.1 t.1 left rest s.4 t.4 u v front.1 in
+    record { messages = ap (λ (x : Message). x ∷ ms) said ∙ ap (λ (xs : List Message). n ∷ xs) more.messages; rests = more.rests }
+
+pub one_stream : (add_path extended : Bool) (stream : List ℕ) (ms ns : List Message) (left rest : List ℕ) → IsStream add_path extended stream ms left → IsStream add_path extended stream ns rest
+    → (ms ≡ ns) × (left ≡ rest)
+one_stream add_path extended stream ms ns left rest s t =
+    let same = same_stream add_path extended ms ns s.whole t.whole left rest s.are_spelled t.are_spelled s.is_unfinished t.is_unfinished (sym s.parts ∙ t.parts) in
+    (same.messages, same.rests)

@@ -1,0 +1,27 @@
+//! Laws over the definitions, each on a function that does nothing.
+
+ghost use Rattle.std.specs.Prelude.{◌≡◌, ◌++◌, ◌⊎◌, Bool, List, ℕ, []};
+ghost use Rattle.ug_types.specs.Messages.{Message};
+ghost use Rattle.ug_attrwire.specs.Walking.{Fault};
+ghost use Rattle.ug_update.specs.Reading.{IsWhole, Spells, HasFault};
+ghost use Rattle.ug_update.specs.Streams.{IsStream};
+
+/// No whole message is a proper front of another. A whole message says one thing or has one first fault, and never
+/// both.
+pub fn whole_messages()
+    ensures no_proper_prefix { (m : List ℕ) → (other : List ℕ) → (more : List ℕ) → IsWhole m → IsWhole other → other ≡ m ++ more → more ≡ [] }
+    ensures either { (add_path : Bool) → (extended : Bool) → (m : List ℕ) → IsWhole m →
+        (((says : Message) × Spells add_path extended m says) ⊎ ((first : Fault) × HasFault add_path extended m first)) }
+    ensures says_once { (add_path : Bool) → (extended : Bool) → (m : List ℕ) → (one : Message) → (other : Message) →
+        Spells add_path extended m one → Spells add_path extended m other → one ≡ other }
+    ensures fails_once { (add_path : Bool) → (extended : Bool) → (m : List ℕ) → (one : Fault) → (other : Fault) →
+        HasFault add_path extended m one → HasFault add_path extended m other → one ≡ other }
+    ensures never_both { (add_path : Bool) → (extended : Bool) → (m : List ℕ) → (says : Message) → (first : Fault) →
+        Spells add_path extended m says → HasFault add_path extended m first → ⊥ }
+{}
+
+/// A stream is in one way these messages and then less than a whole one, so it doesn't matter in which pieces it comes.
+pub fn streams()
+    ensures { (add_path : Bool) → (extended : Bool) → (stream : List ℕ) → (messages : List Message) → (others : List Message) → (left : List ℕ) → (rest : List ℕ) →
+        IsStream add_path extended stream messages left → IsStream add_path extended stream others rest → (messages ≡ others) × (left ≡ rest) }
+{}
