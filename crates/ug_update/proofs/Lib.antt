@@ -5,3 +5,4 @@ pub mod Headers
 pub mod Fronts
 pub mod Goes
 pub mod Whole
+pub mod FromStart

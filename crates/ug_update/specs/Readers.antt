@@ -94,7 +94,7 @@ ahead_of (ahead.Faulty f) = Faulty (fault_of f)
 ahead_of ahead.Awaited = Awaited
 
 abbrev pub IsSized : List ℕ → Ahead → Type 0
-IsSized bytes (ahead.Message item size) = (size ≡ message_size bytes) × (size ≤ length bytes)
+IsSized bytes (ahead.Message item size) = (size ≡ message_size bytes) × (0 < size) × (size ≤ length bytes)
 IsSized bytes (ahead.Faulty f) = f.place ≤ length bytes
 IsSized bytes ahead.Awaited = Unit {0}
 

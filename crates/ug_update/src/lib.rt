@@ -18,4 +18,8 @@ pub use reader::Reader;
 pub use writing::{write_eor, write_update, write_withdraw};
 
 #[cfg(test)]
+mod plain;
+#[cfg(test)]
+mod read_tests;
+#[cfg(test)]
 mod tests;

@@ -63,6 +63,7 @@ impl Reader {
     pub fn feed(&mut self, piece: &[u8]) -> Result<(), NoMemory>
         requires { self.old.stopped ≡ false → self.old.taken + length self.old.left + length piece.now < 2 ^ 64 }
         ensures ok { OnOk result (self.new ≡ fed self.old piece.now) }
+        ensures size { self.new.taken + length self.new.left ≤ self.old.taken + length self.old.left + length piece.now }
         ensures err { OnErr result (self.new ≡ self.old) }
         // The stream goes on with the piece.
         ensures stream { OnOk result (self.old.stopped ≡ false →
@@ -79,6 +80,8 @@ impl Reader {
     pub fn next(&mut self) -> Result<Next, NoMemory>
         ensures answer { IfOk result (λ next. answer_of next ≡ answer_at self.old.taken (front self.old)) }
         ensures state { OnOk result (self.new ≡ state_after self.old (front self.old)) }
+        // No byte is lost: what is taken is no longer left.
+        ensures size { self.new.taken + length self.new.left ≡ self.old.taken + length self.old.left }
         ensures err { OnErr result (self.new ≡ self.old) }
         // Of the whole stream that was fed, in whatever pieces, these are the messages, and the answer is right.
         ensures given { IfOk result (λ next. (stream : List ℕ) → (given : List messages.Message) →
@@ -93,6 +96,7 @@ impl Reader {
     fn step(&mut self) -> Result<Next, NoMemory>
         ensures answer { IfOk result (λ next. answer_of next ≡ answer_at self.old.taken (front self.old)) }
         ensures state { OnOk result (self.new ≡ state_after self.old (front self.old)) }
+        ensures size { self.new.taken + length self.new.left ≡ self.old.taken + length self.old.left }
         ensures err { OnErr result (self.new ≡ self.old) }
         ensures settled { self.old.stopped ≡ true → IsOk result }
     {
@@ -139,7 +143,7 @@ fn bad(taken: u64, fault: Fault) -> Next
 
 /// What the bytes begin with.
 #[tactic(auto, using(crate::proofs::Headers::body_size), unfolding(crate::specs::Streams::front_of))]
-fn ahead(alloc: Global, add_path: bool, extended: bool, bytes: &[u8]) -> Result<Ahead, NoMemory>
+pub fn ahead(alloc: Global, add_path: bool, extended: bool, bytes: &[u8]) -> Result<Ahead, NoMemory>
     ensures exact { IfOk result (λ a. ahead_of a ≡ front_of add_path extended bytes.now) }
     ensures size { IfOk result (IsSized bytes.now) }
 {
