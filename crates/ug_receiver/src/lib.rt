@@ -6,3 +6,6 @@ mod stale;
 mod table;
 
 pub use table::Table;
+
+#[cfg(test)]
+mod tests;
