@@ -4,3 +4,4 @@ pub mod Sound
 pub mod Walking
 pub mod Reading
 pub mod Views
+pub mod Spellable

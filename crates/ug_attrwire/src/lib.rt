@@ -14,5 +14,5 @@ mod writing;
 
 pub use fault::AttrFault;
 pub use reading::read_attrs;
-pub use short::values_are_short;
+pub use short::{attributes_again, values_are_short};
 pub use writing::{size_of, write_attrs};
