@@ -3,7 +3,6 @@ use Rattle.std.proofs.Common.{◌≡◌, ℕ, Bool, List, [], ◌∷◌, ◌++�
 use Rattle.std.specs.List.{AllByRecursion}
 use Rattle.std.specs.List.Sorted.{IsStrictlySortedBy}
 use Rattle.std.specs.Map.{keys_of}
-use Rattle.std.specs.declared.cmp.Ordering.{Ordering}
 use Rattle.std.specs.declared.cmp.Ordering.TheVariants.{Less}
 use Rattle.ug_types.specs.declared.key.Key.{Key}
 use Rattle.ug_types.specs.declared.family.Family.{Family}
@@ -12,7 +11,7 @@ use Rattle.ug_types.specs.contracts.key.KeyOrd.TheImpl as key_ord
 use Rattle.ug_update.specs.Streams.{IsStream}
 use Rattle.ug_update.specs.Readers.{ReaderState}
 use Rattle.ug_receiver.specs.Rows.{Rows}
-use Rattle.ug_check.specs.Decoded.{EachSpells, key_cmp, AreRows, row_texts, totals_text, ends_of_rib, check_lines}
+use Rattle.ug_check.specs.Decoded.{EachSpells, key_cmp, row_texts, totals_text}
 use Rattle.ug_check.specs.Checks.{IsDone}
 use Rattle.ug_check.specs.Checkers.{HasReadAll}
 use Rattle.ug_check.proofs.Streams.{settled_stream}

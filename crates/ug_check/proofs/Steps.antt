@@ -1,19 +1,16 @@
 -- How a checker goes on by one message.
-use Rattle.std.proofs.Common.{◌≡◌, ℕ, ◌+◌, ◌-◌, ◌≤◌, Bool, true, false, cond, List, [], ◌∷◌, ◌++◌, length, take, drop, Option, Some, None, refl, sym, ap, subst, ◌∙◌, arith, append_assoc, length-append}
+use Rattle.std.proofs.Common.{◌≡◌, ℕ, ◌+◌, ◌-◌, ◌≤◌, Bool, false, List, [], ◌∷◌, ◌++◌, length, take, drop, Option, Some, None, refl, sym, ap, subst, ◌∙◌, arith, append_assoc, length-append}
 use Rattle.std.specs.Prelude.{IfNone, IfSome, is_some, not, ◌&&◌, ◌||◌, if◌then◌else◌}
 use Rattle.std.specs.List.{concat}
 use Rattle.std.proofs.lemmas.List.{append-nil, take-append-drop, length-take-le, length-drop}
 use Rattle.std.proofs.lemmas.List.Folds.{concat-append}
 use Rattle.ug_types.specs.declared.key.Key.{Key}
-use Rattle.ug_types.specs.declared.message.Next.{Next}
-use Rattle.ug_types.specs.declared.message.Next.TheVariants as nexts
-use Rattle.ug_types.specs.Messages.{Message, Updates, Begins, Ends, Ignored, message_of}
+use Rattle.ug_types.specs.Messages.{Message, Updates, Begins, Ends, Ignored}
 use Rattle.ug_tables.specs.Tables.{Reading, applied, reading_from, nothing_read, among}
 use Rattle.ug_update.specs.Reading.{message_size, Spells}
 use Rattle.ug_update.specs.Streams.{Front, Says, Faulty, Awaited}
-use Rattle.ug_update.specs.Readers.{ReaderState, Answer, Gives, Waits, IsBad, answer_of, answer_at, front, behind_message, state_after, fed, HasRead}
+use Rattle.ug_update.specs.Readers.{ReaderState, Gives, Waits, answer_at, front, behind_message, state_after, fed}
 use Rattle.ug_update.proofs.Fronts.{says_first}
-use Rattle.ug_update.proofs.Headers.{body_size}
 use Rattle.ug_update.proofs.Goes.{one_given}
 use Rattle.ug_receiver.specs.Rows.{Rows, reading_of}
 use Rattle.ug_check.specs.Decoded.{EachSpells, is_end_of_rib, ends_of_rib}

@@ -1,8 +1,6 @@
 -- A stream, piece by piece.
-use Rattle.std.proofs.Common.{◌≡◌, ℕ, ◌+◌, ◌-◌, ◌<◌, ◌≤◌, Bool, List, [], ◌∷◌, ◌++◌, length, take, Option, refl, sym, ap, subst, ◌∙◌, arith, inl, length-append}
-use Rattle.std.specs.List.{concat}
+use Rattle.std.proofs.Common.{◌≡◌, ℕ, ◌+◌, ◌-◌, ◌<◌, ◌≤◌, Bool, List, [], ◌++◌, length, take, Option, refl, sym, ap, subst, ◌∙◌, arith, inl, length-append}
 use Rattle.std.proofs.lemmas.List.{append-nil, length-take}
-use Rattle.ug_types.specs.Messages.{Message}
 use Rattle.ug_edge.specs.Told.{TakesFront, IsEnded}
 use Rattle.ug_pieces.specs.ReadingLaws.{TakesFront-none, TakesFront-more, ended_after, take_past, take_front}
 use Rattle.ug_update.specs.Streams.{IsStream}

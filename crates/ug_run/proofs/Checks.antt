@@ -1,11 +1,11 @@
 -- How a check keeps its promise, whatever its end.
-use Rattle.std.proofs.Common.{◌≡◌, ℕ, Bool, List, [], ◌++◌, Option, inl, inr, refl, sym, ap, subst, ◌∙◌}
+use Rattle.std.proofs.Common.{◌≡◌, ℕ, List, [], Option, inl, inr, sym, subst}
 use Rattle.std.specs.Prelude.{◌⊎◌}
 use Rattle.std.specs.List.{concat}
 use Rattle.std.proofs.lemmas.List.{append-nil}
 use Rattle.ug_edge.specs.Told.{AppendsPiece, HasPicked, FileText}
 use Rattle.ug_pieces.specs.Reporting.{AppendsFront}
-use Rattle.ug_check.specs.Checks.{HasStopped, IsDone, HasEnded, IsReportedUntil, AppendsLines}
+use Rattle.ug_check.specs.Checks.{HasStopped, IsDone, HasEnded, IsReportedUntil}
 use Rattle.ug_check.specs.declared.stop.Stop.{Stop}
 use Rattle.ug_check.specs.declared.stop.Stop.TheVariants as stops
 use Rattle.ug_run.specs.Words.{CheckCommand}

@@ -1,9 +1,8 @@
 -- A session opens with its one End-of-RIB.
-use Rattle.std.proofs.Common.{◌≡◌, ℕ, zero, suc, ◌+◌, ◌≤◌, Bool, true, false, cond, List, [], ◌∷◌, take, Option, Some, None, refl, sym, ap, ◌∙◌, arith}
+use Rattle.std.proofs.Common.{◌≡◌, ℕ, zero, suc, ◌+◌, ◌≤◌, Bool, true, false, cond, List, [], ◌∷◌, take, Some, refl, sym, ap, ◌∙◌, arith}
 use Rattle.std.specs.Prelude.{slice_get}
 use Rattle.std.specs.List.{AllByRecursion}
 use Rattle.ug_types.specs.Messages.{Message}
-use Rattle.ug_types.specs.declared.key.Key.{Key}
 use Rattle.ug_message.specs.Streams.{says_nothing}
 use Rattle.ug_tables.specs.Tables.{table_of}
 use Rattle.ug_event.specs.Events.{Line}

@@ -1,10 +1,9 @@
 -- What was read of a file, piece by piece.
-use Rattle.std.proofs.Common.{min, ◌≡◌, ℕ, zero, suc, ◌+◌, ◌-◌, ◌<◌, ◌≤◌, Bool, true, false, ◌&&◌, cond, leb, List, [], ◌∷◌, ◌++◌, map, length, take, drop, Option, Some, None, refl, sym, ap, subst, ◌∙◌, append_assoc, arith, inl, inr}
+use Rattle.std.proofs.Common.{min, ◌≡◌, ℕ, zero, suc, ◌+◌, ◌-◌, ◌<◌, ◌≤◌, Bool, true, false, ◌&&◌, cond, leb, List, [], ◌∷◌, ◌++◌, map, length, take, Option, refl, sym, ap, subst, ◌∙◌, append_assoc, arith, inl, inr}
 use Rattle.std.proofs.lemmas.Bool.{cases_lt, le-leb, lt-leb}
 use Rattle.std.proofs.lemmas.List.{append-nil, length-append, length-map, length-take, map-append}
-use Rattle.std.proofs.Math.Seq.{take-append_seam}
 use Rattle.ug_types.specs.Ip.{IpPrefix}
-use Rattle.ug_edge.specs.Told.{Rose, TakesFront, IsEnded}
+use Rattle.ug_edge.specs.Told.{TakesFront, IsEnded}
 use Rattle.ug_run.specs.Lines.{ended_from, rest_from, most_bytes, most_lines, lines_read}
 use Rattle.ug_event.specs.Bytes.{where_some_bytes}
 use Rattle.ug_run.specs.Limits.{IsPastLimits}

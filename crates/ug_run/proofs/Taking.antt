@@ -7,9 +7,8 @@ use Rattle.std.proofs.lemmas.List.Folds.{concat-append}
 use Rattle.ug_types.specs.Ip.{IpPrefix}
 use Rattle.ug_edge.specs.Told.{AppendsPiece}
 use Rattle.ug_rib.specs.World.{World}
-use Rattle.ug_event.specs.Events.{Line, Blank, Happened, Refused}
+use Rattle.ug_event.specs.Events.{Line, Blank}
 use Rattle.ug_rib.specs.Worlds.{Outcome, Passes, Accepts, Refuses, outcome, world_after, last_world}
-use Rattle.ug_rib.specs.One.{one_world, local_path}
 use Rattle.ug_run.specs.Report.{refusal_text, where_refused, line_texts, one_if_accepted, one_if_refused, accepted_count, refused_count}
 use Rattle.ug_run.specs.Course.{opened, run_world, IsCourse, IsTally}
 use Rattle.ug_pieces.specs.Reporting.{AppendsFront}

@@ -16,6 +16,8 @@ use ug_edge::{CallKind, Cut, FailAt, File, MemSink, MemSite, MemWire};
 use ug_event::{Event, Line, read_line};
 use ug_types::{ByteList, NoMemory, NumberList, Sequence, Steps};
 
+mod check;
+
 const WORDS: &[&str] = &["one", "e", "d"];
 
 /// What is run, and what of the outside fails.

@@ -1,4 +1,4 @@
-use Rattle.std.proofs.Common.{◌≡◌, List, ℕ, inl, inr, refl}
+use Rattle.std.proofs.Common.{List, ℕ, inl, inr, refl}
 use Rattle.std.specs.List.{concat}
 use Rattle.ug_edge.specs.Told.{AppendsPiece}
 use Rattle.ug_check.specs.Checks.{IsReportedUntil}

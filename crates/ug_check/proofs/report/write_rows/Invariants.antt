@@ -1,4 +1,4 @@
-use Rattle.std.proofs.Common.{◌≡◌, ◌≤◌, ℕ, List, ◌++◌, Option}
+use Rattle.std.proofs.Common.{◌≤◌, ℕ, List, ◌++◌, Option}
 use Rattle.std.specs.String.{string_bytes}
 use Rattle.ug_check.specs.Decoded.{row_texts}
 use Rattle.ug_check.specs.Written.{HasWritten}

@@ -1,4 +1,4 @@
-use Rattle.std.proofs.Common.{◌≡◌, ℕ, ◌+◌, ◌-◌, List, length, take, refl, sym, ap, ◌∙◌, arith, rules}
+use Rattle.std.proofs.Common.{◌≡◌, ℕ, ◌+◌, ◌-◌, List, length, take, refl, ap, ◌∙◌, arith, rules}
 use Rattle.ug_update.specs.Readers.{ReaderState}
 use Rattle.ug_pieces.specs.ReadingLaws.{Rose-later, taken_none, piece_within, buffer_back}
 use Rattle.ug_check.specs.Checks.{most_bytes}

@@ -1,4 +1,4 @@
-use Rattle.std.proofs.Common.{[], sym, subst}
+use Rattle.std.proofs.Common.{[], subst}
 use Rattle.ug_pieces.specs.ReadingLaws.{Rose-later}
 use Rattle.ug_check.specs.Checks.{HasEnded}
 use Rattle.ug_check.specs.declared.stop.Stop.{Stop}

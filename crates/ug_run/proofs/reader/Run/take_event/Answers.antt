@@ -1,5 +1,4 @@
-use Rattle.std.proofs.Common.{◌≡◌, sym, ap, ◌∙◌, false, rules}
-use Rattle.std.specs.Prelude.{not, Bool}
+use Rattle.std.proofs.Common.{rules}
 use Rattle.ug_types.specs.contracts.prefix.PrefixOrd.TheImpl as prefix_ord
 use Rattle.ug_event.specs.Origins.{origin_number}
 use Rattle.ug_event.specs.Views.{paths_seen}

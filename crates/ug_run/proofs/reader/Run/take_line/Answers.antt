@@ -1,6 +1,5 @@
-use Rattle.std.proofs.Common.{sym, refl}
-use Rattle.ug_event.specs.Views.{event_seen}
-use Rattle.ug_event.specs.Events.{Happened, Refused}
+use Rattle.std.proofs.Common.{refl}
+use Rattle.ug_event.specs.Events.{Refused}
 use Rattle.ug_run.proofs.Taking.{IsRun-blank, OnOk-then, IfErr-then}
 use Rattle.ug_run.proofs.reader.Run.take_line.Goals as goal
 
