@@ -6,3 +6,5 @@ pub mod Fronts
 pub mod Goes
 pub mod Whole
 pub mod FromStart
+pub mod WrittenAgain
+pub mod Spelled

@@ -3,3 +3,4 @@ pub mod Reading
 pub mod Streams
 pub mod Views
 pub mod Readers
+pub mod Spellable

@@ -1,9 +1,11 @@
 //! Laws over the definitions, each on a function that does nothing.
 
-ghost use Rattle.std.specs.Prelude.{◌≡◌, ◌++◌, ◌⊎◌, Bool, List, ℕ, []};
+ghost use Rattle.std.specs.Prelude.{◌≡◌, ◌++◌, ◌⊎◌, Bool, List, ℕ, [], Some};
 ghost use Rattle.ug_types.specs.Messages.{Message};
 ghost use Rattle.ug_attrwire.specs.Walking.{Fault};
+ghost use Rattle.ug_message.specs.Texts.{written};
 ghost use Rattle.ug_update.specs.Reading.{IsWhole, Spells, HasFault};
+ghost use Rattle.ug_update.specs.Spellable.{IsSpellable};
 ghost use Rattle.ug_update.specs.Streams.{IsStream};
 
 /// No whole message is a proper front of another. A whole message says one thing or has one first fault, and never
@@ -24,4 +26,12 @@ pub fn whole_messages()
 pub fn streams()
     ensures { (add_path : Bool) → (extended : Bool) → (stream : List ℕ) → (messages : List Message) → (others : List Message) → (left : List ℕ) → (rest : List ℕ) →
         IsStream add_path extended stream messages left → IsStream add_path extended stream others rest → (messages ≡ others) × (left ≡ rest) }
+{}
+
+/// What is written of a message of IPv4 routes spells it, and nothing else.
+pub fn written_again()
+    ensures spells { (add_path : Bool) → (extended : Bool) → (m : Message) → (text : List ℕ) →
+        written add_path extended m ≡ Some text → IsSpellable add_path m → Spells add_path extended text m }
+    ensures only { (add_path : Bool) → (extended : Bool) → (m : Message) → (other : Message) → (text : List ℕ) →
+        written add_path extended m ≡ Some text → IsSpellable add_path m → Spells add_path extended text other → other ≡ m }
 {}

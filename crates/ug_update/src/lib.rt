@@ -13,7 +13,7 @@ mod window;
 mod writing;
 
 pub use alike::routes_are_alike;
-pub use laws::{streams, whole_messages};
+pub use laws::{streams, whole_messages, written_again};
 pub use reader::Reader;
 pub use writing::{write_eor, write_update, write_withdraw};
 
