@@ -11,6 +11,7 @@ use Rattle.ug_types.specs.Attributes.{PathSegment, Attributes, is_segment}
 use Rattle.ug_types.specs.Spelling.{attribute, well_known, optional, optional_transitive, where_present, where_some, numbers, four_bytes, segments, origin, as_path, next_hop, multi_exit_disc, local_pref, atomic_aggregate, aggregator, communities, originator_id, cluster_list, attributes}
 use Rattle.ug_attrwire.specs.Walking.{Fault, ◌>>=◌, walk}
 use Rattle.ug_attrwire.specs.Reading.{Attribute, ReadSoFar, nothing_read, has, was_there, is_known, are_flags, is_length, with_value, with_known, with_attribute, attribute_step, attributes_in, at_end, read_attributes}
+use Rattle.ug_attrwire.specs.Lengths.{HasShortValues}
 use Rattle.ug_attrwire.specs.Spellable.{AreNumbers, IsIpv4Address, IsIpv4Aggregator, IsSpellable}
 use Rattle.ug_attrwire.proofs.Heads.{length_numbers}
 use Rattle.ug_attrwire.proofs.ValuesAgain.{numbers_again, number_again, address_again, aggregator_again, path_again}
@@ -138,10 +139,10 @@ went1 : (a : Attributes) (place : ℕ) (rest : List ℕ) → nat_le a.origin 2 �
 went1 a place rest e =
     present 64 1 (a.origin ∷ []) rest nothing_read (r1 a) place written_64 (lit< tt) tt refl refl refl refl (origin_read a.origin (record nothing_read { types = 1 ∷ [] }) e)
 
-went2 : (a : Attributes) (t : List ℕ) (place : ℕ) (rest : List ℕ) → IsSpellable a → Below 2 t → Went 3 (r1 a t) place (attribute well_known 2 (segments a.path) ++ rest) rest (r2 a)
-went2 a t place rest s below =
+went2 : (a : Attributes) (t : List ℕ) (place : ℕ) (rest : List ℕ) → IsSpellable a → HasShortValues a → Below 2 t → Went 3 (r1 a t) place (attribute well_known 2 (segments a.path) ++ rest) rest (r2 a)
+went2 a t place rest s short below =
     let formed = both (list_all is_segment a.path) (nat_le a.origin 2) s.well_formed in
-    present 64 2 (segments a.path) rest (r1 a t) (r2 a) place written_64 (omega (arith, s.short.path)) below refl refl refl refl
+    present 64 2 (segments a.path) rest (r1 a t) (r2 a) place written_64 (omega (arith, short.path)) below refl refl refl refl
     (ap (λ (x : Result (List PathSegment) ℕ). x >>= λ p. Ok (record (r1 a (t ++ 2 ∷ [])) { path = Some p })) (path_again a.path formed.0 s.path))
 
 went3 : (a : Attributes) (t : List ℕ) (place : ℕ) (rest : List ℕ) → IsSpellable a → Below 3 t → Went 4 (r2 a t) place (attribute well_known 3 (four_bytes a.next_hop) ++ rest) rest (r3 a)
@@ -210,9 +211,9 @@ end_of true a = refl
 end_of false a = refl
 
 -- whether the attributes are needed or not
-pub attributes_again : (need : Bool) (a : Attributes) → IsSpellable a → read_attributes need (attributes a) ≡ Ok (Some a)
+pub attributes_again : (need : Bool) (a : Attributes) → IsSpellable a → HasShortValues a → read_attributes need (attributes a) ≡ Ok (Some a)
 unfolding read_attributes attributes
-attributes_again need a s =
+attributes_again need a s short =
     let formed = both (list_all is_segment a.path) (nat_le a.origin 2) s.well_formed in
     let k = cluster_list a ++ [] in
     let r = originator_id a ++ k in
@@ -224,15 +225,15 @@ attributes_again need a s =
     let n = next_hop a ++ m in
     let p = as_path a ++ n in
     let w1 = went1 a 0 p formed.1 in
-    let w2 = went2 a w1.types w1.at n s w1.below in
+    let w2 = went2 a w1.types w1.at n s short w1.below in
     let w3 = went3 a w2.types w2.at m s w2.below in
     let w4 = went4 a a.med w3.types w3.at l s.med w3.below in
     let w5 = went5 a a.local_pref w4.types w4.at t s.local_pref w4.below in
     let w6 = went6 a a.atomic w5.types w5.at g w5.below in
     let w7 = went7 a a.aggregator w6.types w6.at c s.aggregator w6.below in
-    let w8 = went8 a a.communities w7.types w7.at r s.communities s.short.communities w7.below in
+    let w8 = went8 a a.communities w7.types w7.at r s.communities short.communities w7.below in
     let w9 = went9 a a.originator w8.types w8.at k s.originator w8.below in
-    let w10 = went10 a a.clusters w9.types w9.at [] s.clusters s.short.clusters w9.below in
+    let w10 = went10 a a.clusters w9.types w9.at [] s.clusters short.clusters w9.below in
     let whole = ap (λ (b : List ℕ). walk attribute_step 0 0 nothing_read b)
     (regrouped (origin a) (as_path a) (next_hop a) (multi_exit_disc a) (local_pref a) (atomic_aggregate a) (aggregator a) (communities a) (originator_id a) (cluster_list a))
     ∙ w1.same ∙ w2.same ∙ w3.same ∙ w4.same ∙ w5.same ∙ w6.same ∙ w7.same ∙ w8.same ∙ w9.same ∙ w10.same in

@@ -4,7 +4,6 @@ use Rattle.ug_types.specs.declared.family.Family.TheVariants.{V4}
 use Rattle.ug_types.specs.declared.attrs.Aggregator.{Aggregator}
 use Rattle.ug_types.specs.Ip.{IpAddress, IsAddress}
 use Rattle.ug_types.specs.Attributes.{PathSegment, Attributes, IsAttributes}
-use Rattle.ug_attrwire.specs.Lengths.{HasShortValues}
 
 abbrev pub AreNumbers : List ℕ → Type 0
 AreNumbers [] = Unit {0}
@@ -23,8 +22,7 @@ pub record IsIpv4Aggregator (g : Aggregator) : Type 0 where
   pub asn : g.asn < 2 ^ 32
   pub addr : IsIpv4Address g.addr
 
--- segments of 1 to 255 numbers, an origin that has a meaning, addresses of IPv4, numbers of 32 bits, and no value
--- that is too long
+-- segments of 1 to 255 numbers, an origin that has a meaning, addresses of IPv4, and numbers of 32 bits
 pub record IsSpellable (a : Attributes) : Type 0 where
   pub well_formed : IsAttributes a
   pub path : HaveNumbers a.path
@@ -35,4 +33,3 @@ pub record IsSpellable (a : Attributes) : Type 0 where
   pub communities : AreNumbers a.communities
   pub originator : IfSome a.originator IsIpv4Address
   pub clusters : AreNumbers a.clusters
-  pub short : HasShortValues a

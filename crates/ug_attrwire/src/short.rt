@@ -13,5 +13,5 @@ pub fn values_are_short()
 
 /// Attributes that were written are read as the same, whether they are needed or not.
 pub fn attributes_again()
-    ensures { (need : Bool) → (a : Attributes) → IsSpellable a → read_attributes need (attributes a) ≡ Ok (Some a) }
+    ensures { (need : Bool) → (a : Attributes) → IsSpellable a → HasShortValues a → read_attributes need (attributes a) ≡ Ok (Some a) }
 {}

@@ -15,6 +15,7 @@ use Rattle.ug_nlri.proofs.Again.{route_again, length_route}
 use Rattle.ug_attrwire.specs.Walking.{Fault, ◌>>=◌, walk, with_one}
 use Rattle.ug_attrwire.specs.Reading.{read_attributes}
 use Rattle.ug_attrwire.specs.Spellable as attributes_spellable
+use Rattle.ug_attrwire.proofs.ShortValues.{short_values}
 use Rattle.ug_attrwire.proofs.AllAgain.{attributes_again}
 use Rattle.ug_attrwire.proofs.Walks.{walk_on}
 use Rattle.ug_update.specs.Reading.{size_at, message_size, is_size, header_fault, Parts, parts_in, one_route, route_read, routes_in, attributes_read, announces, read_update}
@@ -174,5 +175,5 @@ update_announcing add_path a key keys s h small =
     let read : Bool → Result Changes Fault = λ need. (attributes_read 21 (read_attributes need text) >>= λ attrs. (routes_in add_path place n >>= λ announced. Ok (record { withdrawn = []; attrs = if need then attrs else None; announced = announced }))) in
     update_by add_path [] text n (lit< tt) small
     ∙ ap read (some_routes add_path key keys h)
-    ∙ ap (λ (r : Result (Option Attributes) Fault). attributes_read 21 r >>= λ attrs. (routes_in add_path place n >>= λ announced. Ok (record { withdrawn = []; attrs = attrs; announced = announced }))) (attributes_again true a s)
+    ∙ ap (λ (r : Result (Option Attributes) Fault). attributes_read 21 r >>= λ attrs. (routes_in add_path place n >>= λ announced. Ok (record { withdrawn = []; attrs = attrs; announced = announced }))) (attributes_again true a s (short_values a (omega arith)))
     ∙ ap (λ (r : Result (List Key) Fault). r >>= λ announced. Ok (record { withdrawn = []; attrs = Some a; announced = announced })) (routes_again add_path (key ∷ keys) place h)
