@@ -1,11 +1,14 @@
 -- Laws of whole messages: where one ends, and that it says one thing.
-use Rattle.std.proofs.Common.{◌≡◌, ℕ, ◌⊎◌, inl, inr, Bool, List, [], ◌∷◌, ◌++◌, length, take, drop, Option, Some, None, Result, Ok, Err, refl, sym, ap, subst, ◌∙◌, arith, append_assoc, length-append}
+use Rattle.std.proofs.Common.{◌≡◌, ℕ, ◌⊎◌, inl, inr, Bool, true, false, nat_lt, List, [], ◌∷◌, ◌++◌, length, take, drop, Option, Some, None, Result, Ok, Err, refl, sym, ap, subst, ◌∙◌, arith, append_assoc, length-append}
+use Rattle.std.specs.Prelude.{if◌then◌else◌}
+use Rattle.std.proofs.lemmas.Bool.{le-ltb, lt-ltb}
 use Rattle.std.proofs.lemmas.List.{take-append-le, take_at, drop_at}
 use Rattle.ug_types.specs.Messages.{Message}
 use Rattle.ug_attrwire.specs.Walking.{Fault}
 use Rattle.ug_update.specs.Reading.{message_size, header_fault, read_body, unless_faulty, read_message, IsWhole, Spells, HasFault}
-use Rattle.ug_update.specs.Streams.{AreSpelled, IsUnfinished, IsStream}
-use Rattle.ug_update.proofs.Headers.{same_size}
+use Rattle.ug_update.specs.Streams.{AreSpelled, IsUnfinished, IsStream, Says, Faulty, Awaited, judged, behind_header, front_of}
+use Rattle.ug_update.specs.Readers.{IsFaultyAt}
+use Rattle.ug_update.proofs.Headers.{same_size, same_header}
 
 -- what follows a whole message doesn't change its header
 size_before : (m more : List ℕ) → IsWhole m → message_size (m ++ more) ≡ length m
@@ -52,10 +55,47 @@ spelled_header : (add_path extended : Bool) (m : List ℕ) (says : Message) → 
 unfolding read_message
 spelled_header add_path extended m says s = no_fault (header_fault extended m) (read_body add_path m) says s.read
 
--- a whole message at the front is no unfinished one
-not_unfinished : (add_path extended : Bool) (m more : List ℕ) (says : Message) → Spells add_path extended m says → IsUnfinished extended (m ++ more) → ⊥
-not_unfinished add_path extended m more says s (inl short) = omega (arith, s.whole.has_header, length-append m more)
-not_unfinished add_path extended m more says s (inr cut) = omega (arith, cut.1, size_before m more s.whole, length-append m more)
+spelled_body : (h : Option Fault) (r : Result Message Fault) (says : Message) → unless_faulty h r ≡ Ok says → r ≡ Ok says
+spelled_body None r says e = e
+spelled_body (Some f) r says e = absurd cc
+
+-- a message at the front is what is read first
+spelled_front : (add_path extended : Bool) (m more : List ℕ) (says : Message) → Spells add_path extended m says → front_of add_path extended (m ++ more) ≡ Says says
+unfolding front_of read_message
+spelled_front add_path extended m more says s =
+    let bytes = m ++ more in
+    let len = length-append m more in
+    let there : nat_lt (length bytes) 19 ≡ false = le-ltb _ _ (omega (arith, s.whole.has_header)) in
+    let header : header_fault extended bytes ≡ None = same_header extended bytes m (take-append-le 19 m more s.whole.has_header) ∙ no_fault (header_fault extended m) (read_body add_path m) says s.read in
+    let size : message_size bytes ≡ length m = size_before m more s.whole in
+    let whole : nat_lt (length bytes) (length m) ≡ false = le-ltb _ _ (omega arith) in
+    let body : read_body add_path (take (length m) bytes) ≡ Ok says = ap (λ (b : List ℕ). read_body add_path b) (take_at m more (length m) refl) ∙ spelled_body (header_fault extended m) (read_body add_path m) says s.read in
+    ap (λ (b : Bool). if b then Awaited else behind_header add_path bytes (header_fault extended bytes)) there
+    ∙ ap (λ (h : Option Fault). behind_header add_path bytes h) header
+    ∙ ap (λ (n : ℕ). if nat_lt (length bytes) n then Awaited else judged (read_body add_path (take n bytes))) size
+    ∙ ap (λ (b : Bool). if b then Awaited else judged (read_body add_path (take (length m) bytes))) whole ∙ ap (λ (r : Result Message Fault). judged r) body
+
+either_way : (b : Bool) → (if b then Awaited else Awaited) ≡ Awaited
+either_way true = refl
+either_way false = refl
+
+waits_by : (add_path extended : Bool) (bytes : List ℕ) → IsUnfinished extended bytes → front_of add_path extended bytes ≡ Awaited
+unfolding front_of
+waits_by add_path extended bytes (inl short) = ap (λ (b : Bool). if b then Awaited else behind_header add_path bytes (header_fault extended bytes)) (lt-ltb _ _ short)
+waits_by add_path extended bytes (inr cut) =
+    ap (λ (h : Option Fault). if nat_lt (length bytes) 19 then Awaited else behind_header add_path bytes h) cut.0
+    ∙ ap (λ (b : Bool). if nat_lt (length bytes) 19 then Awaited else if b then Awaited else judged (read_body add_path (take (message_size bytes) bytes))) (lt-ltb _ _ cut.1)
+    ∙ either_way (nat_lt (length bytes) 19)
+
+-- no message is read first
+abbrev Ends : Bool → Bool → List ℕ → Type 0
+Ends add_path extended bytes = (says : Message) → front_of add_path extended bytes ≡ Says says → ⊥
+
+unfinished_ends : (add_path extended : Bool) (bytes : List ℕ) → IsUnfinished extended bytes → Ends add_path extended bytes
+unfinished_ends add_path extended bytes u says e = let both : Awaited ≡ Says says = sym (waits_by add_path extended bytes u) ∙ e in absurd cc
+
+faulty_ends : (add_path extended : Bool) (bytes : List ℕ) (first : Fault) → front_of add_path extended bytes ≡ Faulty first → Ends add_path extended bytes
+faulty_ends add_path extended bytes first is says e = let both : Faulty first ≡ Says says = sym is ∙ e in absurd cc
 
 front_is : (m other more rest : List ℕ) → IsWhole m → IsWhole other → m ++ more ≡ other ++ rest → length m ≡ length other
 front_is m other more rest w v e = sym (size_before m more w) ∙ ap (λ (b : List ℕ). message_size b) e ∙ size_before other rest v
@@ -71,15 +111,15 @@ record Same (ms ns : List Message) (left rest : List ℕ) : Type 0 where
   rests : left ≡ rest
 
 same_stream : (add_path extended : Bool) (ms ns : List Message) (whole other left rest : List ℕ) → AreSpelled add_path extended ms whole → AreSpelled add_path extended ns other
-    → IsUnfinished extended left → IsUnfinished extended rest → whole ++ left ≡ other ++ rest → Same ms ns left rest
+    → Ends add_path extended left → Ends add_path extended rest → whole ++ left ≡ other ++ rest → Same ms ns left rest
 same_stream add_path extended [] [] whole other left rest s t u v e =
     record { messages = refl; rests = ap (λ (w : List ℕ). w ++ left) (sym s) ∙ e ∙ ap (λ (w : List ℕ). w ++ rest) t }
 same_stream add_path extended [] (n ∷ ns) whole other left rest s t u v e =
     let begins : left ≡ t.0 ++ (t.1 ++ rest) = ap (λ (w : List ℕ). w ++ left) (sym s) ∙ e ∙ ap (λ (w : List ℕ). w ++ rest) t.3 ∙ append_assoc t.0 t.1 rest in
-    absurd (not_unfinished add_path extended t.0 (t.1 ++ rest) n t.2 (subst (λ (b : List ℕ). IsUnfinished extended b) begins u))
+    absurd (u n (ap (λ (b : List ℕ). front_of add_path extended b) begins ∙ spelled_front add_path extended t.0 (t.1 ++ rest) n t.2))
 same_stream add_path extended (m ∷ ms) [] whole other left rest s t u v e =
     let begins : rest ≡ s.0 ++ (s.1 ++ left) = ap (λ (w : List ℕ). w ++ rest) (sym t) ∙ sym e ∙ ap (λ (w : List ℕ). w ++ left) s.3 ∙ append_assoc s.0 s.1 left in
-    absurd (not_unfinished add_path extended s.0 (s.1 ++ left) m s.2 (subst (λ (b : List ℕ). IsUnfinished extended b) begins v))
+    absurd (v m (ap (λ (b : List ℕ). front_of add_path extended b) begins ∙ spelled_front add_path extended s.0 (s.1 ++ left) m s.2))
 same_stream add_path extended (m ∷ ms) (n ∷ ns) whole other left rest s t u v e =
     let regrouped : s.0 ++ (s.1 ++ left) ≡ t.0 ++ (t.1 ++ rest) =
     sym (append_assoc s.0 s.1 left) ∙ ap (λ (w : List ℕ). w ++ left) (sym s.3) ∙ e ∙ ap (λ (w : List ℕ). w ++ rest) t.3 ∙ append_assoc t.0 t.1 rest in
@@ -91,5 +131,24 @@ same_stream add_path extended (m ∷ ms) (n ∷ ns) whole other left rest s t u 
 pub one_stream : (add_path extended : Bool) (stream : List ℕ) (ms ns : List Message) (left rest : List ℕ) → IsStream add_path extended stream ms left → IsStream add_path extended stream ns rest
     → (ms ≡ ns) × (left ≡ rest)
 one_stream add_path extended stream ms ns left rest s t =
-    let same = same_stream add_path extended ms ns s.whole t.whole left rest s.are_spelled t.are_spelled s.is_unfinished t.is_unfinished (sym s.parts ∙ t.parts) in
+    let same = same_stream add_path extended ms ns s.whole t.whole left rest s.are_spelled t.are_spelled (unfinished_ends add_path extended left s.is_unfinished) (unfinished_ends add_path extended rest t.is_unfinished) (sym s.parts ∙ t.parts) in
     (same.messages, same.rests)
+
+same_faulty : (add_path extended : Bool) (stream : List ℕ) (ms ns : List Message) (c d o p : ℕ) (s : IsFaultyAt add_path extended stream ms c o) (t : IsFaultyAt add_path extended stream ns d p) → Same ms ns s.rest t.rest
+same_faulty add_path extended stream ms ns c d o p s t =
+    same_stream add_path extended ms ns s.whole t.whole s.rest t.rest s.are_spelled t.are_spelled (faulty_ends add_path extended s.rest s.first s.is_first) (faulty_ends add_path extended t.rest t.first t.is_first) (sym s.parts ∙ t.parts)
+
+pub one_fault : (add_path extended : Bool) (stream : List ℕ) (ms ns : List Message) (c d o p : ℕ) → IsFaultyAt add_path extended stream ms c o → IsFaultyAt add_path extended stream ns d p
+    → (ms ≡ ns) × (c ≡ d) × (o ≡ p)
+one_fault add_path extended stream ms ns c d o p s t =
+    let same = same_faulty add_path extended stream ms ns c d o p s t in
+    let first : Faulty s.first ≡ Faulty t.first = sym s.is_first ∙ ap (λ (b : List ℕ). front_of add_path extended b) same.rests ∙ t.is_first in
+    let is : s.first ≡ t.first = cc in
+    let len : length s.whole ≡ length t.whole = omega (arith, ap (λ (b : List ℕ). length b) (sym s.parts ∙ t.parts), ap (λ (b : List ℕ). length b) same.rests, length-append s.whole s.rest, length-append t.whole t.rest) in
+    (same.messages, s.cause_is ∙ ap (λ (f : Fault). f.number) is ∙ sym t.cause_is, omega (arith, s.offset_is, t.offset_is, len, ap (λ (f : Fault). f.place) is))
+
+pub no_fault_there : (add_path extended : Bool) (stream : List ℕ) (ms ns : List Message) (left : List ℕ) (c o : ℕ) → IsStream add_path extended stream ms left → IsFaultyAt add_path extended stream ns c o → ⊥
+no_fault_there add_path extended stream ms ns left c o s t =
+    let same = same_stream add_path extended ms ns s.whole t.whole left t.rest s.are_spelled t.are_spelled (unfinished_ends add_path extended left s.is_unfinished) (faulty_ends add_path extended t.rest t.first t.is_first) (sym s.parts ∙ t.parts) in
+    let both : Awaited ≡ Faulty t.first = sym (waits_by add_path extended left s.is_unfinished) ∙ ap (λ (b : List ℕ). front_of add_path extended b) same.rests ∙ t.is_first in
+    absurd cc

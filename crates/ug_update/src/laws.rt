@@ -5,6 +5,7 @@ ghost use Rattle.ug_types.specs.Messages.{Message};
 ghost use Rattle.ug_attrwire.specs.Walking.{Fault};
 ghost use Rattle.ug_message.specs.Texts.{written};
 ghost use Rattle.ug_update.specs.Reading.{IsWhole, Spells, HasFault};
+ghost use Rattle.ug_update.specs.Readers.{IsFaultyAt};
 ghost use Rattle.ug_update.specs.Spellable.{IsSpellable};
 ghost use Rattle.ug_update.specs.Streams.{IsStream};
 
@@ -22,10 +23,17 @@ pub fn whole_messages()
         Spells add_path extended m says → HasFault add_path extended m first → ⊥ }
 {}
 
-/// A stream is in one way these messages and then less than a whole one, so it doesn't matter in which pieces it comes.
+/// A stream is in one way these messages and then less than a whole one, or these messages and then a fault, and
+/// never both: so it doesn't matter in which pieces it comes.
 pub fn streams()
-    ensures { (add_path : Bool) → (extended : Bool) → (stream : List ℕ) → (messages : List Message) → (others : List Message) → (left : List ℕ) → (rest : List ℕ) →
+    ensures messages_once { (add_path : Bool) → (extended : Bool) → (stream : List ℕ) → (messages : List Message) → (others : List Message) → (left : List ℕ) → (rest : List ℕ) →
         IsStream add_path extended stream messages left → IsStream add_path extended stream others rest → (messages ≡ others) × (left ≡ rest) }
+    ensures fault_once { (add_path : Bool) → (extended : Bool) → (stream : List ℕ) → (messages : List Message) → (others : List Message) →
+        (cause : ℕ) → (cause' : ℕ) → (offset : ℕ) → (offset' : ℕ) →
+        IsFaultyAt add_path extended stream messages cause offset → IsFaultyAt add_path extended stream others cause' offset' →
+        (messages ≡ others) × (cause ≡ cause') × (offset ≡ offset') }
+    ensures never_both { (add_path : Bool) → (extended : Bool) → (stream : List ℕ) → (messages : List Message) → (others : List Message) → (left : List ℕ) → (cause : ℕ) → (offset : ℕ) →
+        IsStream add_path extended stream messages left → IsFaultyAt add_path extended stream others cause offset → ⊥ }
 {}
 
 /// What is written of a message of IPv4 routes spells it, and nothing else.
