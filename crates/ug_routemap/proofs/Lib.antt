@@ -1,0 +1,4 @@
+pub mod Shown
+pub mod Prepends
+pub mod Kept
+pub mod Walks

@@ -1,0 +1,4 @@
+pub mod Rules
+pub mod Maps
+pub mod Refusals
+pub mod Named
