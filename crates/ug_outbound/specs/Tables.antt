@@ -1,0 +1,8 @@
+-- Lists and maps by name, as plain data.
+use Rattle.std.specs.Prelude.{List}
+use Rattle.ug_prefixlist.specs.declared.table.NamedList.{NamedList}
+use Rattle.ug_routemap.specs.declared.table.NamedMap.{NamedMap}
+
+pub record Tables : Type 0 where
+  pub lists : List NamedList
+  pub maps : List NamedMap

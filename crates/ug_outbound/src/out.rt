@@ -1,0 +1,130 @@
+//! The outbound rules in their order.
+
+ghost use Rattle.std.specs.Prelude.{◌≡◌, ◌+◌, ◌≤◌, None, length, IfOk, IfSome};
+ghost use Rattle.std.specs.Option.{option_map};
+ghost use Rattle.ug_types.specs.Attributes.{attributes_of, refusal_of};
+ghost use Rattle.ug_types.specs.Spelling.{attributes};
+ghost use Rattle.ug_outbound.specs.Outbound.{is_let_out, mapped, reflected, attributes_out, finished, out};
+ghost use Rattle.ug_outbound.specs.Bounds.{SetsFew};
+
+use crate::as_path::path_out;
+use crate::key::GroupKey;
+use crate::policy::Policies;
+use crate::reflection::{reflected, reflection_allows};
+use crate::rules::{
+    communities_allow, communities_out, is_local, is_permitted, local_pref_out, med_out,
+    next_hop_kind,
+};
+use crate::settings::Local;
+use std::alloc::Global;
+use std::sync::ledger::Ledger;
+use ug_routemap::{Mapped, find_map};
+use ug_types::{AttrParts, Attrs, Learned, Name, NoMemory, OutAttrs, Path, Prefix, Steps};
+
+/// What goes out of a path to the peers of a key; None exactly where nothing does. A prefix list that isn't there
+/// permits nothing, and a route map that isn't there gives none. One step is counted, also where memory is wanting.
+pub fn outbound<L: Ledger>(
+    alloc: Global,
+    key: &GroupKey,
+    policies: &Policies,
+    local: &Local,
+    prefix: &Prefix,
+    path: &Path,
+    steps: &mut Steps<L>,
+) -> Result<Option<OutAttrs>, NoMemory>
+    ensures exact { IfOk result (λ o. o ≡ out key.now policies.now local.now prefix.now path.now) }
+    // attributes that nothing refuses from within still fit a message with one route
+    ensures short { refusal_of path.now.attrs ≡ None → IfOk result (λ o. IfSome o (λ o. length (attributes o.attrs) ≤ 2067)) }
+    ensures step { steps.new ≡ steps.old + 1 }
+{
+    steps.tick();
+    if !is_let_out(key, policies, prefix, path) {
+        return Ok(None);
+    }
+    let Some(mapped) = mapped(alloc, policies, &key.map, &path.attrs, prefix)? else {
+        return Ok(None);
+    };
+    Ok(Some(finished(alloc, key, local, &path.learned, mapped)?))
+}
+
+/// Whether the communities, the rules of reflection and the prefix list let a path go.
+fn is_let_out(key: &GroupKey, policies: &Policies, prefix: &Prefix, path: &Path) -> bool
+    ensures { result ≡ is_let_out key.now policies.now prefix.now path.now }
+{
+    let communities = path.attrs.parts().communities.as_slice();
+    communities_allow(key.kind, communities)
+        && reflection_allows(key.kind, &path.learned)
+        && is_permitted(policies, prefix, &key.list)
+}
+
+/// What the route map of that name makes of attributes, or their copy where no map is named.
+fn mapped(
+    alloc: Global,
+    policies: &Policies,
+    name: &Option<Name>,
+    attrs: &Attrs,
+    prefix: &Prefix,
+) -> Result<Option<Mapped>, NoMemory>
+    ensures exact { IfOk result (λ m. m ≡ mapped policies.now name.now attrs.now prefix.now) }
+    ensures few { SetsFew policies.now.maps name.now }
+{
+    let Some(name) = name else {
+        return Ok(Some(Mapped {
+            attrs: attrs.copy(alloc)?,
+            set_next_hop: false,
+            set_med: false,
+        }));
+    };
+    match find_map(&policies.maps, name) {
+        Some(map) => map.apply(alloc, &policies.lists, attrs, prefix),
+        None => Ok(None),
+    }
+}
+
+/// What was mapped, after the rules of reflection and on single attributes.
+fn finished(
+    alloc: Global,
+    key: &GroupKey,
+    local: &Local,
+    from: &Learned,
+    mapped: Mapped,
+) -> Result<OutAttrs, NoMemory>
+    ensures { IfOk result (λ o. o ≡ finished key.now local.now from.now (record mapped { attrs = reflected local.now key.now.kind from.now mapped.attrs })) }
+{
+    let nh_kind = next_hop_kind(key, from, mapped.set_next_hop);
+    let set_med = mapped.set_med;
+    let parts = reflected(alloc, local, key.kind, from, mapped.attrs.into_parts())?;
+    let parts = attributes_out(alloc, key, local, from, set_med, parts)?;
+    let Ok(attrs) = Attrs::received(parts) else {
+        unreachable!()
+    };
+    Ok(OutAttrs { attrs, nh_kind })
+}
+
+/// The attributes after the rules on single attributes.
+fn attributes_out(
+    alloc: Global,
+    key: &GroupKey,
+    local: &Local,
+    from: &Learned,
+    set_med: bool,
+    parts: AttrParts,
+) -> Result<AttrParts, NoMemory>
+    ensures { IfOk result (λ out. attributes_of out ≡ attributes_out key.now local.now from.now set_med (attributes_of parts)) }
+{
+    let path = path_out(alloc, key, local, parts.path)?;
+    let communities = communities_out(alloc, key.send_community, parts.communities);
+    let ours = is_local(from) || set_med;
+    Ok(AttrParts {
+        origin: parts.origin,
+        path,
+        next_hop: parts.next_hop,
+        med: med_out(key.kind, ours, parts.med),
+        local_pref: local_pref_out(key.kind, parts.local_pref),
+        atomic: parts.atomic,
+        aggregator: parts.aggregator,
+        communities,
+        originator: parts.originator,
+        clusters: parts.clusters,
+    })
+}

@@ -1,0 +1,35 @@
+use std::marker::Model;
+use ug_prefixlist::ListTable;
+use ug_routemap::MapTable;
+use ug_types::{Name, Sequence};
+
+/// Which prefix list and which route map filter what a peer is sent.
+#[derive(Debug, PartialEq, Eq, Drop)]
+pub struct Policy {
+    pub list: Option<Name>,
+    pub map: Option<Name>,
+}
+
+/// A policy and its name.
+#[derive(Debug, Drop)]
+pub struct NamedPolicy {
+    pub name: Name,
+    pub policy: Policy,
+}
+
+pub type PolicyTable = Sequence<NamedPolicy>;
+
+/// The prefix lists and the route maps, by name.
+#[derive(Debug, Drop)]
+pub struct Policies {
+    pub lists: ListTable,
+    pub maps: MapTable,
+}
+
+impl Model for Policies {
+    ghost use Rattle.ug_outbound.specs.Tables.{Tables};
+
+    ghost Value = { Tables };
+
+    ghost view = { λ p. record { lists = p.lists.items; maps = p.maps.items } };
+}
