@@ -18,9 +18,10 @@ demo: build
 test:
 	.ci/run
 
-# Measures runs over many prefixes.
+# Measures runs over many prefixes, and checks of many routes.
 bench: build
 	bench/one.sh
+	bench/check.sh
 
 clean:
 	rm -rf out crates/*/out
