@@ -16,3 +16,6 @@ pub use fault::AttrFault;
 pub use reading::read_attrs;
 pub use short::{attributes_again, values_are_short};
 pub use writing::{size_of, write_attrs};
+
+#[cfg(test)]
+mod tests;
