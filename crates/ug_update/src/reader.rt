@@ -68,6 +68,7 @@ impl Reader {
         // The stream goes on with the piece.
         ensures stream { OnOk result (self.old.stopped ≡ false →
             ((stream : List ℕ) → (given : List messages.Message) → HasRead self.old stream given → HasRead self.new (stream ++ piece.now) given)) }
+        ensures settled { self.old.stopped ≡ true → IsOk result }
     {
         if self.fault.is_some() {
             return Ok(());
