@@ -3,11 +3,7 @@
 # memory and the bytes read, and then how they grow from the one to the other. The longer one is also read through a
 # pipe in small pieces.
 set -e
-cd "$(dirname "$0")/.."
-program=out/ug_main
-[ -x "$program" ] || { echo "make build first" >&2; exit 1; }
-work=$(mktemp -d)
-trap 'rm -rf "$work"' EXIT
+source "$(dirname "$0")/measure.sh"
 
 # End-of-RIB, and then a stream of that many routes, each of another /24: UPDATEs of 83 bytes.
 stream() {
@@ -22,35 +18,11 @@ stream() {
     }'
 }
 
-# The least time of five runs, in seconds.
-measure() {
-    local best=
-    for _ in 1 2 3 4 5; do
-        local start end
-        start=$(date +%s.%N)
-        "$program" check "$1" > "$work/report"
-        end=$(date +%s.%N)
-        best=$(awk -v a="$start" -v b="$end" -v c="$best" 'BEGIN { t = b - a; print (c == "" || t < c) ? t : c }')
-    done
-    echo "$best"
-}
-
-# The peak memory in KiB, as the most that was seen on the way.
-peak() {
-    "$program" check "$1" > "$work/report" &
-    local pid=$! most=0 now
-    while now=$(awk '/VmHWM/ { print $2 }' "/proc/$pid/status" 2> /dev/null) && [ -n "$now" ]; do
-        [ "$now" -gt "$most" ] && most=$now
-    done
-    wait "$pid"
-    echo "$most"
-}
-
 declare -A seconds
 for n in 100000 1000000; do
     stream "$n" > "$work/$n"
-    seconds[$n]=$(measure "$work/$n")
-    echo "$n routes: ${seconds[$n]} s, peak $(peak "$work/$n") KiB, $(stat -c %s "$work/$n") bytes read; $(tail -n 1 "$work/report")"
+    seconds[$n]=$(measure 5 check "$work/$n")
+    echo "$n routes: ${seconds[$n]} s, peak $(peak check "$work/$n") KiB, $(stat -c %s "$work/$n") bytes read; $(tail -n 1 "$work/report")"
 done
 awk -v a="${seconds[100000]}" -v b="${seconds[1000000]}" 'BEGIN { printf "growth from 100000 to 1000000: %.2f times\n", b / a }'
 

@@ -2,44 +2,12 @@
 # Runs `one` over 100,000 and 400,000 distinct prefixes, and prints for each the time, the instructions where the
 # machine counts them, the peak memory and the bytes written, and then how they grow from the one to the other.
 set -e
-cd "$(dirname "$0")/.."
-program=out/ug_main
-[ -x "$program" ] || { echo "make build first" >&2; exit 1; }
-work=$(mktemp -d)
-trap 'rm -rf "$work"' EXIT
+source "$(dirname "$0")/measure.sh"
 
 # A file of that many lines, each of another /24.
 events() {
     awk -v n="$1" 'BEGIN { for (i = 0; i < n; i++)
         printf "paths %d.%d.%d.0/24 id=1 from=local nh=0.0.0.0 origin=igp as=-\n", 1 + int(i / 65536), int(i / 256) % 256, i % 256 }'
-}
-
-# The least time of seven runs, in seconds.
-measure() {
-    local file=$1 dir=$2 best=
-    for _ in 1 2 3 4 5 6 7; do
-        local start end
-        start=$(date +%s.%N)
-        "$program" one "$file" "$dir" > "$dir/report"
-        end=$(date +%s.%N)
-        best=$(awk -v a="$start" -v b="$end" -v c="$best" 'BEGIN { t = b - a; print (c == "" || t < c) ? t : c }')
-    done
-    echo "$best"
-}
-
-# The peak memory in KiB: what the system says at the end where it can be asked, else the most that was seen on the way.
-peak() {
-    if [ -x /usr/bin/time ]; then
-        /usr/bin/time -f %M "$program" one "$1" "$2" 2>&1 > "$2/report"
-        return
-    fi
-    "$program" one "$1" "$2" > "$2/report" &
-    local pid=$! most=0 now
-    while now=$(awk '/VmHWM/ { print $2 }' "/proc/$pid/status" 2> /dev/null) && [ -n "$now" ]; do
-        [ "$now" -gt "$most" ] && most=$now
-    done
-    wait "$pid"
-    echo "$most"
 }
 
 instructions() {
@@ -54,7 +22,7 @@ declare -A seconds
 for n in 100000 400000; do
     mkdir "$work/$n"
     events "$n" > "$work/$n.txt"
-    seconds[$n]=$(measure "$work/$n.txt" "$work/$n")
-    echo "$n prefixes: ${seconds[$n]} s, instructions $(instructions "$work/$n.txt" "$work/$n"), peak $(peak "$work/$n.txt" "$work/$n") KiB, $(stat -c %s "$work/$n/p1.1") bytes written; $(cat "$work/$n/report")"
+    seconds[$n]=$(measure 7 one "$work/$n.txt" "$work/$n")
+    echo "$n prefixes: ${seconds[$n]} s, instructions $(instructions "$work/$n.txt" "$work/$n"), peak $(peak one "$work/$n.txt" "$work/$n") KiB, $(stat -c %s "$work/$n/p1.1") bytes written; $(cat "$work/report")"
 done
 awk -v a="${seconds[100000]}" -v b="${seconds[400000]}" 'BEGIN { printf "growth from 100000 to 400000: %.2f times\n", b / a }'
