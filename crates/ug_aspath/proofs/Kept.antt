@@ -1,11 +1,11 @@
 -- Each segment keeps 1 to 255 numbers under the edits.
-use Rattle.std.proofs.Common.{◌≡◌, ℕ, ◌≤◌, Bool, true, false, List, [], ◌∷◌, length, refl, arith}
+use Rattle.std.proofs.Common.{suc, not, ◌≡◌, ℕ, ◌≤◌, Bool, true, false, List, [], ◌∷◌, length, refl, arith}
 use Rattle.std.proofs.lemmas.List.{length-map}
 use Rattle.std.specs.Prelude.{◌&&◌, nat_lt, nat_le, filter, if◌then◌else◌}
 use Rattle.std.specs.List.{list_all}
 use Rattle.std.proofs.lemmas.Bool.Decides.{nat_tests}
 use Rattle.ug_types.specs.Attributes.{PathSegment, is_segment}
-use Rattle.ug_aspath.specs.Paths.{with_numbers, public_numbers, has_numbers, in_place_of, overridden, without_private, AreSegments}
+use Rattle.ug_aspath.specs.Paths.{sequence, prepended, with_numbers, public_numbers, has_numbers, in_place_of, overridden, without_private, AreSegments}
 
 pub both : (a b : Bool) → (a && b) ≡ true → (a ≡ true) × (b ≡ true)
 both true true e = (refl, refl)
@@ -22,6 +22,17 @@ length_filter test (n ∷ ns) = one (test n) n ns (length_filter test ns)
     one : (b : Bool) (m : ℕ) (ms : List ℕ) → length (filter test ms) ≤ length ms → length (if b then m ∷ filter test ms else filter test ms) ≤ length (m ∷ ms)
     one true m ms h = omega arith
     one false m ms h = omega arith
+
+one_more : (n : ℕ) → nat_lt n 255 ≡ true → (nat_lt 0 (suc n) && nat_le (suc n) 255) ≡ true
+one_more n lt = grind (arith, nat_tests)
+
+pub prepended_kept : (asn : ℕ) (path : List PathSegment) → AreSegments path → AreSegments (prepended asn path)
+prepended_kept asn [] h = refl
+prepended_kept asn (s ∷ path) h = one (not s.is_set && nat_lt (length s.numbers) 255) refl
+  where
+    one : (b : Bool) → (not s.is_set && nat_lt (length s.numbers) 255) ≡ b → AreSegments (if b then sequence (asn ∷ s.numbers) ∷ path else sequence (asn ∷ []) ∷ s ∷ path)
+    one true e = and_true _ _ (one_more (length s.numbers) (both (not s.is_set) (nat_lt (length s.numbers) 255) e).1) (both (is_segment s) (list_all is_segment path) h).1
+    one false e = h
 
 pub overridden_kept : (old new : ℕ) (path : List PathSegment) → AreSegments path → AreSegments (overridden old new path)
 overridden_kept old new [] h = refl

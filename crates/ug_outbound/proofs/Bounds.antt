@@ -1,12 +1,12 @@
 -- How much attributes grow on their way out.
-use Rattle.std.proofs.Common.{◌≡◌, ℕ, ◌+◌, ◌≤◌, suc, Bool, true, false, not, nat_lt, List, [], ◌∷◌, ◌++◌, length, Option, Some, None, refl, ap, sym, ◌∙◌, subst, arith, length-append}
-use Rattle.std.specs.Prelude.{◌&&◌, ◌||◌, nat_le, unwrap_or, sum_by, if◌then◌else◌}
+use Rattle.std.proofs.Common.{◌≡◌, ℕ, ◌+◌, ◌≤◌, suc, Bool, true, false, not, nat_lt, List, [], ◌∷◌, ◌++◌, length, Option, Some, None, refl, sym, ◌∙◌, subst, arith, length-append}
+use Rattle.std.specs.Prelude.{◌||◌, nat_le, unwrap_or, if◌then◌else◌}
 use Rattle.std.specs.Option.{option_map}
 use Rattle.std.proofs.lemmas.Bool.{ltb-false}
 use Rattle.std.proofs.lemmas.Bool.Decides.{nat_tests}
 use Rattle.std.proofs.lemmas.List.Sums.{sum_by-cons}
 use Rattle.ug_types.specs.Ip.{IpPrefix}
-use Rattle.ug_types.specs.Attributes.{PathSegment, Attributes, numbers_in, is_well_formed, refusal_of}
+use Rattle.ug_types.specs.Attributes.{Attributes, numbers_in, is_well_formed, refusal_of}
 use Rattle.ug_types.specs.Spelling.{attributes}
 use Rattle.ug_types.specs.declared.route.Learned.{Learned}
 use Rattle.ug_types.specs.declared.route.Learned.TheVariants as learned
@@ -16,15 +16,15 @@ use Rattle.ug_aspath.proofs.Kept.{both}
 use Rattle.ug_prefixlist.specs.declared.table.NamedList.{NamedList}
 use Rattle.ug_routemap.specs.declared.mapped.Mapped.{Mapped}
 use Rattle.ug_routemap.specs.Rules.{MapRule}
-use Rattle.ug_routemap.specs.Maps.{holds, is_met, all_prepended, added, with_sets, mapped_by, unmapped, so_far, goes_to, goes_on, map_walk}
-use Rattle.ug_routemap.specs.Refusals.{count_in, prepends_in, communities_in, has_few_sets}
+use Rattle.ug_routemap.specs.Maps.{holds, is_met, added, with_sets, mapped_by, unmapped, so_far, goes_to, goes_on, map_walk}
+use Rattle.ug_routemap.specs.Refusals.{count_in, prepends_in, communities_in}
 use Rattle.ug_routemap.specs.Named.{map_named}
 use Rattle.ug_outbound.specs.declared.settings.Local.{Local}
 use Rattle.ug_outbound.specs.declared.kind.Kind.{Kind}
 use Rattle.ug_outbound.specs.declared.kind.Kind.TheVariants.{External, Internal, Client}
 use Rattle.ug_outbound.specs.declared.key.GroupKey.{GroupKey}
 use Rattle.ug_outbound.specs.Tables.{Tables}
-use Rattle.ug_outbound.specs.Outbound.{reflected, mapped_by_map, mapped, path_out, communities_out, finished, is_let_out, out}
+use Rattle.ug_outbound.specs.Outbound.{reflected, mapped_by_map, mapped, communities_out, finished, is_let_out, out}
 use Rattle.ug_outbound.specs.Bounds.{FewSets, SetsFew}
 use Rattle.ug_outbound.proofs.Mapping.{out_is_after, reflect}
 use Rattle.ug_outbound.proofs.Paths.{behind, behind_at_most, behind_more, all_numbers, all_behind, out_numbers, out_length}

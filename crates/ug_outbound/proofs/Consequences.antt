@@ -1,7 +1,6 @@
 -- What never goes out.
-use Rattle.std.proofs.Common.{◌≡◌, ℕ, Bool, true, false, ◌&&◌, ◌||◌, not, List, [], ◌∷◌, Option, Some, None, refl, ap, sym, ◌∙◌, subst}
-use Rattle.std.specs.Prelude.{if◌then◌else◌, length, nat_lt}
-use Rattle.std.specs.Option.{option_map}
+use Rattle.std.proofs.Common.{◌≡◌, ℕ, Bool, true, false, ◌&&◌, ◌||◌, List, [], ◌∷◌, Some, None, refl, ap, ◌∙◌, subst}
+use Rattle.std.specs.Prelude.{if◌then◌else◌}
 use Rattle.ug_types.specs.Ip.{IpAddress, IpPrefix}
 use Rattle.ug_types.specs.Attributes.{PathSegment}
 use Rattle.ug_types.specs.declared.route.Learned.{Learned}
@@ -9,17 +8,18 @@ use Rattle.ug_types.specs.declared.route.Learned.TheVariants as learned
 use Rattle.ug_types.specs.declared.route.Path.{Path}
 use Rattle.ug_types.specs.declared.route.OutAttrs.{OutAttrs}
 use Rattle.ug_aspath.specs.Paths.{begins_with_room, sequence, prepended}
+use Rattle.ug_prefixlist.specs.Named.{is_permitted}
 use Rattle.ug_routemap.specs.declared.mapped.Mapped.{Mapped}
-use Rattle.ug_routemap.specs.Maps.{holds, is_permitted}
+use Rattle.ug_routemap.specs.Maps.{holds}
 use Rattle.ug_outbound.specs.declared.settings.Local.{Local}
 use Rattle.ug_outbound.specs.declared.kind.Kind.{Kind}
 use Rattle.ug_outbound.specs.declared.kind.Kind.TheVariants.{External, Internal, Client}
 use Rattle.ug_outbound.specs.declared.key.GroupKey.{GroupKey}
 use Rattle.ug_outbound.specs.Tables.{Tables}
-use Rattle.ug_outbound.specs.Outbound.{communities_allow, reflection_allows, reflected, path_out, prepended_towards, local_pref_out, finished, is_let_out, out}
+use Rattle.ug_outbound.specs.Outbound.{communities_allow, reflection_allows, reflected, prepended_towards, local_pref_out, finished, is_let_out, out}
 use Rattle.ug_outbound.specs.Bounds.{first_number}
 use Rattle.ug_outbound.proofs.Mapping.{reflect}
-use Rattle.ug_outbound.proofs.Bounds.{Comes, comes_of}
+use Rattle.ug_outbound.proofs.Bounds.{comes_of}
 
 and_false : (a : Bool) → (a && false) ≡ false
 and_false true = refl

@@ -1,6 +1,6 @@
 -- Attributes stay well formed on their way out.
 use Rattle.std.proofs.Common.{◌≡◌, ℕ, Bool, true, false, List, Option, Some, None, refl}
-use Rattle.std.specs.Prelude.{◌&&◌, nat_le, if◌then◌else◌}
+use Rattle.std.specs.Prelude.{nat_le}
 use Rattle.std.specs.List.{list_all}
 use Rattle.ug_types.specs.Attributes.{PathSegment, Attributes, is_segment, is_well_formed}
 use Rattle.ug_types.specs.declared.route.Learned.{Learned}

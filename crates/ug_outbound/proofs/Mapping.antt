@@ -1,6 +1,6 @@
 -- A route map sees nothing of what reflection changes, so that it may be told before the map or after it.
 use Rattle.std.proofs.Common.{◌≡◌, ℕ, Bool, true, false, not, nat_lt, List, [], ◌∷◌, Option, Some, None, refl, ap, ◌∙◌}
-use Rattle.std.specs.Prelude.{◌&&◌, ◌||◌, if◌then◌else◌}
+use Rattle.std.specs.Prelude.{◌||◌, if◌then◌else◌}
 use Rattle.std.specs.Option.{option_map}
 use Rattle.ug_types.specs.Ip.{IpPrefix}
 use Rattle.ug_types.specs.Attributes.{Attributes}
@@ -11,7 +11,7 @@ use Rattle.ug_types.specs.declared.route.OutAttrs.{OutAttrs}
 use Rattle.ug_prefixlist.specs.declared.table.NamedList.{NamedList}
 use Rattle.ug_routemap.specs.declared.mapped.Mapped.{Mapped}
 use Rattle.ug_routemap.specs.Rules.{MapRule}
-use Rattle.ug_routemap.specs.Maps.{is_met, with_sets, mapped_by, unmapped, so_far, goes_to, goes_on, map_walk}
+use Rattle.ug_routemap.specs.Maps.{is_met, with_sets, mapped_by, so_far, goes_to, goes_on, map_walk}
 use Rattle.ug_routemap.specs.Named.{map_named}
 use Rattle.ug_outbound.specs.declared.settings.Local.{Local}
 use Rattle.ug_outbound.specs.declared.kind.Kind.{Kind}

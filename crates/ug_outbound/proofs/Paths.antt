@@ -1,13 +1,13 @@
 -- How long a path gets. Segments in front of which numbers are put are few: a new one comes only where there is no room,
 -- and it has room for all that may follow.
-use Rattle.std.proofs.Common.{◌≡◌, ℕ, ◌+◌, ◌≤◌, ◌<◌, suc, Bool, true, false, ◌&&◌, not, nat_lt, List, [], ◌∷◌, length, map, Option, Some, None, refl, ap, sym, ◌∙◌, arith}
-use Rattle.std.specs.Prelude.{nat_le, filter, if◌then◌else◌}
+use Rattle.std.proofs.Common.{◌≡◌, ℕ, ◌+◌, ◌≤◌, ◌<◌, suc, Bool, true, false, ◌&&◌, not, nat_lt, List, [], ◌∷◌, length, Option, Some, None, refl, arith}
+use Rattle.std.specs.Prelude.{nat_le, if◌then◌else◌}
 use Rattle.std.proofs.lemmas.Bool.Decides.{nat_tests}
 use Rattle.std.proofs.lemmas.List.{length-map}
 use Rattle.std.proofs.lemmas.List.Sums.{sum_by-cons}
 use Rattle.ug_types.specs.Attributes.{PathSegment, numbers_in}
 use Rattle.ug_aspath.specs.Paths.{is_private, with_numbers, public_numbers, has_numbers, without_private, in_place_of, replaced, overridden, sequence, prepended}
-use Rattle.ug_aspath.proofs.Kept.{both, length_filter}
+use Rattle.ug_aspath.proofs.Kept.{length_filter}
 use Rattle.ug_routemap.specs.Maps.{all_prepended}
 use Rattle.ug_outbound.specs.declared.kind.Kind.{Kind}
 use Rattle.ug_outbound.specs.declared.kind.Kind.TheVariants.{External, Internal, Client}

@@ -1,5 +1,5 @@
 -- Group keys: what decides what goes out to a peer. Peers of equal keys are sent the same routes but for the next hop.
-use Rattle.std.specs.Prelude.{ℕ, ◌==◌, Option, Some, None, if◌then◌else◌}
+use Rattle.std.specs.Prelude.{ℕ, ◌==◌, Some, None, if◌then◌else◌}
 use Rattle.ug_outbound.specs.declared.settings.Local.{Local}
 use Rattle.ug_outbound.specs.declared.peer.Peer.{Peer}
 use Rattle.ug_outbound.specs.declared.kind.Kind.{Kind}

@@ -12,9 +12,10 @@ use Rattle.ug_types.specs.declared.route.NhKind.TheVariants as kinds
 use Rattle.ug_types.specs.declared.route.OutAttrs.{OutAttrs}
 use Rattle.ug_aspath.specs.Paths.{without_private, overridden, prepended}
 use Rattle.ug_prefixlist.specs.declared.table.NamedList.{NamedList}
+use Rattle.ug_prefixlist.specs.Named.{is_permitted}
 use Rattle.ug_routemap.specs.declared.mapped.Mapped.{Mapped}
 use Rattle.ug_routemap.specs.Rules.{MapRule}
-use Rattle.ug_routemap.specs.Maps.{holds, is_permitted, unmapped, map_result}
+use Rattle.ug_routemap.specs.Maps.{holds, unmapped, map_result}
 use Rattle.ug_routemap.specs.Named.{map_named}
 use Rattle.ug_outbound.specs.declared.settings.Local.{Local}
 use Rattle.ug_outbound.specs.declared.kind.Kind.{Kind}

@@ -12,12 +12,12 @@ use crate::key::GroupKey;
 use crate::policy::Policies;
 use crate::reflection::{reflected, reflection_allows};
 use crate::rules::{
-    communities_allow, communities_out, is_local, is_permitted, local_pref_out, med_out,
-    next_hop_kind,
+    communities_allow, communities_out, is_local, local_pref_out, med_out, next_hop_kind,
 };
 use crate::settings::Local;
 use std::alloc::Global;
 use std::sync::ledger::Ledger;
+use ug_prefixlist::is_permitted;
 use ug_routemap::{Mapped, find_map};
 use ug_types::{AttrParts, Attrs, Learned, Name, NoMemory, OutAttrs, Path, Prefix, Steps};
 
@@ -54,7 +54,7 @@ fn is_let_out(key: &GroupKey, policies: &Policies, prefix: &Prefix, path: &Path)
     let communities = path.attrs.parts().communities.as_slice();
     communities_allow(key.kind, communities)
         && reflection_allows(key.kind, &path.learned)
-        && is_permitted(policies, prefix, &key.list)
+        && is_permitted(&policies.lists, prefix, &key.list)
 }
 
 /// What the route map of that name makes of attributes, or their copy where no map is named.

@@ -1,15 +1,12 @@
 //! The rules on single attributes, and the kind of next hop.
 
 ghost use Rattle.std.specs.Prelude.{◌≡◌};
-ghost use Rattle.ug_routemap.specs.Maps.{holds, is_permitted};
 ghost use Rattle.ug_outbound.specs.Outbound.{communities_allow, local_pref_out, is_local, med_out, communities_out, next_hop_kind};
 
 use crate::key::GroupKey;
 use crate::kind::Kind;
-use crate::policy::Policies;
 use std::alloc::Global;
-use ug_prefixlist::find_list;
-use ug_types::{Learned, Name, NhKind, NumberList, Prefix, Sequence};
+use ug_types::{Learned, NhKind, NumberList, Sequence};
 
 /// The well-known communities (RFC 1997).
 const NO_EXPORT: u32 = 0xFFFF_FF01;
@@ -23,30 +20,11 @@ pub fn communities_allow(kind: Kind, numbers: &[u32]) -> bool
     ensures { result ≡ communities_allow kind numbers.now }
 {
     if kind == Kind::External {
-        return !(holds(NO_ADVERTISE, numbers)
-            || holds(NO_EXPORT, numbers)
-            || holds(NO_EXPORT_SUBCONFED, numbers));
+        return !(numbers.contains(&NO_ADVERTISE)
+            || numbers.contains(&NO_EXPORT)
+            || numbers.contains(&NO_EXPORT_SUBCONFED));
     }
-    !holds(NO_ADVERTISE, numbers)
-}
-
-fn holds(number: u32, numbers: &[u32]) -> bool
-    ensures { result ≡ holds number numbers.now }
-{
-    numbers.iter().any(|n| *n == number)
-}
-
-/// Whether the prefix list of that name permits a prefix, or no list is named.
-pub fn is_permitted(policies: &Policies, prefix: &Prefix, name: &Option<Name>) -> bool
-    ensures { result ≡ is_permitted policies.now.lists prefix.now name.now }
-{
-    let Some(name) = name else {
-        return true;
-    };
-    match find_list(&policies.lists, name) {
-        Some(list) => list.permits(prefix),
-        None => false,
-    }
+    !numbers.contains(&NO_ADVERTISE)
 }
 
 /// LOCAL_PREF is for internal peers alone, and 100 where it is absent.

@@ -2,10 +2,10 @@
 
 ghost use Rattle.std.specs.Prelude.{◌≡◌};
 ghost use Rattle.std.specs.Option.{option_map};
-ghost use Rattle.ug_prefixlist.specs.Named.{list_named};
+ghost use Rattle.ug_prefixlist.specs.Named.{list_named, is_permitted};
 
 use crate::list::PrefixList;
-use ug_types::{Name, Sequence};
+use ug_types::{Name, Prefix, Sequence};
 
 /// A prefix list and its name.
 #[derive(Debug, Drop)]
@@ -26,4 +26,17 @@ pub fn find_list<'a>(lists: &'a ListTable, name: &Name) -> Option<&'a PrefixList
         }
     }
     None
+}
+
+/// Whether the list of that name permits a prefix, or no list is named. A list that isn't there permits nothing.
+pub fn is_permitted(lists: &ListTable, prefix: &Prefix, name: &Option<Name>) -> bool
+    ensures { result ≡ is_permitted lists.now.items prefix.now name.now }
+{
+    let Some(name) = name else {
+        return true;
+    };
+    match find_list(lists, name) {
+        Some(list) => list.permits(prefix),
+        None => false,
+    }
 }

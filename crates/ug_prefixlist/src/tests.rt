@@ -151,5 +151,8 @@ fn lists_are_found(rt: HostRuntime) -> Result<(), Fail> {
     assert!(rt; lists.push(named).is_ok());
     assert!(rt; find_list(&lists, &a).is_some());
     assert!(rt; find_list(&lists, &b).is_none());
+    assert!(rt; is_permitted(&lists, &prefix(0, 0), &None));
+    assert!(rt; is_permitted(&lists, &prefix(0, 0), &Some(a)));
+    assert!(rt; !is_permitted(&lists, &prefix(0, 0), &Some(b)));
     Ok(())
 }

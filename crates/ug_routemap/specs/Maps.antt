@@ -5,25 +5,14 @@ use Rattle.std.specs.Option.{option_or}
 use Rattle.ug_types.specs.Ip.{IpPrefix}
 use Rattle.ug_types.specs.Attributes.{PathSegment, Attributes}
 use Rattle.ug_aspath.specs.Paths.{prepended}
-use Rattle.ug_prefixlist.specs.declared.entry.ListEntry.{ListEntry}
 use Rattle.ug_prefixlist.specs.declared.table.NamedList.{NamedList}
-use Rattle.ug_prefixlist.specs.Lists.{permits}
-use Rattle.ug_prefixlist.specs.Named.{list_named}
+use Rattle.ug_prefixlist.specs.Named.{is_permitted}
 use Rattle.ug_routemap.specs.declared.entry.OnMatch.{OnMatch}
 use Rattle.ug_routemap.specs.declared.entry.OnMatch.TheVariants as on_matches
 use Rattle.ug_routemap.specs.declared.mapped.Mapped.{Mapped}
 use Rattle.ug_routemap.specs.Rules.{MapRule}
 
 -- ---- when an entry is met: where all its matches hold
-
--- a list that isn't there permits nothing
-abbrev pub list_permits : Option (List ListEntry) → IpPrefix → Bool
-list_permits None p = false
-list_permits (Some entries) p = permits entries p
-
-abbrev pub is_permitted : List NamedList → IpPrefix → Option (List ℕ) → Bool
-is_permitted lists p None = true
-is_permitted lists p (Some name) = list_permits (list_named lists name) p
 
 abbrev pub holds : ℕ → List ℕ → Bool
 holds n ns = list_any (λ m. m == n) ns
@@ -58,10 +47,14 @@ abbrev pub all_prepended : List ℕ → List PathSegment → List PathSegment
 all_prepended [] path = path
 all_prepended (n ∷ ns) path = prepended n (all_prepended ns path)
 
+-- at the end, where it is not there yet
+abbrev pub with_one : ℕ → List ℕ → List ℕ
+with_one n there = if holds n there then there else there ++ n ∷ []
+
 -- those that are not there yet come to the end, in their order
 abbrev pub added : List ℕ → List ℕ → List ℕ
 added [] there = there
-added (n ∷ ns) there = added ns (if holds n there then there else there ++ n ∷ [])
+added (n ∷ ns) there = added ns (with_one n there)
 
 -- The sets of one entry. Of the communities those that are set come first, and then those that are added.
 abbrev pub with_sets : MapRule → Attributes → Attributes

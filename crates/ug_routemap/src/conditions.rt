@@ -3,11 +3,11 @@
 ghost use Rattle.std.specs.Prelude.{◌≡◌};
 ghost use Rattle.ug_types.specs.Attributes.{attributes_of};
 ghost use Rattle.ug_routemap.specs.Rules.{rule_of};
-ghost use Rattle.ug_routemap.specs.Maps.{is_permitted, holds, holds_wanted, is_wanted, has_wanted, is_met_by, is_met};
+ghost use Rattle.ug_routemap.specs.Maps.{holds_wanted, is_wanted, has_wanted, is_met_by, is_met};
 
 use crate::entry::MapEntry;
-use ug_prefixlist::{ListTable, find_list};
-use ug_types::{AttrParts, Attrs, Name, Prefix};
+use ug_prefixlist::{ListTable, is_permitted};
+use ug_types::{AttrParts, Attrs, Prefix};
 
 /// Whether all the matches of an entry hold.
 pub fn is_met(entry: &MapEntry, lists: &ListTable, attrs: &Attrs, prefix: &Prefix) -> bool
@@ -29,33 +29,13 @@ fn is_met_by(entry: &MapEntry, parts: &AttrParts) -> bool
         && is_wanted(entry.match_local_pref, parts.local_pref.unwrap_or(100))
 }
 
-/// Whether the list of that name permits a prefix, or no list is named.
-fn is_permitted(lists: &ListTable, prefix: &Prefix, name: &Option<Name>) -> bool
-    ensures { result ≡ is_permitted lists.now.items prefix.now name.now }
-{
-    let Some(name) = name else {
-        return true;
-    };
-    match find_list(lists, name) {
-        Some(list) => list.permits(prefix),
-        None => false,
-    }
-}
-
-/// Whether a number is among some.
-pub fn holds(number: u32, numbers: &[u32]) -> bool
-    ensures { result ≡ holds number numbers.now }
-{
-    numbers.iter().any(|n| *n == number)
-}
-
 /// Whether the number that is asked for is among some, or none is asked for.
 fn holds_wanted(wanted: Option<u32>, numbers: &[u32]) -> bool
     ensures { result ≡ holds_wanted wanted numbers.now }
 {
     match wanted {
         None => true,
-        Some(wanted) => holds(wanted, numbers),
+        Some(wanted) => numbers.contains(&wanted),
     }
 }
 

@@ -4,9 +4,8 @@ ghost use Rattle.std.specs.Prelude.{◌≡◌, [], true, map, unwrap_or, OnOk, I
 ghost use Rattle.ug_types.specs.Attributes.{segment_of, attributes_of};
 ghost use Rattle.ug_routemap.specs.Rules.{rule_of, numbers_of};
 ghost use Rattle.ug_routemap.specs.Refusals.{is_origin};
-ghost use Rattle.ug_routemap.specs.Maps.{all_prepended, added, with_sets, mapped_by};
+ghost use Rattle.ug_routemap.specs.Maps.{all_prepended, with_one, added, with_sets, mapped_by};
 
-use crate::conditions::holds;
 use crate::entry::MapEntry;
 use crate::mapped::Mapped;
 use std::alloc::Global;
@@ -93,9 +92,17 @@ fn add_all(communities: &mut NumberList, numbers: &[u32]) -> Result<(), NoMemory
     ensures { OnOk result (communities.new.items ≡ added numbers.now communities.old.items) }
 {
     for number in numbers {
-        if !holds(*number, communities.as_slice()) {
-            communities.extend_from_slice(&[*number])?;
-        }
+        add(communities, *number)?;
     }
     Ok(())
+}
+
+/// Adds a community at the end, where it isn't there yet.
+fn add(communities: &mut NumberList, number: u32) -> Result<(), NoMemory>
+    ensures { OnOk result (communities.new.items ≡ with_one number communities.old.items) }
+{
+    if communities.as_slice().contains(&number) {
+        return Ok(());
+    }
+    communities.extend_from_slice(&[number])
 }
