@@ -1,7 +1,10 @@
 //! The program: a run over the files of the system.
 #![tactic(auto)]
 
-ghost use Rattle.std.specs.Prelude.{◌≡◌, ◌<◌, IfErr, true};
+ghost use Rattle.std.specs.Prelude.{◌≡◌, ◌<◌, ◌↔◌, IfErr, true, false, map};
+ghost use Rattle.std.specs.String.{string_bytes};
+ghost use Rattle.ug_edge.specs.Told.{Rose};
+ghost use Rattle.ug_run.specs.Words.{is_command};
 ghost use Rattle.ug_run.specs.Statuses.{is_fixed};
 
 use std::alloc::Global;
@@ -73,6 +76,10 @@ fn run<L: Ledger, R: Threads + Wait + Sync, E: Site, K: Sink>(
     requires name { blank.name ≡ L.name }
     requires parts { blank.parts ≡ L.parts }
     requires some { 0 < blank.parts }
+    ensures usage { (result ≡ Status.Usage) ↔ (is_command (map string_bytes words.now) ≡ false) }
+    ensures read { result ≡ Status.ReadFault → Rose (E.faults site.old) (E.faults site.new) }
+    ensures report { result ≡ Status.ReportFault → Rose (K.faults report.old) (K.faults report.new) }
+    ensures site { result ≡ Status.SiteFault → Rose (E.wire_faults site.old) (E.wire_faults site.new) }
 {
     let mut steps = Steps::<L>::new(blank);
     let done = serve(rt, alloc, words, site, report, &mut steps);

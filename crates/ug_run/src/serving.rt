@@ -61,6 +61,8 @@ pub fn serve<R: Threads + Wait + Sync, E: Site, K: Sink, L: Ledger>(
     ensures checked { (command : CheckCommand) → command_of (map string_bytes words.now) ≡ Some (Check command) →
         IsChecked command (file_told (E.files site.old) command.stream) result.status (K.held report.old) (K.held report.new) (Rose (K.faults report.old) (K.faults report.new)) }
     ensures check_wires { (command : CheckCommand) → command_of (map string_bytes words.now) ≡ Some (Check command) → result.wires.items ≡ [] }
+    // No wire is given back only where none was made, and then no file was picked.
+    ensures given_back { (command : OneCommand) → command_of (map string_bytes words.now) ≡ Some (One command) → result.wires.items ≡ [] → E.left site.new ≡ E.left site.old }
     ensures usage { (result.status ≡ Status.Usage) ↔ (is_command (map string_bytes words.now) ≡ false) }
     ensures no_command { is_command (map string_bytes words.now) ≡ false →
         AppendsThenStatus (K.held report.old) (K.held report.new) (Rose (K.faults report.old) (K.faults report.new)) [] (status_text Status.Usage) }
@@ -97,6 +99,7 @@ fn one<E: Site, K: Sink>(
 ) -> Done<E::Wire>
     ensures promise { IsPromised configured_world (up_p1 ∷ []) (file_told (E.files site.old) events.now) result.status
         (map (λ wire. record { sessions = E.Wire.sessions wire; faults = E.Wire.faults wire }) result.wires.items) (K.held report.old) (K.held report.new) (Rose (K.faults report.old) (K.faults report.new)) }
+    ensures given_back { result.wires.items ≡ [] → E.left site.new ≡ E.left site.old }
     ensures usage { result.status ≡ Status.Usage → ⊥ }
     ensures read { result.status ≡ Status.ReadFault → Rose (E.faults site.old) (E.faults site.new) }
     ensures report { result.status ≡ Status.ReportFault → Rose (K.faults report.old) (K.faults report.new) }
