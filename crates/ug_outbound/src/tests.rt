@@ -1,5 +1,6 @@
 //! What goes out, worked out by hand rule by rule, and keys.
 
+mod bytes;
 mod rules;
 mod words;
 

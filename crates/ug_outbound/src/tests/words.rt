@@ -1,5 +1,8 @@
 //! Keys, paths and what goes out, read from words.
 
+ghost use Rattle.std.specs.Prelude.{◌≡◌, None, IfOk};
+ghost use Rattle.ug_types.specs.Attributes.{refusal_of};
+
 use crate::{GroupKey, Kind, Policies};
 use std::alloc::Global;
 use std::test::Fail;
@@ -145,7 +148,9 @@ fn change(alloc: Global, parts: &mut AttrParts, word: &str) -> Result<(), NoMemo
     Ok(())
 }
 
-fn attrs_of_words(alloc: Global, text: &str) -> Result<Attrs, Fail> {
+fn attrs_of_words(alloc: Global, text: &str) -> Result<Attrs, Fail>
+    ensures { IfOk result (λ a. refusal_of a ≡ None) }
+{
     let mut parts = plain_parts(alloc);
     for word in text.split_whitespace() {
         change(alloc, &mut parts, word)?;
@@ -172,7 +177,9 @@ fn first_word(text: &str) -> &str {
     text.split_whitespace().next().unwrap_or("")
 }
 
-pub fn path_of_words(alloc: Global, text: &str) -> Result<Path, Fail> {
+pub fn path_of_words(alloc: Global, text: &str) -> Result<Path, Fail>
+    ensures { IfOk result (λ p. refusal_of p.attrs ≡ None) }
+{
     Ok(Path {
         id: 1,
         learned: learned(first_word(text)),
