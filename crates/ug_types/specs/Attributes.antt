@@ -1,5 +1,5 @@
 -- Path attributes as plain records (RFC 4271 section 5, RFC 1997, RFC 4456 section 8, RFC 6793).
-use Rattle.std.specs.Prelude.{◌≡◌, ℕ, nat_lt, nat_le, Bool, true, ◌&&◌, not, List, length, map, sum_by, Option, Some, None, if◌then◌else◌}
+use Rattle.std.specs.Prelude.{◌≡◌, ℕ, nat_lt, nat_le, Bool, true, false, ◌&&◌, not, List, [], length, map, sum_by, Option, Some, None, if◌then◌else◌}
 use Rattle.std.specs.List.{list_all}
 use Rattle.ug_types.specs.Ip.{IpAddress}
 use Rattle.ug_types.specs.declared.attrs.Segment.{Segment}
@@ -38,6 +38,21 @@ attributes_of p = record {
   communities = p.communities.items;
   originator = p.originator;
   clusters = p.clusters.items;
+}
+
+-- ORIGIN, AS_PATH and NEXT_HOP, and no others
+abbrev pub plain_attributes : ℕ → List PathSegment → IpAddress → Attributes
+plain_attributes origin path next_hop = record {
+  origin = origin;
+  path = path;
+  next_hop = next_hop;
+  med = None;
+  local_pref = None;
+  atomic = false;
+  aggregator = None;
+  communities = [];
+  originator = None;
+  clusters = [];
 }
 
 -- how many AS numbers a path has

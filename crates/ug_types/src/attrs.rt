@@ -2,7 +2,7 @@
 
 ghost use Rattle.std.specs.Prelude.{◌≡◌, ◌<◌, ◌↔◌, IsTrue, OnOk, IfOk, IfErr, MatchResult, Some, None, map, true, false};
 ghost use Rattle.std.specs.List.{list_all};
-ghost use Rattle.ug_types.specs.Attributes.{attributes_of, refusal_of, is_well_formed, is_segment, IsAttributes, numbers_in, segment_of, Attributes};
+ghost use Rattle.ug_types.specs.Attributes.{attributes_of, refusal_of, is_well_formed, is_segment, IsAttributes, numbers_in, plain_attributes, segment_of, Attributes};
 
 use crate::address::Addr;
 use crate::memory::NoMemory;
@@ -49,6 +49,26 @@ pub struct AttrParts {
     pub originator: Option<Addr>,
     /// CLUSTER_LIST, the last cluster that reflected the route first.
     pub clusters: NumberList,
+}
+
+impl AttrParts {
+    /// The attributes that each route must have (RFC 4271 section 5), and no others. It takes no memory.
+    pub fn plain(alloc: Global, origin: u8, path: SegmentList, next_hop: Addr) -> AttrParts
+        ensures { attributes_of result ≡ plain_attributes origin (map segment_of path.items) next_hop }
+    {
+        AttrParts {
+            origin,
+            path,
+            next_hop,
+            med: None,
+            local_pref: None,
+            atomic: false,
+            aggregator: None,
+            communities: Sequence::new(alloc),
+            originator: None,
+            clusters: Sequence::new(alloc),
+        }
+    }
 }
 
 /// Why attributes are refused.
