@@ -1,2 +1,3 @@
 pub mod SessionLemmas
 pub mod SiteLemmas
+pub mod RoomLemmas

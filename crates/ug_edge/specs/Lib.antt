@@ -4,3 +4,5 @@ pub mod SinkState
 pub mod SessionsState
 pub mod WireState
 pub mod SiteState
+pub mod RoomState
+pub mod GatedState

@@ -1,12 +1,13 @@
 -- What a site in memory holds, and what each of its calls makes of it.
-use Rattle.std.specs.Prelude.{ℕ, Bool, List, [], ◌∷◌, ◌++◌, Option, Some, None, map, drop, slice_get, if◌then◌else◌}
+use Rattle.std.specs.Prelude.{ℕ, Bool, true, false, List, [], ◌∷◌, ◌++◌, Option, Some, None, map, drop, slice_get, if◌then◌else◌}
 use Rattle.ug_edge.specs.declared.lists.CallKind.TheVariants.{Pick, Read, Wire}
 use Rattle.ug_edge.specs.declared.lists.FailAt.{FailAt}
 use Rattle.ug_edge.specs.declared.lists.File.{File}
 use Rattle.ug_edge.specs.declared.lists.Cut.{Cut}
 use Rattle.ug_edge.specs.declared.lists.BeginFails.{BeginFails}
 use Rattle.ug_edge.specs.Fails.{raised, lists}
-use Rattle.ug_edge.specs.Told.{FileText, same_name, file_named}
+use Rattle.ug_edge.specs.declared.lists.Made.{Made}
+use Rattle.ug_edge.specs.Told.{FileText, same_name, file_named, WireName}
 
 -- a total of bytes at which a send of the wires to a peer fails
 pub record PeerCut : Type 0 where
@@ -18,11 +19,14 @@ pub record PeerBegins : Type 0 where
   pub peer : List ℕ
   pub sessions : List ℕ
 
--- The files, the bytes left to read, the calls that are listed to fail, the cuts, the sessions whose begin fails,
--- the number of calls of each kind so far, and the two counts of faults.
+-- The files, whether one of them was picked, the bytes left to read, the wires made, the calls that are listed to
+-- fail, the cuts, the sessions whose begin fails, the number of calls of each kind so far, and the two counts of
+-- faults.
 pub record SiteState : Type 0 where
   pub files : List FileText
+  pub is_picked : Bool
   pub left : List ℕ
+  pub made : List WireName
   pub fails : List FailAt
   pub cuts : List PeerCut
   pub begins : List PeerBegins
@@ -42,6 +46,9 @@ peer_cuts = map (λ cut. record { peer = cut.peer.items; total = cut.total })
 abbrev pub peer_begins : List BeginFails → List PeerBegins
 peer_begins = map (λ fails. record { peer = fails.peer.items; sessions = fails.sessions.items })
 
+abbrev pub wire_names : List Made → List WireName
+wire_names = map (λ wire. record { dir = wire.dir.items; peer = wire.peer.items })
+
 -- the bytes of a file from an offset on
 abbrev pub bytes_from : ℕ → Option File → List ℕ
 bytes_from offset None = []
@@ -54,7 +61,7 @@ bytes_left files (Some place) offset = bytes_from offset (slice_get files place)
 
 -- the site that has these files, before any call
 abbrev pub fresh_site : List FileText → List FailAt → List PeerCut → SiteState
-fresh_site files fails cuts = record { files = files; left = []; fails = fails; cuts = cuts; begins = []; picks = 0; reads = 0; wires = 0; faults = 0; wire_faults = 0 }
+fresh_site files fails cuts = record { files = files; is_picked = false; left = []; made = []; fails = fails; cuts = cuts; begins = []; picks = 0; reads = 0; wires = 0; faults = 0; wire_faults = 0 }
 
 -- the totals of the cuts of a peer
 abbrev pub totals_to : List ℕ → List PeerCut → List ℕ
@@ -82,11 +89,11 @@ picked_bytes name site = if next_pick_fails site then None else file_named name 
 
 -- the site after a pick that made these bytes the ones to read
 abbrev pub site_picked : List ℕ → SiteState → SiteState
-site_picked bytes site = record site { left = bytes; picks = raised site.picks }
+site_picked bytes site = record site { is_picked = true; left = bytes; picks = raised site.picks }
 
 -- the site after a pick that failed
 abbrev pub site_unpicked : SiteState → SiteState
-site_unpicked site = record site { left = []; picks = raised site.picks; faults = raised site.faults }
+site_unpicked site = record site { is_picked = false; left = []; picks = raised site.picks; faults = raised site.faults }
 
 -- the site after a read of this many bytes
 abbrev pub site_read : ℕ → SiteState → SiteState
@@ -96,9 +103,13 @@ site_read count site = record site { left = drop count site.left; reads = raised
 abbrev pub site_unread : SiteState → SiteState
 site_unread site = record site { reads = raised site.reads; faults = raised site.faults }
 
--- the site after a wire was made, or memory was wanting for it
-abbrev pub site_wired : SiteState → SiteState
-site_wired site = record site { wires = raised site.wires }
+-- the site after a wire was made
+abbrev pub site_wired : List ℕ → List ℕ → SiteState → SiteState
+site_wired dir peer site = record site { wires = raised site.wires; made = site.made ++ record { dir = dir; peer = peer } ∷ [] }
+
+-- the site after a wire for which memory was wanting
+abbrev pub site_unmade : SiteState → SiteState
+site_unmade site = record site { wires = raised site.wires }
 
 -- the site after a wire that was listed to fail
 abbrev pub site_unwired : SiteState → SiteState

@@ -1,6 +1,6 @@
 -- What the objects of the outside tell. Content is told as an option: `None` keeps it to itself, and an object
 -- that tells goes on telling.
-use Rattle.std.specs.Prelude.{◌≡◌, ℕ, ◌<◌, ◌⊎◌, ◌==◌, Bool, List, [], ◌∷◌, ◌++◌, Option, Some, None, if◌then◌else◌}
+use Rattle.std.specs.Prelude.{◌≡◌, ℕ, ◌+◌, ◌<◌, ◌⊎◌, ◌==◌, Bool, List, [], ◌∷◌, ◌++◌, Option, Some, None, if◌then◌else◌}
 use Rattle.std.specs.Cmp.Lexicographic.{pointwise}
 
 -- A count of faults rose in a call, or stands at the last value of its type and can't rise further.
@@ -70,3 +70,40 @@ HasPicked None name None = Unit {0}
 HasPicked None name (Some left) = ⊥
 HasPicked (Some files) name None = ⊥
 HasPicked (Some files) name (Some left) = file_named name files ≡ Some left
+
+-- What is known of a file: nothing, that there is none of its name, or its bytes.
+pub data FileTold : Type 0 where
+  Untold : FileTold
+  Missing : FileTold
+  Bytes : List ℕ → FileTold
+
+abbrev pub missing_or_bytes : Option (List ℕ) → FileTold
+missing_or_bytes None = Missing
+missing_or_bytes (Some bytes) = Bytes bytes
+
+-- what a site tells of the file of that name
+abbrev pub file_told : Option (List FileText) → List ℕ → FileTold
+file_told None name = Untold
+file_told (Some files) name = missing_or_bytes (file_named name files)
+
+-- what a wire was made for: the folder, and the name of the peer
+pub record WireName : Type 0 where
+  pub dir : List ℕ
+  pub peer : List ℕ
+
+-- The wires that a site made, in order: how many, and, where told, what each was made for.
+pub record WiresMade : Type 0 where
+  pub count : ℕ
+  pub names : Option (List WireName)
+
+-- These were made beside those before, where that is told.
+abbrev pub AppendsNames : Option (List WireName) → Option (List WireName) → List WireName → Type 0
+AppendsNames None None more = Unit {0}
+AppendsNames None (Some new) more = ⊥
+AppendsNames (Some old) None more = ⊥
+AppendsNames (Some old) (Some new) more = new ≡ old ++ more
+
+-- Just this wire was made.
+pub record MakesWire (old new : WiresMade) (dir peer : List ℕ) : Type 0 where
+  pub counted : new.count ≡ old.count + 1
+  pub named : AppendsNames old.names new.names (record { dir = dir; peer = peer } ∷ [])

@@ -1,6 +1,7 @@
 //! The real forms: files of the system, and standard output. What they hold is not told.
 
-ghost use Rattle.std.specs.Prelude.{◌≡◌, ◌<◌, ◌≤◌, length, None, Err, IfOk, OnErr};
+ghost use Rattle.std.specs.Prelude.{◌≡◌, ◌<◌, ◌≤◌, length, take, is_some, true, false, None, Err, IfOk, OnOk, OnErr};
+ghost use Rattle.std.specs.Io.KnownBytes.{Appends, Consumes, IsAtEnd, Keeps};
 ghost use Rattle.ug_edge.specs.Told.{Rose};
 
 use crate::counts::raise;
@@ -16,6 +17,7 @@ pub struct HostSite<R: Files> {
     rt: R,
     alloc: Global,
     file: Option<R::File>,
+    made: u64,
     faults: u64,
     wire_faults: u64,
 }
@@ -44,11 +46,13 @@ impl<R: Files> HostSite<R> {
     pub fn new(rt: R, alloc: Global) -> HostSite<R>
         ensures faults { ⟦<HostSite<R> as Source>⟧.faults result ≡ 0 }
         ensures wire_faults { ⟦<HostSite<R> as Source>⟧.wire_faults result ≡ 0 }
+        ensures made { (⟦<HostSite<R> as Source>⟧.made result).count ≡ 0 }
     {
         HostSite {
             rt,
             alloc,
             file: None,
+            made: 0,
             faults: 0,
             wire_faults: 0,
         }
@@ -62,13 +66,17 @@ impl<R: Files> Source for HostSite<R> {
 
     ghost files = { λ _. None };
 
+    ghost is_picked = { λ site. is_some site.file };
+
+    ghost made = { λ site. record { count = site.made; names = None } };
+
     ghost wire_faults = { λ site. site.wire_faults };
 
     fn read(&mut self, buf: &mut [u8]) -> Result<usize, Failed> {
         let Some(file) = &mut self.file else {
             return Ok(0);
         };
-        let Ok(count) = file.read(buf) else {
+        let Ok(count) = read_some(file, buf) else {
             self.faults = raise(self.faults);
             return Err(Failed);
         };
@@ -85,7 +93,11 @@ where
     fn pick(&mut self, name: &str) -> Result<(), SiteFault>
         ensures failed { OnErr result (result ≡ Err SiteFault.Failed) }
         ensures rose { OnErr result (Rose (⟦<HostSite<R> as Source>⟧.faults self.old) (⟦<HostSite<R> as Source>⟧.faults self.new)) }
+        ensures unharmed { OnOk result (⟦<HostSite<R> as Source>⟧.faults self.new ≡ ⟦<HostSite<R> as Source>⟧.faults self.old) }
         ensures faults { ⟦<HostSite<R> as Source>⟧.faults self.old ≤ ⟦<HostSite<R> as Source>⟧.faults self.new }
+        ensures is_picked { OnOk result (⟦<HostSite<R> as Source>⟧.is_picked self.new ≡ true) }
+        ensures is_unpicked { OnErr result (⟦<HostSite<R> as Source>⟧.is_picked self.new ≡ false) }
+        ensures made { ⟦<HostSite<R> as Source>⟧.made self.new ≡ ⟦<HostSite<R> as Source>⟧.made self.old }
         ensures wire_faults { ⟦<HostSite<R> as Source>⟧.wire_faults self.new ≡ ⟦<HostSite<R> as Source>⟧.wire_faults self.old }
     {
         self.file = None;
@@ -102,6 +114,9 @@ where
             self.wire_faults = raise(self.wire_faults);
             return Err(SiteFault::Failed);
         }
+        let Some(made) = self.made.checked_add(1) else {
+            return Err(SiteFault::NoMemory);
+        };
         let Ok(rt) = self.rt.clone() else {
             return Err(SiteFault::NoMemory);
         };
@@ -111,6 +126,7 @@ where
         let Ok(peer) = String::from_str(self.alloc, peer) else {
             return Err(SiteFault::NoMemory);
         };
+        self.made = made;
         Ok(HostWire {
             rt,
             alloc: self.alloc,
@@ -180,10 +196,25 @@ where
     }
 }
 
-/// Writes some bytes of the piece, at least one of a piece that has any.
+/// Reads the next bytes to the front of the buffer, and answers how many: 0, for a buffer that has room, at the end
+/// alone.
+fn read_some<F: Read>(from: &mut F, buf: &mut [u8]) -> Result<usize, Failed>
+    ensures count { IfOk result (λ n. n ≤ length buf.old) }
+    ensures taken { IfOk result (λ n. Consumes (F.remaining from.old) (F.remaining from.new) (take n buf.new)) }
+    ensures end { IfOk result (λ n. n ≡ 0 → 0 < length buf.old → IsAtEnd (F.remaining from.new)) }
+    ensures err { OnErr result (Keeps (F.remaining from.old) (F.remaining from.new)) }
+{
+    match from.read(buf) {
+        Ok(count) => Ok(count),
+        Err(_) => Err(Failed),
+    }
+}
+
+/// Writes some bytes from the front of the piece, at least one of a piece that has any, and answers how many.
 fn write_some<W: Write>(to: &mut W, piece: &[u8]) -> Result<usize, Failed>
     ensures count { IfOk result (λ n. n ≤ length piece.now) }
     ensures some { IfOk result (λ n. 0 < length piece.now → 1 ≤ n) }
+    ensures written { IfOk result (λ n. Appends (W.contents to.old) (W.contents to.new) (take n piece.now)) }
 {
     let Ok(count) = to.write(piece) else {
         return Err(Failed);

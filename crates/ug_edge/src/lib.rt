@@ -4,20 +4,27 @@
 
 mod counts;
 mod cuts;
+mod gated;
 mod host;
+#[cfg(test)]
+mod host_tests;
 mod lists;
 mod outside;
 mod places;
+mod room;
 mod sessions;
 mod sink;
 mod site;
+mod spans;
 #[cfg(test)]
 mod tests;
 mod wire;
 
+pub use gated::{GatedSite, GatedWire};
 pub use host::{HostSite, HostWire, StdoutSink};
 pub use lists::{CallKind, CallList, Cut, CutList, FailAt, File, FileList};
 pub use outside::{Failed, Sink, Site, SiteFault, Source, Wire};
+pub use room::RoomWire;
 pub use sink::MemSink;
 pub use site::MemSite;
 pub use wire::MemWire;

@@ -44,3 +44,10 @@ pub(crate) struct BeginFails {
     pub peer: ByteList,
     pub sessions: NumberList,
 }
+
+/// What a wire was made for: the folder, and the name of the peer.
+#[derive(Debug, Drop)]
+pub(crate) struct Made {
+    pub dir: ByteList,
+    pub peer: ByteList,
+}

@@ -1,8 +1,8 @@
-//! The traits of the outside. Each object has a count of faults that never falls, and a call fails only where
-//! that count rose in the call.
+//! The traits of the outside. Each object has a count of faults that never falls. A call fails only where that
+//! count rose in the call, and one that answers `Ok` leaves it as it was.
 
-ghost use Rattle.std.specs.Prelude.{◌≡◌, ℕ, ◌+◌, ◌<◌, ◌≤◌, List, length, take, Option, OnOk, OnErr, IfOk, IsErrOf};
-ghost use Rattle.ug_edge.specs.Told.{Rose, TakesFront, IsEnded, AppendsPiece, IsFresh, BeginsSession, SendsPiece, FileText, HasPicked};
+ghost use Rattle.std.specs.Prelude.{◌≡◌, ℕ, ◌+◌, ◌<◌, ◌≤◌, Bool, true, false, List, length, take, Option, OnOk, OnErr, IfOk, IsErrOf};
+ghost use Rattle.ug_edge.specs.Told.{Rose, TakesFront, IsEnded, AppendsPiece, IsFresh, BeginsSession, SendsPiece, FileText, HasPicked, WiresMade, MakesWire};
 
 /// A call of the outside failed.
 #[derive(Clone, Copy, Debug, PartialEq, Eq)]
@@ -23,9 +23,13 @@ pub trait Source {
     /// How often a read, or the choice of what to read, has failed.
     ghost faults: { Self → ℕ };
 
-    /// Beside what it reads a source may have files to choose from, where told, and a count of its own for the
-    /// wires that could not be made. Reading changes neither.
+    /// Beside what it reads a source may have files to choose from, where told, whether one of them was picked, the
+    /// wires that it made, and a count of its own for those that could not be made. Reading changes none of these.
     ghost files: { Self → Option (List FileText) };
+
+    ghost is_picked: { Self → Bool };
+
+    ghost made: { Self → WiresMade };
 
     ghost wire_faults: { Self → ℕ };
 
@@ -37,8 +41,11 @@ pub trait Source {
         ensures end { IfOk result (λ n. n ≡ 0 → 0 < length buf.old → IsEnded (left self.old)) }
         ensures err { OnErr result (left self.new ≡ left self.old) }
         ensures failed { OnErr result (Rose (faults self.old) (faults self.new)) }
+        ensures unharmed { OnOk result (faults self.new ≡ faults self.old) }
         ensures faults { faults self.old ≤ faults self.new }
         ensures files { files self.new ≡ files self.old }
+        ensures is_picked { is_picked self.new ≡ is_picked self.old }
+        ensures made { made self.new ≡ made self.old }
         ensures wire_faults { wire_faults self.new ≡ wire_faults self.old };
 }
 
@@ -57,6 +64,7 @@ pub trait Sink {
         ensures appended { IfOk result (λ n. AppendsPiece (held self.old) (held self.new) (take n piece.now)) }
         ensures err { OnErr result (held self.new ≡ held self.old) }
         ensures failed { OnErr result (Rose (faults self.old) (faults self.new)) }
+        ensures unharmed { OnOk result (faults self.new ≡ faults self.old) }
         ensures faults { faults self.old ≤ faults self.new };
 }
 
@@ -77,6 +85,7 @@ pub trait Wire: Send + Drop {
         ensures sessions { BeginsSession (sessions self.old) (sessions self.new) }
         ensures begun { begun self.new ≡ begun self.old + 1 }
         ensures failed { OnErr result (Rose (faults self.old) (faults self.new)) }
+        ensures unharmed { OnOk result (faults self.new ≡ faults self.old) }
         ensures faults { faults self.old ≤ faults self.new };
 
     /// Takes bytes from the front of the piece into the last session, at least one of a piece that has any, and
@@ -89,6 +98,7 @@ pub trait Wire: Send + Drop {
         ensures err { OnErr result (sessions self.new ≡ sessions self.old) }
         ensures begun { begun self.new ≡ begun self.old }
         ensures failed { OnErr result (Rose (faults self.old) (faults self.new)) }
+        ensures unharmed { OnOk result (faults self.new ≡ faults self.old) }
         ensures faults { faults self.old ≤ faults self.new };
 }
 
@@ -100,19 +110,28 @@ pub trait Site: Source {
     fn pick(&mut self, name: &str) -> Result<(), SiteFault>
         ensures picked { OnOk result (HasPicked (Self.files self.old) name.now (Self.left self.new)) }
         ensures err { OnErr result (IsEnded (Self.left self.new)) }
+        ensures is_picked { OnOk result (Self.is_picked self.new ≡ true) }
+        ensures is_unpicked { OnErr result (Self.is_picked self.new ≡ false) }
         ensures failed { IsErrOf result SiteFault.Failed → Rose (Self.faults self.old) (Self.faults self.new) }
+        ensures unharmed { OnOk result (Self.faults self.new ≡ Self.faults self.old) }
         ensures faults { Self.faults self.old ≤ Self.faults self.new }
         ensures files { Self.files self.new ≡ Self.files self.old }
+        ensures made { Self.made self.new ≡ Self.made self.old }
         ensures wire_faults { Self.wire_faults self.new ≡ Self.wire_faults self.old };
 
-    /// A wire to the named peer, with no sessions and no faults.
+    /// A wire to the named peer, with no sessions and no faults. It is one more of the wires that the site made; where
+    /// the call fails none was made.
     fn wire(&mut self, dir: &str, peer: &str) -> Result<Self::Wire, SiteFault>
         ensures sessions { IfOk result (λ wire. IsFresh (Self.Wire.sessions wire)) }
         ensures begun { IfOk result (λ wire. Self.Wire.begun wire ≡ 0) }
         ensures no_faults { IfOk result (λ wire. Self.Wire.faults wire ≡ 0) }
+        ensures made { OnOk result (MakesWire (Self.made self.old) (Self.made self.new) dir.now peer.now) }
+        ensures unmade { OnErr result (Self.made self.new ≡ Self.made self.old) }
         ensures failed { IsErrOf result SiteFault.Failed → Rose (Self.wire_faults self.old) (Self.wire_faults self.new) }
+        ensures unharmed { OnOk result (Self.wire_faults self.new ≡ Self.wire_faults self.old) }
         ensures wire_faults { Self.wire_faults self.old ≤ Self.wire_faults self.new }
         ensures left { Self.left self.new ≡ Self.left self.old }
+        ensures is_picked { Self.is_picked self.new ≡ Self.is_picked self.old }
         ensures faults { Self.faults self.new ≡ Self.faults self.old }
         ensures files { Self.files self.new ≡ Self.files self.old };
 }

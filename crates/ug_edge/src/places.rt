@@ -4,9 +4,9 @@ ghost use Rattle.std.specs.Prelude.{◌≡◌, ◌+◌, ◌≤◌, ◌++◌, min
 ghost use Rattle.ug_edge.specs.SiteState.{file_texts, peer_cuts, peer_begins, bytes_left, totals_to, begins_to};
 ghost use Rattle.ug_edge.specs.Told.{file_named};
 
-use crate::lists::{BeginFails, CutList, FileList};
+use crate::lists::{BeginFails, CutList, FileList, Made};
 use std::alloc::Global;
-use ug_types::{NoMemory, NumberList, Sequence};
+use ug_types::{ByteList, NoMemory, NumberList, Sequence};
 
 /// The place of the first file of that name.
 pub(crate) fn place_of(files: &FileList, name: &str) -> Option<usize>
@@ -80,4 +80,14 @@ pub(crate) fn begins_of(
         }
     }
     Ok(numbers)
+}
+
+/// The names that a wire is made for, kept.
+pub(crate) fn made_for(alloc: Global, dir: &str, peer: &str) -> Result<Made, NoMemory>
+    ensures dir { IfOk result (λ made. made.dir.items ≡ dir.now) }
+    ensures peer { IfOk result (λ made. made.peer.items ≡ peer.now) }
+{
+    let dir: ByteList = Sequence::from_vec(Vec::from_slice(alloc, dir.as_bytes())?);
+    let peer: ByteList = Sequence::from_vec(Vec::from_slice(alloc, peer.as_bytes())?);
+    Ok(Made { dir, peer })
 }

@@ -1,14 +1,14 @@
 //! A site whose files and wires are in memory.
 
 ghost use Rattle.std.specs.Prelude.{◌≡◌, ◌<◌, ◌≤◌, [], ◌++◌, min, length, take, drop, true, false, Some, None, OnOk, OnErr, IfOk, IsOk, IsErrOf, Err};
-ghost use Rattle.ug_edge.specs.SiteState.{SiteState, PeerCut, PeerBegins, file_texts, peer_cuts, peer_begins, bytes_left, fresh_site, totals_to, begins_to, next_pick_fails, next_read_fails, next_wire_fails, picked_bytes, site_picked, site_unpicked, site_read, site_unread, site_wired, site_unwired, site_with_begins};
+ghost use Rattle.ug_edge.specs.SiteState.{SiteState, PeerCut, PeerBegins, file_texts, peer_cuts, peer_begins, wire_names, bytes_left, fresh_site, totals_to, begins_to, next_pick_fails, next_read_fails, next_wire_fails, picked_bytes, site_picked, site_unpicked, site_read, site_unread, site_wired, site_unmade, site_unwired, site_with_begins};
 ghost use Rattle.ug_edge.specs.WireState.{fresh_wire};
 ghost use Rattle.ug_edge.specs.Told.{Rose};
 
 use crate::counts::{is_listed, raise};
-use crate::lists::{BeginFails, CallKind, CallList, CutList, FileList};
+use crate::lists::{BeginFails, CallKind, CallList, CutList, FileList, Made};
 use crate::outside::{Failed, Site, SiteFault, Source};
-use crate::places::{begins_of, copy_front, place_of, rest_of, totals_of};
+use crate::places::{begins_of, copy_front, made_for, place_of, rest_of, totals_of};
 use crate::wire::MemWire;
 use std::alloc::Global;
 use std::marker::Model;
@@ -22,6 +22,7 @@ pub struct MemSite {
     files: FileList,
     place: Option<usize>,
     offset: usize,
+    made: Sequence<Made>,
     fails: CallList,
     cuts: CutList,
     begins: Sequence<BeginFails>,
@@ -33,13 +34,16 @@ pub struct MemSite {
 }
 
 impl Model for MemSite {
-    ghost use Rattle.ug_edge.specs.SiteState.{SiteState, file_texts, peer_cuts, peer_begins, bytes_left};
+    ghost use Rattle.std.specs.Prelude.{is_some};
+    ghost use Rattle.ug_edge.specs.SiteState.{SiteState, file_texts, peer_cuts, peer_begins, wire_names, bytes_left};
 
     ghost Value = { SiteState };
 
     ghost view = { λ s. record {
       files = file_texts s.files.items;
+      is_picked = is_some s.place;
       left = bytes_left s.files.items s.place s.offset;
+      made = wire_names s.made.items;
       fails = s.fails.items;
       cuts = peer_cuts s.cuts.items;
       begins = peer_begins s.begins.items;
@@ -68,6 +72,7 @@ impl MemSite {
             files,
             place: None,
             offset: 0,
+            made: Sequence::new(alloc),
             fails,
             cuts,
             begins: Sequence::new(alloc),
@@ -98,6 +103,10 @@ impl Source for MemSite {
     ghost faults = { λ site. site.faults };
 
     ghost files = { λ site. Some site.files };
+
+    ghost is_picked = { λ site. site.is_picked };
+
+    ghost made = { λ site. record { count = length site.made; names = Some site.made } };
 
     ghost wire_faults = { λ site. site.wire_faults };
 
@@ -157,9 +166,9 @@ impl Site for MemSite {
 
     fn wire(&mut self, dir: &str, peer: &str) -> Result<MemWire, SiteFault>
         ensures wire { IfOk result (λ wire. wire ≡ fresh_wire (totals_to peer.now self.old.cuts) (begins_to peer.now self.old.begins)) }
-        ensures ok { OnOk result ((next_wire_fails self.old ≡ false) × (self.new ≡ site_wired self.old)) }
+        ensures ok { OnOk result ((next_wire_fails self.old ≡ false) × (self.new ≡ site_wired dir.now peer.now self.old)) }
         ensures listed { IsErrOf result SiteFault.Failed → (next_wire_fails self.old ≡ true) × (self.new ≡ site_unwired self.old) }
-        ensures no_memory { IsErrOf result SiteFault.NoMemory → (next_wire_fails self.old ≡ false) × (self.new ≡ site_wired self.old) }
+        ensures no_memory { IsErrOf result SiteFault.NoMemory → (next_wire_fails self.old ≡ false) × (self.new ≡ site_unmade self.old) }
         ensures failed { IsErrOf result SiteFault.Failed → Rose self.old.wire_faults self.new.wire_faults }
         ensures wire_faults { self.old.wire_faults ≤ self.new.wire_faults }
     {
@@ -172,6 +181,12 @@ impl Site for MemSite {
             return Err(SiteFault::NoMemory);
         };
         let Ok(failing) = begins_of(self.alloc, &self.begins, peer) else {
+            return Err(SiteFault::NoMemory);
+        };
+        let Ok(made) = made_for(self.alloc, dir, peer) else {
+            return Err(SiteFault::NoMemory);
+        };
+        let Ok(()) = self.made.push(made) else {
             return Err(SiteFault::NoMemory);
         };
         Ok(MemWire::new(self.alloc, cuts, failing))

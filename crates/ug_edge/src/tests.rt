@@ -1,7 +1,6 @@
 use super::*;
 use std::alloc::Global;
 use std::test::Fail;
-use std::{env, fs};
 use ug_types::{ByteList, NoMemory, NumberList, Sequence};
 
 fn bytes_of(alloc: Global, text: &str) -> Result<ByteList, NoMemory> {
@@ -103,6 +102,46 @@ fn wire(site: &mut MemSite) -> Result<MemWire, SiteFault> {
     site.wire("dir", "p")
 }
 
+fn room_begin(wire: &mut RoomWire) -> Result<(), Failed> {
+    if wire.sessions() == u32::MAX {
+        return Err(Failed);
+    }
+    wire.begin()
+}
+
+fn room_send(wire: &mut RoomWire, piece: &[u8]) -> Result<usize, Failed> {
+    if wire.sessions() == 0 {
+        return Err(Failed);
+    }
+    wire.send(piece)
+}
+
+fn gated_pick(site: &mut GatedSite, name: &str) -> Result<(), SiteFault> {
+    site.pick(name)
+}
+
+fn gated_read(site: &mut GatedSite, buf: &mut [u8]) -> Result<usize, Failed> {
+    site.read(buf)
+}
+
+fn gated_wire(site: &mut GatedSite, peer: &str) -> Result<GatedWire, SiteFault> {
+    site.wire("dir", peer)
+}
+
+fn gated_begin(wire: &mut GatedWire) -> bool {
+    wire.sessions() < u32::MAX && wire.begin().is_ok()
+}
+
+/// Whether the wire takes a text whole, and holds it.
+fn gated_send(wire: GatedWire) -> bool {
+    let mut wire = wire;
+    wire.sessions() == 1 && wire.send(b"text") == Ok(4) && holds_text(&wire)
+}
+
+fn holds_text(wire: &GatedWire) -> bool {
+    wire.sessions() == 1 && wire.session(1) == b"text".as_slice()
+}
+
 #[test]
 fn the_second_write_fails(rt: HostRuntime) -> Result<(), Fail> {
     let fails = calls_of(rt.alloc(), CallKind::Write, 2)?;
@@ -193,36 +232,64 @@ fn listed_begins_fail(rt: HostRuntime) -> Result<(), Fail> {
 }
 
 #[test]
-fn the_real_forms_use_files(rt: HostRuntime) -> Result<(), Fail> {
-    let alloc = rt.alloc();
-    let temp = env::temp_dir(&rt)?;
-    let temp = temp.to_str().ok_or("no text")?;
-    let number = std::process::id(rt.process());
-    let dir = format!(in alloc; "{temp}/ug_edge_{number}")?;
-    let mut site = HostSite::new(rt.clone()?, alloc);
-    assert!(rt; matches!(site.wire(dir.as_str(), "peer"), Err(SiteFault::Failed)));
-    fs::create_dir(&rt, dir.as_str())?;
-    let mut wire = site.wire(dir.as_str(), "peer")?;
-    let first = wire.begin();
-    let sent = wire.send(b"text");
-    let name = format!(in alloc; "{dir}/peer.1")?;
-    let picked = site.pick(name.as_str());
-    let mut buf = [0u8; 8];
-    let read = site.read(&mut buf);
-    let end = site.read(&mut buf);
-    let missing = site.pick("no/such/file");
-    fs::remove_file(&rt, name.as_str())?;
-    fs::remove_dir(&rt, dir.as_str())?;
+fn a_room_wire_takes_what_fits(rt: HostRuntime) -> Result<(), Fail> {
+    let mut wire = RoomWire::new(rt.alloc(), 2, 5)?;
+    let first = room_begin(&mut wire);
+    let whole = room_send(&mut wire, b"abc");
+    let second = room_begin(&mut wire);
+    let part = room_send(&mut wire, b"defg");
+    let none = room_send(&mut wire, b"fg");
+    let empty = room_send(&mut wire, b"");
+    let third = room_begin(&mut wire);
+    let unkept = room_send(&mut wire, b"");
     assert_eq!(rt; first, Ok(()));
-    assert_eq!(rt; sent, Ok(4));
+    assert_eq!(rt; whole, Ok(3));
+    assert_eq!(rt; second, Ok(()));
+    assert_eq!(rt; part, Ok(2));
+    assert_eq!(rt; none, Err(Failed));
+    assert_eq!(rt; empty, Ok(0));
+    assert_eq!(rt; third, Err(Failed));
+    assert_eq!(rt; unkept, Err(Failed));
+    assert_eq!(rt; wire.sessions(), 3);
+    assert_eq!(rt; wire.session(1), b"abc".as_slice());
+    assert_eq!(rt; wire.session(2), b"de".as_slice());
+    assert_eq!(rt; wire.session(3), b"".as_slice());
+    Ok(())
+}
+
+#[test]
+fn gated_wires_wait_for_each_other(rt: HostRuntime) -> Result<(), Fail> {
+    let alloc = rt.alloc();
+    let files = files_of(alloc, &[("a", "text")])?;
+    let mut site = GatedSite::new(alloc, files)?;
+    let picked = gated_pick(&mut site, "a");
+    let mut buf = [0u8; 8];
+    let read = gated_read(&mut site, &mut buf);
+    let mut one = gated_wire(&mut site, "p")?;
+    let mut other = gated_wire(&mut site, "q")?;
+    let third = gated_wire(&mut site, "r").is_err();
+    assert!(rt; gated_begin(&mut one) && gated_begin(&mut other));
+    let (first, second) = std::thread::join(
+        &rt,
+        move || gated_send(one),
+        move || gated_send(other),
+    );
     assert_eq!(rt; picked, Ok(()));
     assert_eq!(rt; read, Ok(4));
-    assert_eq!(rt; &buf, b"text\0\0\0\0");
-    assert_eq!(rt; end, Ok(0));
-    assert_eq!(rt; missing, Err(SiteFault::Failed));
-    assert_eq!(rt; wire.begin(), Err(Failed));
-    assert_eq!(rt; wire.send(b"text"), Err(Failed));
-    let mut sink = StdoutSink::new(rt.clone()?);
-    assert_eq!(rt; sink.write(b"written\n"), Ok(8));
+    assert!(rt; third);
+    assert!(rt; first && second);
+    Ok(())
+}
+
+#[test]
+fn a_gated_wire_alone_fails_once(rt: HostRuntime) -> Result<(), Fail> {
+    let mut site = GatedSite::new(rt.alloc(), Sequence::new(rt.alloc()))?;
+    let mut wire = gated_wire(&mut site, "p")?;
+    assert!(rt; gated_begin(&mut wire));
+    assert_eq!(rt; wire.sessions(), 1);
+    let lost = wire.send(b"text");
+    let sent = wire.send(b"text");
+    assert_eq!(rt; lost, Err(Failed));
+    assert_eq!(rt; sent, Ok(4));
     Ok(())
 }
