@@ -1,3 +1,5 @@
 pub mod Reporting
 pub mod AppendingLaws
 pub mod ReadingLaws
+pub mod Pieces
+pub mod Keeping

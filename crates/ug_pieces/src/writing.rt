@@ -9,6 +9,7 @@ pub fn write_all<K: Sink>(report: &mut K, text: &[u8]) -> Result<(), Failed>
     ensures ok { OnOk result (AppendsPiece (K.held report.old) (K.held report.new) text.now) }
     ensures err { OnErr result (AppendsFront (K.held report.old) (K.held report.new) text.now) }
     ensures failed { OnErr result (Rose (K.faults report.old) (K.faults report.new)) }
+    ensures unharmed { OnOk result (K.faults report.new ≡ K.faults report.old) }
     ensures faults { K.faults report.old ≤ K.faults report.new }
 {
     let mut at = 0;
