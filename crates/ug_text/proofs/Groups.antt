@@ -1,0 +1,32 @@
+-- Groups of sixteen bits, and the room that eight of them take.
+use Rattle.std.proofs.Common.{◌≡◌, ℕ, zero, suc, ◌+◌, ◌-◌, ◌*◌, ◌^◌, ◌<◌, ◌≤◌, List, [], ◌∷◌, length, drop, Option, Some, None, refl, arith}
+use Rattle.std.proofs.Math.Nat.{pow-le-pow_right}
+use Rattle.ug_text.specs.Cutting.{◌>>=◌}
+use Rattle.ug_text.specs.Addresses.{Groups, with_group, with_zeros, cut_at_gap}
+
+-- four hexadecimal digits fit sixteen bits
+pub sixteen_below : (i : ℕ) → i ≤ 4 → 16 ^ i ≤ 65536
+sixteen_below i le = pow-le-pow_right {n = 16} (omega arith) {i = i} {j = 4} le
+
+-- seven groups leave room for one more
+pub groups_below : (i : ℕ) → i ≤ 7 → 65536 ^ i ≤ 2 ^ 112
+groups_below i le = pow-le-pow_right {n = 65536} (omega arith) {i = i} {j = 7} le
+
+-- less than two bytes have no two colons
+pub gap_none : (text : List ℕ) (i : ℕ) → length text ≤ i + 1 → cut_at_gap (drop i text) ≡ None
+unfolding cut_at_gap
+gap_none [] zero le = refl
+gap_none (b ∷ []) zero le = refl
+gap_none (b ∷ c ∷ text) zero le = absurd (omega arith)
+gap_none [] (suc i) le = refl
+gap_none (b ∷ text) (suc i) le = gap_none text i (omega arith)
+
+pub zeros_none : (n : ℕ) (groups : Groups) → n ≤ 0 → with_zeros n groups ≡ Some groups
+unfolding with_zeros
+zeros_none zero groups none = refl
+zeros_none (suc n) groups none = absurd (omega (arith, none))
+
+pub zeros_step : (n : ℕ) (groups : Groups) → 0 < n → with_zeros n groups ≡ (with_group groups 0 >>= λ more. with_zeros (n - 1) more)
+unfolding with_zeros
+zeros_step zero groups some = absurd (omega arith)
+zeros_step (suc n) groups some = let e : suc n - 1 ≡ n = omega arith in rw e refl

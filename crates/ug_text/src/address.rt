@@ -1,0 +1,91 @@
+//! Addresses and prefixes as text.
+
+ghost use Rattle.std.specs.Prelude.{◌≡◌, ◌++◌, ◌≤◌, OnOk, codes};
+ghost use Rattle.std.specs.String.{string_bytes};
+ghost use Rattle.ug_text.specs.Texts.{dotted, leading, grouped, four_groups, group_text, bits_text, address_text, prefix_text};
+
+use ug_types::{Addr, Family, NoMemory, Prefix};
+
+/// Adds four numbers with points between, the high eight bits first.
+#[tactic(auto, unfolding(crate::specs::Texts::dotted))]
+pub fn write_dotted(out: &mut String, number: u32) -> Result<(), NoMemory>
+    ensures { OnOk result (string_bytes out.new ≡ string_bytes out.old ++ dotted number) }
+{
+    let a = number / 16777216;
+    let b = number / 65536 % 256;
+    let c = number / 256 % 256;
+    let d = number % 256;
+    write!(out, "{a}.{b}.{c}.{d}")?;
+    Ok(())
+}
+
+/// The leading 32 bits.
+fn leading(bits: u128) -> u32
+    ensures { result ≡ leading bits }
+{
+    (bits >> 96) as u32
+}
+
+/// Adds the group of sixteen bits that has 16 `k` bits below it: hexadecimal, in lower case, without leading zeros.
+#[tactic(auto, unfolding(crate::specs::Texts::group_text))]
+fn write_group(out: &mut String, bits: u128, k: u8) -> Result<(), NoMemory>
+    requires { k ≤ 7 }
+    ensures { OnOk result (string_bytes out.new ≡ string_bytes out.old ++ group_text k bits) }
+{
+    let group = ((bits >> (16 * k)) % 65536) as u64;
+    write!(out, "{group:x}")?;
+    Ok(())
+}
+
+/// Adds the lowest four groups, with colons between.
+#[tactic(auto, unfolding(crate::specs::Texts::four_groups))]
+fn write_four_groups(out: &mut String, bits: u128) -> Result<(), NoMemory>
+    ensures { OnOk result (string_bytes out.new ≡ string_bytes out.old ++ four_groups bits) }
+{
+    write_group(out, bits, 3)?;
+    write!(out, ":")?;
+    write_group(out, bits, 2)?;
+    write!(out, ":")?;
+    write_group(out, bits, 1)?;
+    write!(out, ":")?;
+    write_group(out, bits, 0)
+}
+
+/// Adds eight groups with colons between, the high sixteen bits first.
+#[tactic(auto, unfolding(crate::specs::Texts::grouped))]
+fn write_grouped(out: &mut String, bits: u128) -> Result<(), NoMemory>
+    ensures { OnOk result (string_bytes out.new ≡ string_bytes out.old ++ grouped bits) }
+{
+    write_four_groups(out, bits >> 64)?;
+    write!(out, ":")?;
+    write_four_groups(out, bits)
+}
+
+/// Adds an address of the family with these bits, left aligned.
+fn write_bits(out: &mut String, family: Family, bits: u128) -> Result<(), NoMemory>
+    ensures { OnOk result (string_bytes out.new ≡ string_bytes out.old ++ bits_text family bits) }
+{
+    match family {
+        Family::V4 => write_dotted(out, leading(bits)),
+        Family::V6 => write_grouped(out, bits),
+    }
+}
+
+/// Adds an address: an IPv4 address as four numbers with points between, an IPv6 address as eight groups with colons
+/// between, none of them left out.
+pub fn write_address(out: &mut String, address: Addr) -> Result<(), NoMemory>
+    ensures { OnOk result (string_bytes out.new ≡ string_bytes out.old ++ address_text address) }
+{
+    write_bits(out, address.family, address.bits)
+}
+
+/// Adds a prefix: its address, a slash and its length.
+#[tactic(auto, unfolding(crate::specs::Texts::prefix_text))]
+pub fn write_prefix(out: &mut String, prefix: Prefix) -> Result<(), NoMemory>
+    ensures { OnOk result (string_bytes out.new ≡ string_bytes out.old ++ prefix_text prefix) }
+{
+    let len = prefix.len;
+    write_bits(out, prefix.family, prefix.bits)?;
+    write!(out, "/{len}")?;
+    Ok(())
+}
