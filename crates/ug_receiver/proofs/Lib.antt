@@ -1,1 +1,5 @@
-pub mod KeyTests
+pub mod Narrow
+pub mod Keys
+pub mod Found
+pub mod Kept
+pub mod After

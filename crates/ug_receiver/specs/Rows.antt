@@ -1,4 +1,5 @@
 -- A receiver's table as rows in key order, and the keys that are stale.
+use Rattle.std.specs.Borrow.{Bor}
 use Rattle.std.specs.Prelude.{List, [], Option, Some, None}
 use Rattle.std.specs.Map.{lookup}
 use Rattle.std.specs.BTreeMap.Range.{IsLtBy}
@@ -24,6 +25,10 @@ abbrev pub no_rows : Rows
 no_rows = record { rows = []; stale = [] }
 
 -- a key that stands after another, or after none
-abbrev pub IsAfter : (Key → Key → Ordering) → Option Key → Key → Type 0
+abbrev pub IsAfter : {K : Type 0} → (K → K → Ordering) → Option K → K → Type 0
 IsAfter cmp None q = Unit {0}
 IsAfter cmp (Some key) q = IsLtBy cmp key q
+
+-- a row as an iterator gives it
+abbrev pub row_seen : Key × Bor Attributes → Key × Attributes
+row_seen row = (row.0, row.1.now)

@@ -1,10 +1,13 @@
 //! What a receiver has read of a session: the rows of its table, and which of them are stale.
 #![tactic(auto)]
 
+mod iter;
+mod row;
 mod rows;
-mod stale;
 mod table;
+mod v4_key;
 
+pub use iter::RowIter;
 pub use table::Table;
 
 #[cfg(test)]

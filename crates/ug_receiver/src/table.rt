@@ -1,36 +1,46 @@
-ghost use Rattle.std.specs.Prelude.{◌≡◌, ◌==◌, length, Some, None, OnOk, IsSome, IfSome, IfNone, option_copied};
+ghost use Rattle.std.specs.Prelude.{◌≡◌, ◌==◌, length, Some, None, false, is_some, OnOk, IsSome, IfSome, IfNone, option_copied, if◌then◌else◌};
 ghost use Rattle.std.specs.Map.{keys_of};
-ghost use Rattle.std.specs.Map.Iter.{ShowsInOrder, deref_pair};
 ghost use Rattle.std.specs.BTreeMap.Range.{IsLeBy};
 ghost use Rattle.std.specs.List.Sorted.{IsStrictlySortedBy};
 ghost use Rattle.ug_types.specs.declared.key.Key as route_keys;
+ghost use Rattle.ug_types.specs.Keys.{same_key};
 ghost use Rattle.ug_types.specs.Messages.{message_of, changes_of, Updates};
-ghost use Rattle.ug_tables.specs.Tables.{applied};
+ghost use Rattle.ug_tables.specs.Tables.{applied, among};
 ghost use Rattle.ug_receiver.specs.Rows.{reading_of, row_at, no_rows, IsAfter};
 
-use crate::rows::{first_after, key_order, put_rows, remove_rows};
-use crate::stale::{mark_all, sweep, unmark};
+use crate::iter::RowIter;
+use crate::row::Row;
+use crate::rows::{count_stale, put_v4, put_v6, remove_v4, remove_v6, stored_after, sweep};
+use crate::v4_key::V4Key;
 use std::alloc::Global;
-use std::collections::btree_map::Iter;
-use std::collections::{BTreeMap, BTreeSet};
+use std::collections::BTreeMap;
 use std::marker::Model;
-use ug_types::{Attrs, Item, Key, NoMemory, Update};
+use std::rc::Rc;
+use ug_types::{Attrs, Family, Item, Key, NoMemory, Update, comparison_laws};
 
 /// What the messages of a session leave: for each key the attributes of its route, and which keys are stale since a
 /// refresh began.
+///
+/// The routes of an UPDATE share its attributes, and a row of an IPv4 route is small. A row tells how many refreshes had
+/// begun when its route was last announced, so that the begin of a refresh touches none, and its end each once.
 #[derive(Drop)]
 pub struct Table {
     alloc: Global,
-    rows: BTreeMap<Key, Attrs>,
-    stale: BTreeSet<Key>,
+    v4: BTreeMap<V4Key, Row>,
+    v6: BTreeMap<Key, Row>,
+    refreshes: u64,
+    refreshing: bool,
 }
 
 impl Model for Table {
     ghost use Rattle.ug_receiver.specs.Rows.{Rows};
+    ghost use Rattle.ug_receiver.specs.Stored.{rows_of, IsStored};
 
     ghost Value = { Rows };
 
-    ghost view = { λ t. record { rows = t.rows.entries; stale = t.stale.keys } };
+    ghost view = { λ t. rows_of t.v4.entries t.v6.entries t.refreshes t.refreshing };
+
+    ghost invariant = { λ t. IsStored t.v4.entries t.v6.entries t.refreshes };
 }
 
 impl Table {
@@ -40,8 +50,10 @@ impl Table {
     {
         Table {
             alloc,
-            rows: BTreeMap::new(alloc),
-            stale: BTreeSet::new(alloc),
+            v4: BTreeMap::new(alloc),
+            v6: BTreeMap::new(alloc),
+            refreshes: 0,
+            refreshing: false,
         }
     }
 
@@ -56,8 +68,8 @@ impl Table {
     {
         match item {
             Item::Update(update) => self.change(update)?,
-            Item::Begin => mark_all(&mut self.stale, &self.rows)?,
-            Item::End => sweep(&mut self.stale, &mut self.rows),
+            Item::Begin => self.begin_refresh()?,
+            Item::End => self.end_refresh(),
             Item::Ignored => {}
         }
         Ok(())
@@ -70,16 +82,95 @@ impl Table {
             (reading_of self.new).stale key ≡ (applied (reading_of self.old) (Updates (changes_of update.now))).stale key) }
     {
         let announced = update.announced.as_slice();
-        let withdrawn = update.withdrawn.as_slice();
-        unmark(&mut self.stale, withdrawn);
-        unmark(&mut self.stale, announced);
-        remove_rows(&mut self.rows, withdrawn);
+        self.withdraw(update.withdrawn.as_slice());
         match &update.attrs {
-            Some(attrs) => put_rows(self.alloc, &mut self.rows, announced, attrs)?,
+            Some(attrs) => self.announce(announced, attrs)?,
             // No UPDATE announces without attributes.
-            None => remove_rows(&mut self.rows, announced),
+            None => self.withdraw(announced),
         }
         Ok(())
+    }
+
+    /// Removes the rows of these keys.
+    fn withdraw(&mut self, keys: &[Key])
+        ensures row { (q : route_keys.Key) → row_at self.new.rows q ≡ (if among keys.now q then None else row_at self.old.rows q) }
+        ensures stale { (q : route_keys.Key) → among self.new.stale q ≡ (if among keys.now q then false else among self.old.stale q) }
+    {
+        for key in keys {
+            self.remove(key);
+        }
+    }
+
+    fn remove(&mut self, key: &Key)
+        ensures row { (q : route_keys.Key) → row_at self.new.rows q ≡ (if same_key q key.now then None else row_at self.old.rows q) }
+        ensures stale { (q : route_keys.Key) → among self.new.stale q ≡ (if same_key q key.now then false else among self.old.stale q) }
+    {
+        comparison_laws();
+        match key.prefix.family {
+            Family::V4 => remove_v4(&mut self.v4, key),
+            Family::V6 => remove_v6(&mut self.v6, key),
+        }
+    }
+
+    /// Gives each of these keys the attributes. After want of memory some have them.
+    fn announce(&mut self, keys: &[Key], attrs: &Attrs) -> Result<(), NoMemory>
+        ensures row { OnOk result ((q : route_keys.Key) → row_at self.new.rows q ≡ (if among keys.now q then Some attrs.now else row_at self.old.rows q)) }
+        ensures stale { OnOk result ((q : route_keys.Key) → among self.new.stale q ≡ (if among keys.now q then false else among self.old.stale q)) }
+    {
+        let shared = Rc::new(self.alloc, attrs.copy(self.alloc)?)?;
+        self.put_each(keys, &shared)
+    }
+
+    fn put_each(&mut self, keys: &[Key], attrs: &Rc<Attrs>) -> Result<(), NoMemory>
+        ensures row { OnOk result ((q : route_keys.Key) → row_at self.new.rows q ≡ (if among keys.now q then Some attrs.now.value else row_at self.old.rows q)) }
+        ensures stale { OnOk result ((q : route_keys.Key) → among self.new.stale q ≡ (if among keys.now q then false else among self.old.stale q)) }
+    {
+        for key in keys {
+            self.put(key, attrs)?;
+        }
+        Ok(())
+    }
+
+    fn put(&mut self, key: &Key, attrs: &Rc<Attrs>) -> Result<(), NoMemory>
+        ensures row { OnOk result ((q : route_keys.Key) → row_at self.new.rows q ≡ (if same_key q key.now then Some attrs.now.value else row_at self.old.rows q)) }
+        ensures stale { OnOk result ((q : route_keys.Key) → among self.new.stale q ≡ (if same_key q key.now then false else among self.old.stale q)) }
+    {
+        comparison_laws();
+        let row = Row {
+            attrs: attrs.clone()?,
+            seen: self.refreshes,
+        };
+        match key.prefix.family {
+            Family::V4 => put_v4(&mut self.v4, key, row),
+            Family::V6 => put_v6(&mut self.v6, key, row),
+        }
+    }
+
+    /// All rows are stale then. A refresh that can't be numbered any more, the 2^64th, is want of memory.
+    fn begin_refresh(&mut self) -> Result<(), NoMemory>
+        ensures row { OnOk result ((q : route_keys.Key) → row_at self.new.rows q ≡ row_at self.old.rows q) }
+        ensures stale { OnOk result ((q : route_keys.Key) → among self.new.stale q ≡ is_some (row_at self.old.rows q)) }
+    {
+        if self.refreshes == u64::MAX {
+            return Err(NoMemory);
+        }
+        self.refreshes += 1;
+        self.refreshing = true;
+        Ok(())
+    }
+
+    /// The stale rows go, and no key is stale then.
+    fn end_refresh(&mut self)
+        ensures row { (q : route_keys.Key) → row_at self.new.rows q ≡ (if among self.old.stale q then None else row_at self.old.rows q) }
+        ensures stale { (q : route_keys.Key) → among self.new.stale q ≡ false }
+    {
+        comparison_laws();
+        if !self.refreshing {
+            return;
+        }
+        sweep(&mut self.v4, self.refreshes);
+        sweep(&mut self.v6, self.refreshes);
+        self.refreshing = false;
     }
 
     /// The number of rows.
@@ -87,42 +178,53 @@ impl Table {
         ensures count { result ≡ length self.now.rows }
         ensures ascending { IsStrictlySortedBy ⟦<Key as Ord>⟧.cmp (keys_of self.now.rows) }
     {
-        self.rows.len()
+        comparison_laws();
+        self.v4.len() + self.v6.len()
     }
 
     /// Whether there is no row.
     pub fn is_empty(&self) -> bool
         ensures { result ≡ (length self.now.rows == 0) }
     {
-        self.rows.len() == 0
+        self.len() == 0
     }
 
-    /// The number of stale keys.
+    /// The number of stale keys. While a refresh is under way it looks at each row.
     pub fn stale_len(&self) -> usize
         ensures count { result ≡ length self.now.stale }
         ensures ascending { IsStrictlySortedBy ⟦<Key as Ord>⟧.cmp self.now.stale }
     {
-        self.stale.len()
+        comparison_laws();
+        if !self.refreshing {
+            return 0;
+        }
+        count_stale(&self.v4, self.refreshes) + count_stale(&self.v6, self.refreshes)
     }
 
     /// The least row above the key, or the first one; None exactly where there is none.
-    pub fn row_after(&self, key: Option<&Key>) -> Option<(&Key, &Attrs)>
-        ensures row { IfSome result (λ row. row_at self.now.rows row.0.now ≡ Some row.1.now) }
-        ensures above { IfSome result (λ row. IsAfter ⟦<Key as Ord>⟧.cmp (option_copied key.entry) row.0.now) }
+    pub fn row_after(&self, key: Option<&Key>) -> Option<(Key, &Attrs)>
+        ensures row { IfSome result (λ row. row_at self.now.rows row.0 ≡ Some row.1.now) }
+        ensures above { IfSome result (λ row. IsAfter ⟦<Key as Ord>⟧.cmp (option_copied key.entry) row.0) }
         ensures least { IfSome result (λ row. (q : route_keys.Key) → IsAfter ⟦<Key as Ord>⟧.cmp (option_copied key.entry) q →
-            IsSome (row_at self.now.rows q) → IsLeBy ⟦<Key as Ord>⟧.cmp row.0.now q) }
+            IsSome (row_at self.now.rows q) → IsLeBy ⟦<Key as Ord>⟧.cmp row.0 q) }
         ensures none { IfNone result ((q : route_keys.Key) → IsAfter ⟦<Key as Ord>⟧.cmp (option_copied key.entry) q → row_at self.now.rows q ≡ None) }
     {
-        key_order();
-        first_after(&self.rows, key)
+        comparison_laws();
+        match stored_after(&self.v4, &self.v6, key) {
+            Some((key, row)) => Some((key, row.attrs.as_ref())),
+            None => None,
+        }
     }
 
     /// The rows in key order.
-    pub fn iter(&self) -> Iter<'_, Key, Attrs>
+    pub fn iter(&self) -> RowIter<'_>
         ensures rows { result ≡ self.now.rows }
-        ensures runs { ShowsInOrder (deref_pair {K = Key} {X = Attrs}) }
         ensures ascending { IsStrictlySortedBy ⟦<Key as Ord>⟧.cmp (keys_of self.now.rows) }
     {
-        self.rows.iter()
+        comparison_laws();
+        RowIter {
+            v4: self.v4.iter(),
+            v6: self.v6.iter(),
+        }
     }
 }

@@ -6,15 +6,20 @@ use super::*;
 use std::alloc::Global;
 use std::process::Abort;
 use ug_types::{
-    Addr, AttrParts, Attrs, Family, Item, Key, KeyList, Next, NoMemory, Prefix, Sequence, Update,
+    Addr, AttrParts, Attrs, Family, Item, Key, KeyList, NoMemory, Prefix, Sequence, Update,
 };
-use ug_update::Reader;
 
 fn key(bits: u32, len: u8, id: u32) -> Key
     requires { len ≤ 32 }
 {
     let prefix = Prefix::new(Family::V4, (bits as u128) << 96, len).unwrap();
     Key { prefix, id }
+}
+
+/// A prefix of 32 bits of the other family.
+fn key6(bits: u32) -> Key {
+    let prefix = Prefix::new(Family::V6, (bits as u128) << 96, 32).unwrap();
+    Key { prefix, id: 0 }
 }
 
 /// An empty path by way of that router.
@@ -57,18 +62,19 @@ fn update(
 /// The rows, walked from the first one on, are these keys, each by way of the router beside it.
 fn walks(rt: &impl Abort, alloc: Global, table: &Table, rows: &[(Key, u32)]) {
     assert_eq!(rt; table.len(), rows.len());
-    let mut at = None;
+    let mut at: Option<Key> = None;
     for (key, next_hop) in rows {
-        match table.row_after(at) {
+        match table.row_after(at.as_ref()) {
             None => panic!(rt; "a row is missing"),
             Some((found, with)) => {
-                assert_eq!(rt; *found, *key);
+                assert_eq!(rt; found, *key);
                 assert!(rt; *with == attrs(rt, alloc, *next_hop));
                 at = Some(found);
             }
         }
     }
-    assert!(rt; table.row_after(at).is_none());
+    assert!(rt; table.row_after(at.as_ref()).is_none());
+    assert_eq!(rt; table.iter().count(), rows.len());
 }
 
 #[test]
@@ -125,38 +131,34 @@ fn refreshes(rt: HostRuntime) -> Result<(), NoMemory> {
     Ok(())
 }
 
-/// What a stream leaves, which has fewer than 1,000 bytes.
-fn table_of(rt: &impl Abort, alloc: Global, stream: &[u8]) -> Result<Table, NoMemory> {
-    let mut reader = Reader::new(alloc, false, false);
-    let mut table = Table::new(alloc);
-    reader.feed(stream)?;
-    for _ in 0..1000 {
-        match reader.next()? {
-            Next::Message(item) => table.apply(&item)?,
-            Next::NeedMore => break,
-            Next::Bad { cause, offset } => panic!(rt; "cause {cause} at {offset}"),
-        }
-    }
-    assert_eq!(rt; reader.rest(), 0);
-    Ok(table)
-}
-
-/// An announcement of 10.0.0.0/8 and End-of-RIB; then a withdrawal of it.
+/// A table holds routes of both families, IPv4 first, and a refresh is of both.
 #[test]
-fn sessions(rt: HostRuntime) -> Result<(), NoMemory> {
+fn families(rt: HostRuntime) -> Result<(), NoMemory> {
     let alloc = rt.alloc();
-    let mut stream = Vec::from_slice(alloc, &[255; 16])?;
-    stream.extend_from_slice(&[
-        0, 0x27, 2, 0, 0, 0, 0x0E, 0x40, 1, 1, 0, 0x40, 2, 0, 0x40, 3, 4,
-    ])?;
-    stream.extend_from_slice(&[0xC0, 0, 2, 1, 8, 10])?;
-    stream.extend_from_slice(&[255; 16])?;
-    stream.extend_from_slice(&[0, 0x17, 2, 0, 0, 0, 0])?;
-    let table = table_of(&rt, alloc, stream.as_slice())?;
-    walks(&rt, alloc, &table, &[(key(0x0A000000, 8, 0), 0xC0000201)]);
-    stream.extend_from_slice(&[255; 16])?;
-    stream.extend_from_slice(&[0, 0x19, 2, 0, 2, 8, 10, 0, 0])?;
-    let table = table_of(&rt, alloc, stream.as_slice())?;
-    walks(&rt, alloc, &table, &[]);
+    let mut table = Table::new(alloc);
+    let ten = key(0x0A000000, 8, 0);
+    let last = key(0xFFFFFFFF, 32, 4294967295);
+    let six = key6(0x0A000000);
+    let doc = key6(0x20010DB8);
+    table.apply(&update(
+        alloc,
+        &[],
+        Some(attrs(&rt, alloc, 1)),
+        &[doc, last, six, ten],
+    )?)?;
+    walks(
+        &rt,
+        alloc,
+        &table,
+        &[(ten, 1), (last, 1), (six, 1), (doc, 1)],
+    );
+    table.apply(&Item::Begin)?;
+    table.apply(&update(alloc, &[], Some(attrs(&rt, alloc, 2)), &[ten, doc])?)?;
+    assert_eq!(rt; table.stale_len(), 2);
+    table.apply(&Item::Begin)?;
+    assert_eq!(rt; table.stale_len(), 4);
+    table.apply(&update(alloc, &[six], Some(attrs(&rt, alloc, 3)), &[doc])?)?;
+    table.apply(&Item::End)?;
+    walks(&rt, alloc, &table, &[(doc, 3)]);
     Ok(())
 }

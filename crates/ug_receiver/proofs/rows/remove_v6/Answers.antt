@@ -1,0 +1,19 @@
+use Rattle.std.proofs.Common.{◌≡◌, cond, List, Some, None, sym, ap, subst, ◌∙◌}
+use Rattle.std.specs.Map.{lookup}
+use Rattle.std.specs.BTreeMap.{is_at}
+use Rattle.ug_types.specs.declared.family.Family.TheVariants.{V4, V6}
+use Rattle.ug_types.specs.declared.key.Key.{Key}
+use Rattle.ug_types.specs.Orders.{key_cmp}
+use Rattle.ug_types.specs.contracts.key.KeyOrd.TheImpl as key_ord
+use Rattle.ug_receiver.specs.declared.row.Row.{Row}
+use Rattle.ug_receiver.specs.Stored.{AreRowsOf}
+use Rattle.ug_receiver.proofs.Keys.{tied, tied_by, updated}
+use Rattle.ug_receiver.proofs.Kept.{inserted, removed}
+use Rattle.ug_receiver.proofs.rows.remove_v6.Goals as goal
+
+pub returns-clause-row : goal.returns-clause-row
+returns-clause-row c =
+    updated key_ord.ghosts.cmp (tied_by key_ord.ghosts.cmp c.comparison_laws.ensures.key_order) c.args.rows.now.entries c.remove.new.self.entries c.args.key.now None c.remove.ensures.updates.0
+
+pub returns-clause-kept : goal.returns-clause-kept
+returns-clause-kept c = λ n h. subst (λ (rows : List (Key × Row)). AreRowsOf V6 n rows) (sym c.remove.ensures.entries) (removed (is_at (key_ord.ghosts.cmp c.args.key.now)) V6 n c.args.rows.now.entries h)
