@@ -1,0 +1,5 @@
+pub mod Entry
+pub mod History
+pub mod Kept
+pub mod Rules
+pub mod Seen

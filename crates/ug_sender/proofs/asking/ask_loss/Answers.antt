@@ -1,0 +1,28 @@
+use Rattle.std.proofs.Common.{◌≡◌, Some, sym, ◌∙◌, ap}
+use Rattle.ug_sender.specs.Lanes.{deeds_at, pass_deeds}
+use Rattle.ug_sender.specs.Tellings.{TellsLoss}
+use Rattle.ug_sender.proofs.Turns.{own-before, deeds-before, deeds-same, told-over}
+use Rattle.ug_sender.proofs.asking.ask_loss.Goals as goal
+
+pub lose_on-is_noted-requires-clause-own : goal.lose_on-is_noted-requires-clause-own
+lose_on-is_noted-requires-clause-own g c κs within =
+    let agrees = c.take-turn.ensures.agrees in
+    rw (c.number-number.ensures, c.state.ensures.value)
+    (own-before g.M.Machine.rules c.args.peer c.args.pass.now.number c.args.pass.now.seen c.take-turn.result.history agrees.1 agrees.2 c.requires.own)
+
+pub returns-clause-told : goal.returns-clause-told
+returns-clause-told g c =
+    let rules = g.M.Machine.rules in
+    let agrees = c.take-turn.ensures.agrees in
+    let taken = c.take-turn.ensures.same in
+    let given = c.give.ensures.same in
+    let lent = c.state.ensures.value in
+    let opening : c.take-turn.result.opening ≡ c.lose_on-is_noted.new.board.opening =
+    sym (c.lose_on-is_noted.ensures.opening ∙ ap (λ b. b.opening) lent) in
+    let root = given.2 ∙ (taken.2 ∙ (agrees.0 ∙ ap Some opening)) in
+    let number = given.1 ∙ (taken.1 ∙ sym c.number-number.ensures) in
+    told-over (λ a b. TellsLoss c.lose_on-is_noted.result c.args.session a b) _ _ _ _
+    (deeds-before rules c.args.pass.now.root c.take-turn.result.opening c.args.pass.now.number c.args.pass.now.seen c.take-turn.result.history agrees.0 agrees.1 agrees.2
+    ∙ deeds-same rules _ _ _ _ _ _ (ap Some (sym (ap (λ b. b.opening) lent))) (sym c.number-number.ensures) (sym (ap (λ b. b.history) lent)))
+    (deeds-same rules _ _ _ _ _ _ root number c.give.ensures.seen)
+    c.lose_on-is_noted.ensures.told

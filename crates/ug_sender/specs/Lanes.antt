@@ -1,0 +1,55 @@
+-- A lane as contracts see it, and what it keeps.
+use Rattle.std.specs.Prelude.{◌≡◌, ℕ, ◌<◌, ◌≤◌, Bool, true, false, List, [], ◌∷◌, ◌++◌, length, Option, Some, None}
+use Rattle.ug_board.specs.Entry.{Entry}
+use Rattle.ug_board.specs.Rules.{Rules}
+use Rattle.ug_deeds.specs.Deeds.{Deed, deeds, of_pass, to_peer, Each}
+use Rattle.ug_turnstile.specs.Passes.{Held}
+use Rattle.ug_sender.specs.Courses.{Course, KeepsWire}
+use Rattle.ug_turnstile.specs.Passes.{IsSamePass}
+use Rattle.ug_sender.specs.Tellings.{Shown}
+
+-- A lane: its wire, its pass, its peer, the session that is open, and whether the loss of one was not taken.
+pub record LaneView (W Opening Job Said : Type 0) : Type 0 where
+  pub wire : W
+  pub pass : Held (Entry Job Said) Opening
+  pub peer : ℕ
+  pub latest : Option ℕ
+  pub unnoted : Bool
+
+-- a lane of this wire, pass and peer, before any step
+abbrev pub fresh_lane : {W Opening Job Said : Type 0} → W → Held (Entry Job Said) Opening → ℕ → LaneView W Opening Job Said
+fresh_lane wire pass peer = record { wire = wire; pass = pass; peer = peer; latest = None; unnoted = false }
+
+-- It is the same pass, and the same peer.
+abbrev pub IsSamePost : {W Opening Job Said : Type 0} → LaneView W Opening Job Said → LaneView W Opening Job Said → Type 0
+IsSamePost old new = IsSamePass old.pass new.pass × (new.peer ≡ old.peer)
+
+-- The entries of this number are steps of a lane of this peer.
+abbrev pub AreOfPeer : {Job Said : Type 0} → ℕ → ℕ → List (Entry Job Said) → Type 0
+AreOfPeer peer number = Each (λ entry. of_pass number entry ≡ true → to_peer peer entry ≡ true)
+
+-- the same of the entries of a pass
+abbrev pub IsOfPeer : {Opening Job Said : Type 0} → ℕ → Held (Entry Job Said) Opening → Type 0
+IsOfPeer peer pass = AreOfPeer peer pass.number pass.seen
+
+module _ {Opening State Job Said : Type 0} (rules : Rules Opening State Job Said) where
+  -- what the entries of a number tell of a history with this root: bytes are handed out
+  abbrev pub deeds_at : Option Opening → ℕ → List (Entry Job Said) → List (Deed (List ℕ))
+  deeds_at None number seen = []
+  deeds_at (Some root) number seen = deeds rules rules.handed (of_pass number) root seen
+
+  -- what a pass was handed
+  abbrev pub pass_deeds : Held (Entry Job Said) Opening → List (Deed (List ℕ))
+  pass_deeds pass = deeds_at pass.root pass.number pass.seen
+
+  -- What a lane keeps of its pass and its wire: the entries of its pass are its own steps, and its wire holds what
+  -- they were handed.
+  pub record KeepsLane (pass : Held (Entry Job Said) Opening) (peer : ℕ) (told : Option (List (List ℕ))) (begun faults : ℕ) (latest : Option ℕ) (unnoted : Bool) : Type 0 where
+    pub free : pass.holds ≡ false
+    pub own : IsOfPeer peer pass
+    pub courses : List Course
+    pub kept : KeepsWire courses (pass_deeds pass) told begun faults latest unnoted
+
+  -- what a lane shows of a step
+  abbrev pub shown : {W : Type 0} → LaneView W Opening Job Said → Shown
+  shown lane = record { deeds = pass_deeds lane.pass; latest = lane.latest; unnoted = lane.unnoted }

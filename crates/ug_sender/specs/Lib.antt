@@ -1,0 +1,4 @@
+pub mod Courses
+pub mod Lanes
+pub mod Tellings
+pub mod Pieces

@@ -1,0 +1,215 @@
+//! A lane: a wire, and the pass by which it is told what to send.
+
+ghost use Rattle.std.specs.Prelude.{◌≡◌, ◌≤◌, ◌||◌, [], length, true, false, Some, IfOk, IfErr};
+ghost use Rattle.std.specs.Vec.{vec_len};
+ghost use Rattle.ug_edge.specs.Told.{Rose, IsFresh};
+ghost use Rattle.ug_turnstile.specs.Passes.{StartsWith, mine};
+ghost use Rattle.ug_sender.specs.declared.pumped.Pumped.TheVariants.{Lost as WasLost};
+ghost use Rattle.ug_sender.specs.Courses.{fate_of, is_unnoted};
+ghost use Rattle.ug_sender.specs.Lanes.{fresh_lane, IsSamePost, KeepsLane, shown};
+ghost use Rattle.ug_sender.specs.Tellings.{TellsPump};
+
+use crate::asking::{ask_loss, ask_next};
+use crate::pumped::Pumped;
+use crate::sending::{begin_session, send_all};
+use std::alloc::{AllocError, Global};
+use std::marker::Model;
+use std::sync::Wait;
+use ug_board::{Board, LaneSaid, Machine};
+use ug_edge::Wire;
+use ug_turnstile::{Pass, Turnstile};
+use ug_types::PeerId;
+
+/// The bytes of the buffer: as many as the longest message has.
+const BUFFER_SIZE: usize = 65535;
+
+/// A wire to a peer, and the pass by which it is told what to send. Contracts see these, the session that is open and
+/// whether the loss of one was not taken. The wire holds what the pass was handed: each session that its entries begin,
+/// with a front of what was handed out in it, and all of it where no call failed.
+#[derive(Drop)]
+pub struct Lane<W: Wire, M: Machine> {
+    wire: W,
+    pass: Pass<Board<M>>,
+    peer: PeerId,
+    latest: Option<u32>,
+    unnoted: bool,
+    buf: Vec<u8>,
+}
+
+/// A wire and a pass that are given back.
+#[derive(Drop)]
+pub struct Returned<W, M: Machine> {
+    pub wire: W,
+    pub pass: Pass<Board<M>>,
+}
+
+impl<W: Wire, M: Machine> Model for Lane<W, M> {
+    ghost use Rattle.std.specs.Prelude.{◌≡◌};
+    ghost use Rattle.std.specs.Vec.{vec_len};
+    ghost use Rattle.ug_sender.specs.Lanes.{LaneView, KeepsLane};
+
+    ghost Value = { LaneView W M.Opening M.Job M.Said };
+
+    ghost view = { λ l. record { wire = l.wire; pass = l.pass; peer = l.peer; latest = l.latest; unnoted = l.unnoted } };
+
+    ghost invariant = { λ l. KeepsLane M.rules l.pass l.peer (W.sessions l.wire) (W.begun l.wire) (W.faults l.wire) l.latest l.unnoted × (vec_len l.buf ≡ 65535) };
+}
+
+impl<W: Wire, M: Machine> Lane<W, M> {
+    /// A lane over a wire without sessions, with a pass without entries. Want of memory hands both back.
+    pub fn new(
+        alloc: Global,
+        wire: W,
+        pass: Pass<Board<M>>,
+        peer: PeerId,
+    ) -> Result<Lane<W, M>, Returned<W, M>>
+        requires free { pass.holds ≡ false }
+        requires none { mine (λ entry. entry.pass) pass ≡ [] }
+        requires sessions { IsFresh (W.sessions wire) }
+        requires begun { W.begun wire ≡ 0 }
+        ensures ok { IfOk result (λ lane. lane ≡ fresh_lane wire pass peer) }
+        ensures returned { IfErr result (λ back. (back.wire ≡ wire) × (back.pass ≡ pass)) }
+    {
+        let Ok(buf) = buffer(alloc, BUFFER_SIZE) else {
+            return Err(Returned { wire, pass });
+        };
+        Ok(Lane {
+            wire,
+            pass,
+            peer,
+            latest: None,
+            unnoted: false,
+            buf,
+        })
+    }
+
+    /// Asks what is next, and does it on the wire. Where a call of the wire fails the loss of the session is asked of
+    /// the board, and nothing is sent until a further session begins.
+    pub fn pump<R: Wait>(&mut self, rt: &R, turnstile: &Turnstile<Board<M>>) -> Pumped
+        requires here { self.old.pass.turnstile ≡ turnstile.now.id }
+        ensures same { IsSamePost self.old self.new }
+        ensures seen { StartsWith self.new.pass.seen self.old.pass.seen }
+        ensures told { TellsPump result (shown M.rules self.old) (shown M.rules self.new) }
+        ensures lost { result ≡ WasLost → Rose (W.faults self.old.wire) (W.faults self.new.wire) }
+        ensures unharmed { (result ≡ WasLost → ⊥) → W.faults self.new.wire ≡ W.faults self.old.wire }
+        ensures faults { W.faults self.old.wire ≤ W.faults self.new.wire }
+    {
+        let said = ask_next(
+            rt,
+            turnstile,
+            &mut self.pass,
+            self.peer,
+            self.buf.as_mut_slice(),
+        );
+        match said {
+            LaneSaid::Begun { session } => {
+                let Ok(()) = begin_session(&mut self.wire, session) else {
+                    let is_noted = ask_loss(
+                        rt,
+                        turnstile,
+                        &mut self.pass,
+                        self.peer,
+                        session,
+                        self.buf.as_mut_slice(),
+                    );
+                    self.unnoted = with_loss(self.unnoted, is_noted);
+                    self.latest = None;
+                    return Pumped::Lost;
+                };
+                self.latest = Some(session);
+                Pumped::Begun
+            }
+            LaneSaid::Hand { session, len, .. } => {
+                if !is_open(self.latest, session) {
+                    return Pumped::Sent;
+                }
+                let (message, _) = self.buf.as_slice().split_at(len);
+                let Ok(()) = send_all(&mut self.wire, message) else {
+                    let is_noted = ask_loss(
+                        rt,
+                        turnstile,
+                        &mut self.pass,
+                        self.peer,
+                        session,
+                        self.buf.as_mut_slice(),
+                    );
+                    self.unnoted = with_loss(self.unnoted, is_noted);
+                    self.latest = None;
+                    return Pumped::Lost;
+                };
+                Pumped::Sent
+            }
+            LaneSaid::Idle => Pumped::Idle,
+            LaneSaid::Stop => Pumped::Stopped,
+            LaneSaid::Noted => unreachable!(),
+        }
+    }
+
+    /// Pumps until there is nothing more to send, and naps where there is nothing to send for now.
+    #[tactic(auto, using(crate::proofs::Turns::starts_with_more))]
+    pub fn work<R: Wait>(self, rt: &R, turnstile: &Turnstile<Board<M>>) -> Lane<W, M>
+        requires here { self.pass.turnstile ≡ turnstile.now.id }
+        ensures same { IsSamePost self result }
+        ensures seen { StartsWith result.pass.seen self.pass.seen }
+        ensures faults { W.faults self.wire ≤ W.faults result.wire }
+    {
+        let mut lane = self;
+        for _ in rt.forever() {
+            match lane.pump(rt, turnstile) {
+                Pumped::Stopped => return lane,
+                Pumped::Idle => turnstile.nap(rt),
+                Pumped::Begun | Pumped::Sent | Pumped::Lost => {}
+            }
+        }
+        unreachable!()
+    }
+
+    /// Whether the loss of a session that this lane asked added no entry.
+    pub fn unnoted(&self) -> bool
+        ensures { result ≡ self.now.unnoted }
+    {
+        self.unnoted
+    }
+
+    /// The wire and the pass. The wire holds what the pass was handed.
+    pub fn into_parts(self) -> (W, Pass<Board<M>>)
+        ensures wire { result.0 ≡ self.wire }
+        ensures pass { result.1 ≡ self.pass }
+        ensures kept { KeepsLane M.rules self.pass self.peer (W.sessions self.wire) (W.begun self.wire) (W.faults self.wire) self.latest self.unnoted }
+    {
+        let Lane {
+            wire,
+            pass,
+            peer: _,
+            latest: _,
+            unnoted: _,
+            buf: _,
+        } = self;
+        (wire, pass)
+    }
+}
+
+/// A buffer of that many bytes.
+fn buffer(alloc: Global, size: usize) -> Result<Vec<u8>, AllocError>
+    ensures { IfOk result (λ buf. vec_len buf ≡ size) }
+{
+    Ok(vec![in alloc; 0u8; size]?)
+}
+
+/// Whether this session is open.
+fn is_open(latest: Option<u32>, session: u32) -> bool
+    ensures yes { result ≡ true → latest ≡ Some session }
+    ensures no { result ≡ false → latest ≡ Some session → ⊥ }
+{
+    match latest {
+        Some(open) => open == session,
+        None => false,
+    }
+}
+
+/// Whether a loss was not taken, after one more that was noted or not.
+fn with_loss(unnoted: bool, is_noted: bool) -> bool
+    ensures { result ≡ (unnoted || is_unnoted (fate_of is_noted)) }
+{
+    unnoted || !is_noted
+}

@@ -1,0 +1,12 @@
+//! Lanes: each sends to one peer, over one wire, what its pass was handed.
+#![tactic(auto)]
+
+mod asking;
+mod lane;
+mod pumped;
+mod sending;
+#[cfg(test)]
+mod tests;
+
+pub use lane::{Lane, Returned};
+pub use pumped::Pumped;

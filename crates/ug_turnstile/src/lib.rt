@@ -1,0 +1,17 @@
+//! One turn between threads, and the history of the state that goes with it.
+#![tactic(auto)]
+
+mod logged;
+mod pass;
+mod plays;
+mod turn;
+mod turnstile;
+mod view;
+
+pub use logged::Logged;
+pub use pass::{Pass, PassList, PassOf};
+pub use turn::Turn;
+pub use turnstile::Turnstile;
+
+#[cfg(test)]
+mod tests;

@@ -1,0 +1,16 @@
+//! What a seat at the turnstile's table knows. No value of these types is made: they exist in proofs alone.
+
+use std::collections::LinkedList;
+
+/// What one pass knows: the root of the state, and the entries that it has seen.
+pub struct Part<E, R> {
+    pub number: u32,
+    pub root: R,
+    pub seen: LinkedList<E>,
+}
+
+/// The parts of all passes that lie in one seat, and whether the seat holds the turn.
+pub struct View<E, R> {
+    pub holds: bool,
+    pub parts: LinkedList<Part<E, R>>,
+}
