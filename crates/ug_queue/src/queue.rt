@@ -1,0 +1,215 @@
+//! The queue: a packet goes as soon as every member's cursor has passed it.
+ghost use Rattle.std.specs.Prelude.{◌≡◌, ◌+◌, ◌-◌, ◌<◌, ◌≤◌, [], ◌++◌, length, drop, slice_get, OnOk, OnErr, IfOk, IfErr, IsTrue, ◌↔◌, false, Some, None, option_copied, All};
+ghost use Rattle.std.specs.Map.{keys_of};
+ghost use Rattle.std.specs.List.Sorted.{IsStrictlySortedBy};
+ghost use Rattle.std.specs.Ordering.{nat_cmp};
+ghost use Rattle.ug_queue.specs.Rests.{IsInside};
+ghost use Rattle.ug_queue.specs.Queues.{empty_queue, with_packet, with_member, without_member, past_next, shed, place_of, rest_of, IsMember, passed, seat_all, AreNew};
+
+use crate::line::Line;
+use std::alloc::Global;
+use std::marker::Model;
+use ug_types::{NoMemory, PeerId, PeerList, Twin};
+
+/// Packets that many members take, each from its own cursor on. Contracts see the packets, each member with its place (the number of
+/// packets in front of its cursor), and how many packets make the queue full. A packet goes exactly when every member's cursor has passed it.
+#[derive(Drop)]
+pub struct Queue<P> {
+    line: Line<P>,
+    alloc: Global,
+}
+
+impl<P> Model for Queue<P> {
+    ghost use Rattle.std.specs.Prelude.{◌≡◌, ◌≤◌, length};
+    ghost use Rattle.ug_queue.specs.Queues.{Queued, passed};
+
+    ghost Value = { Queued P };
+
+    ghost view = { λ q. q.line };
+
+    ghost invariant = { λ q. (passed q.line ≡ 0) × (length q.line.packets ≤ q.line.limit) };
+}
+
+/// Drops the packets that every member's cursor has passed.
+fn shed_passed<P: Drop>(line: &mut Line<P>)
+    ensures line { line.new ≡ shed line.old }
+    ensures front { passed line.new ≡ 0 }
+{
+    while line.is_first_passed() {
+        line.drop_first();
+    }
+}
+
+impl<P> Queue<P> {
+    /// The empty queue, full from `limit` packets on. It takes no memory.
+    pub fn new(alloc: Global, limit: usize) -> Queue<P>
+        ensures { result ≡ empty_queue limit }
+    {
+        Queue {
+            line: Line::new(alloc, limit),
+            alloc,
+        }
+    }
+
+    /// The number of packets.
+    pub fn len(&self) -> usize
+        ensures len { result ≡ length self.now.packets }
+        ensures bounded { result ≤ self.now.limit }
+        ensures needed { passed self.now ≡ 0 }
+    {
+        self.line.len()
+    }
+
+    /// Whether there is no packet.
+    pub fn is_empty(&self) -> bool
+        ensures { IsTrue result ↔ (length self.now.packets ≡ 0) }
+    {
+        self.len() == 0
+    }
+
+    /// Whether it holds as many packets as it may.
+    pub fn is_full(&self) -> bool
+        ensures { IsTrue result ↔ (self.now.limit ≤ length self.now.packets) }
+    {
+        self.line.limit() <= self.line.len()
+    }
+
+    /// Whether this is a member.
+    pub fn is_member(&self, member: PeerId) -> bool
+        ensures member { IsTrue result ↔ IsMember self.now member }
+        ensures none { result ≡ false → place_of self.now member ≡ None }
+    {
+        self.line.has(member)
+    }
+
+    /// The number of members.
+    pub fn member_count(&self) -> usize
+        ensures count { result ≡ length self.now.places }
+        ensures sorted { IsStrictlySortedBy nat_cmp (keys_of self.now.places) }
+    {
+        self.line.member_count()
+    }
+
+    /// The next packet of the member; None exactly where its cursor is at the end.
+    pub fn next(&self, member: PeerId) -> Option<&P>
+        requires { IsMember self.now member }
+        ensures { option_copied result ≡ slice_get (rest_of self.now member) 0 }
+    {
+        let place = self.line.place(member);
+        if place < self.line.len() {
+            return Some(self.line.packet(place));
+        }
+        None
+    }
+
+    /// The number of packets from the member's cursor to the end.
+    pub fn left(&self, member: PeerId) -> usize
+        requires { IsMember self.now member }
+        ensures left { result ≡ length (rest_of self.now member) }
+        ensures inside { IsInside self.now member }
+    {
+        self.line.len() - self.line.place(member)
+    }
+
+    /// Whether the member's cursor is at the queue's front.
+    pub fn at_front(&self, member: PeerId) -> bool
+        requires { IsMember self.now member }
+        ensures { IsTrue result ↔ (place_of self.now member ≡ Some 0) }
+    {
+        self.line.place(member) == 0
+    }
+
+    /// Adds a packet at the end. Want of memory hands it back and leaves the queue as it was.
+    pub fn append(&mut self, packet: P) -> Result<(), P>
+        requires room { length self.old.packets < self.old.limit }
+        requires members { 0 < length self.old.places }
+        ensures ok { OnOk result (self.new ≡ with_packet self.old packet) }
+        ensures err { OnErr result (self.new ≡ self.old) }
+        ensures returned { IfErr result (λ back. back ≡ packet) }
+    {
+        self.line.append(packet)
+    }
+
+    /// Takes a member in, whose cursor is at the end. Want of memory leaves the queue as it was.
+    pub fn join_at_end(&mut self, member: PeerId) -> Result<(), NoMemory>
+        requires { place_of self.old member ≡ None }
+        ensures ok { OnOk result (self.new ≡ with_member self.old member (length self.old.packets)) }
+        ensures err { OnErr result (self.new ≡ self.old) }
+    {
+        self.line.join(member)
+    }
+}
+
+impl<P: Drop> Queue<P> {
+    /// Moves the member's cursor behind its next packet.
+    pub fn advance(&mut self, member: PeerId)
+        requires { 0 < length (rest_of self.old member) }
+        ensures { self.new ≡ shed (past_next self.old member) }
+    {
+        self.line.step(member);
+        shed_passed(&mut self.line);
+    }
+
+    /// Lets a member go.
+    pub fn leave(&mut self, member: PeerId)
+        requires { IsMember self.old member }
+        ensures { self.new ≡ shed (without_member self.old member) }
+    {
+        self.line.remove(member);
+        shed_passed(&mut self.line);
+    }
+}
+
+/// Takes members into a queue without packets.
+fn seat<P>(copy: &mut Queue<P>, members: &[PeerId]) -> Result<(), NoMemory>
+    requires once { AreNew copy.old.places members.now }
+    requires empty { length copy.old.packets ≡ 0 }
+    ensures places { OnOk result (copy.new.places ≡ seat_all copy.old.places members.now) }
+    ensures packets { OnOk result (copy.new.packets ≡ copy.old.packets) }
+    ensures limit { OnOk result (copy.new.limit ≡ copy.old.limit) }
+{
+    for member in members {
+        copy.join_at_end(*member)?;
+    }
+    Ok(())
+}
+
+/// Adds twins of the packets from a place on.
+fn add_twins<P: Twin + Drop>(
+    copy: &mut Queue<P>,
+    line: &Line<P>,
+    from: usize,
+) -> Result<(), NoMemory>
+    requires inside { from ≤ length line.now.packets }
+    requires room { length copy.old.packets + (length line.now.packets - from) ≤ copy.old.limit }
+    requires members { 0 < length copy.old.places }
+    ensures packets { OnOk result (copy.new.packets ≡ copy.old.packets ++ drop from line.now.packets) }
+    ensures places { OnOk result (copy.new.places ≡ copy.old.places) }
+    ensures limit { OnOk result (copy.new.limit ≡ copy.old.limit) }
+{
+    for place in from..line.len() {
+        let packet = line.packet(place).twin()?;
+        let Ok(()) = copy.append(packet) else {
+            return Err(NoMemory);
+        };
+    }
+    Ok(())
+}
+
+impl<P: Twin + Drop> Queue<P> {
+    /// A queue of its own with the packets from the member's cursor on, and all the members listed at its front.
+    pub fn copy_from(&self, member: PeerId, members: &PeerList) -> Result<Queue<P>, NoMemory>
+        requires member { IsMember self.now member }
+        requires some { 0 < length members.now.items }
+        requires beside { All (λ m. place_of self.now m ≡ place_of self.now member) members.now.items }
+        requires once { AreNew [] members.now.items }
+        ensures packets { IfOk result (λ copy. copy.packets ≡ rest_of self.now member) }
+        ensures members { IfOk result (λ copy. copy.places ≡ seat_all [] members.now.items) }
+        ensures limit { IfOk result (λ copy. copy.limit ≡ self.now.limit) }
+    {
+        let mut copy = Queue::new(self.alloc, self.line.limit());
+        seat(&mut copy, members.as_slice())?;
+        add_twins(&mut copy, &self.line, self.line.place(member))?;
+        Ok(copy)
+    }
+}
