@@ -1,0 +1,4 @@
+pub mod Lines
+pub mod Each
+pub mod Runs
+pub mod Bounds

@@ -1,0 +1,11 @@
+pub mod Events
+pub mod Reads
+pub mod Words
+pub mod Fields
+pub mod Paths
+pub mod SeenFields
+pub mod Entries
+pub mod SeenEntries
+pub mod Messages
+pub mod Grammar
+pub mod Views

@@ -1,0 +1,5 @@
+pub mod Changes
+pub mod Walking
+pub mod Reading
+pub mod Applying
+pub mod Views
