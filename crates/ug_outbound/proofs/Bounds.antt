@@ -5,7 +5,9 @@ use Rattle.std.specs.Option.{option_map}
 use Rattle.std.proofs.lemmas.Bool.{ltb-false}
 use Rattle.std.proofs.lemmas.Bool.Decides.{nat_tests}
 use Rattle.std.proofs.lemmas.List.Sums.{sum_by-cons}
-use Rattle.ug_types.specs.Ip.{IpPrefix}
+use Rattle.ug_types.specs.declared.family.Family.{Family}
+use Rattle.ug_types.specs.declared.family.Family.TheVariants.{V4, V6}
+use Rattle.ug_types.specs.Ip.{IpAddress, IpPrefix}
 use Rattle.ug_types.specs.Attributes.{Attributes, numbers_in, is_well_formed, refusal_of}
 use Rattle.ug_types.specs.Spelling.{attributes}
 use Rattle.ug_types.specs.declared.route.Learned.{Learned}
@@ -13,18 +15,17 @@ use Rattle.ug_types.specs.declared.route.Learned.TheVariants as learned
 use Rattle.ug_types.specs.declared.route.Path.{Path}
 use Rattle.ug_types.specs.declared.route.OutAttrs.{OutAttrs}
 use Rattle.ug_aspath.proofs.Kept.{both}
-use Rattle.ug_prefixlist.specs.declared.table.NamedList.{NamedList}
+use Rattle.ug_prefixlist.specs.Named.{NamedList, value_named}
 use Rattle.ug_routemap.specs.declared.mapped.Mapped.{Mapped}
 use Rattle.ug_routemap.specs.Rules.{MapRule}
 use Rattle.ug_routemap.specs.Maps.{holds, is_met, added, with_sets, mapped_by, unmapped, so_far, goes_to, goes_on, map_walk}
 use Rattle.ug_routemap.specs.Refusals.{count_in, prepends_in, communities_in}
-use Rattle.ug_routemap.specs.Named.{map_named}
 use Rattle.ug_outbound.specs.declared.settings.Local.{Local}
 use Rattle.ug_outbound.specs.declared.kind.Kind.{Kind}
 use Rattle.ug_outbound.specs.declared.kind.Kind.TheVariants.{External, Internal, Client}
 use Rattle.ug_outbound.specs.declared.key.GroupKey.{GroupKey}
 use Rattle.ug_outbound.specs.Tables.{Tables}
-use Rattle.ug_outbound.specs.Outbound.{reflected, mapped_by_map, mapped, communities_out, finished, is_let_out, out}
+use Rattle.ug_outbound.specs.Outbound.{reflected, mapped_by_map, mapped, heeded, communities_out, finished, is_let_out, out}
 use Rattle.ug_outbound.specs.Bounds.{FewSets, SetsFew}
 use Rattle.ug_outbound.proofs.Mapping.{out_is_after, reflect}
 use Rattle.ug_outbound.proofs.Paths.{behind, behind_at_most, behind_more, all_numbers, all_behind, out_numbers, out_length}
@@ -119,7 +120,7 @@ by_map_grows lists (Some rules) a p m few g e =
 
 mapped_grows : (tables : Tables) (name : Option (List ℕ)) (a : Attributes) (p : IpPrefix) (m : Mapped) → SetsFew tables.maps name → Grown 0 0 a → mapped tables name a p ≡ Some m → Grown 16 16 m.attrs
 mapped_grows tables None a p m few g e = subst (λ (x : Mapped). Grown 16 16 x.attrs) (some_is (unmapped a) m e) (grown_more 0 16 0 16 a (omega arith) (omega arith) g)
-mapped_grows tables (Some name) a p m few g e = by_map_grows tables.lists (map_named tables.maps name) a p m few g e
+mapped_grows tables (Some name) a p m few g e = by_map_grows tables.lists (value_named tables.maps name) a p m few g e
 
 -- ---- what nothing refuses from within
 
@@ -195,6 +196,10 @@ finished_bytes key local from m g =
     (omega (arith, communities_sent key.send_community a.communities))
     (omega (arith, clusters_reflected local key.kind from m.attrs, g.clusters))
 
+heeded_grows : (family : Family) (raw : IpAddress) (m : Mapped) → Grown 16 16 m.attrs → Grown 16 16 (heeded family raw m).attrs
+heeded_grows V4 raw m g = g
+heeded_grows V6 raw m g = record { numbers = g.numbers; segments = g.segments; communities = g.communities; clusters = g.clusters }
+
 -- what goes out comes of something that was mapped
 pub record Comes (x : Option Mapped) (g : Mapped → OutAttrs) (o : OutAttrs) : Type 0 where
   pub m : Mapped
@@ -218,7 +223,7 @@ pub let_out : (b : Bool) (x : Option Mapped) (g : Mapped → OutAttrs) (m : Mapp
 let_out b x g m e f = rw (e, f) refl
 
 pub comes_of : (key : GroupKey) (tables : Tables) (local : Local) (p : IpPrefix) (path : Path) (o : OutAttrs) → out key tables local p path ≡ Some o
-    → Comes (mapped tables key.map path.attrs p) (λ (m : Mapped). finished key local path.learned (reflect local key.kind path.learned m)) o
+    → Comes (mapped tables key.map path.attrs p) (λ (m : Mapped). finished key local path.learned (reflect local key.kind path.learned (heeded key.family path.attrs.next_hop m))) o
 comes_of key tables local p path o e =
     comes (is_let_out key tables p path) (mapped tables key.map path.attrs p) _ o (sym (out_is_after key tables local p path) ∙ e)
 
@@ -227,4 +232,5 @@ pub out_bytes : (key : GroupKey) (tables : Tables) (local : Local) (p : IpPrefix
 out_bytes key tables local p path o e refused few =
     let from = comes_of key tables local p path o e in
     subst (λ (x : OutAttrs). length (attributes x.attrs) ≤ 2067) from.out
-    (finished_bytes key local path.learned from.m (mapped_grows tables key.map path.attrs p from.m few (not_grown path.attrs refused) from.is))
+    (finished_bytes key local path.learned (heeded key.family path.attrs.next_hop from.m)
+    (heeded_grows key.family path.attrs.next_hop from.m (mapped_grows tables key.map path.attrs p from.m few (not_grown path.attrs refused) from.is)))

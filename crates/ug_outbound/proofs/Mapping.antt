@@ -2,23 +2,24 @@
 use Rattle.std.proofs.Common.{◌≡◌, ℕ, Bool, true, false, not, nat_lt, List, [], ◌∷◌, Option, Some, None, refl, ap, ◌∙◌}
 use Rattle.std.specs.Prelude.{◌||◌, if◌then◌else◌}
 use Rattle.std.specs.Option.{option_map}
-use Rattle.ug_types.specs.Ip.{IpPrefix}
+use Rattle.ug_types.specs.declared.family.Family.{Family}
+use Rattle.ug_types.specs.declared.family.Family.TheVariants.{V4, V6}
+use Rattle.ug_types.specs.Ip.{IpAddress, IpPrefix}
 use Rattle.ug_types.specs.Attributes.{Attributes}
 use Rattle.ug_types.specs.declared.route.Learned.{Learned}
 use Rattle.ug_types.specs.declared.route.Learned.TheVariants as learned
 use Rattle.ug_types.specs.declared.route.Path.{Path}
 use Rattle.ug_types.specs.declared.route.OutAttrs.{OutAttrs}
-use Rattle.ug_prefixlist.specs.declared.table.NamedList.{NamedList}
+use Rattle.ug_prefixlist.specs.Named.{NamedList, value_named}
 use Rattle.ug_routemap.specs.declared.mapped.Mapped.{Mapped}
 use Rattle.ug_routemap.specs.Rules.{MapRule}
 use Rattle.ug_routemap.specs.Maps.{is_met, with_sets, mapped_by, so_far, goes_to, goes_on, map_walk}
-use Rattle.ug_routemap.specs.Named.{map_named}
 use Rattle.ug_outbound.specs.declared.settings.Local.{Local}
 use Rattle.ug_outbound.specs.declared.kind.Kind.{Kind}
 use Rattle.ug_outbound.specs.declared.kind.Kind.TheVariants.{External, Internal, Client}
 use Rattle.ug_outbound.specs.declared.key.GroupKey.{GroupKey}
 use Rattle.ug_outbound.specs.Tables.{Tables}
-use Rattle.ug_outbound.specs.Outbound.{reflected, mapped_by_map, mapped, finished, is_let_out, out}
+use Rattle.ug_outbound.specs.Outbound.{reflected, mapped_by_map, mapped, heeded, mapped_towards, finished, is_let_out, out}
 
 module _ (f : Attributes → Attributes) (met : Attributes → MapRule → Bool) (met_same : (a : Attributes) (r : MapRule) → met (f a) r ≡ met a r) (sets_same : (r : MapRule) (a : Attributes) → f (with_sets r a) ≡ with_sets r (f a)) where
   abbrev changed : Mapped → Mapped
@@ -89,22 +90,61 @@ by_map_reflected local kind from lists (Some rules) a p =
 pub mapped_reflected : (local : Local) (kind : Kind) (from : Learned) (tables : Tables) (name : Option (List ℕ)) (a : Attributes) (p : IpPrefix)
     → mapped tables name (reflected local kind from a) p ≡ option_map (reflect local kind from) (mapped tables name a p)
 mapped_reflected local kind from tables None a p = refl
-mapped_reflected local kind from tables (Some name) a p = by_map_reflected local kind from tables.lists (map_named tables.maps name) a p
+mapped_reflected local kind from tables (Some name) a p = by_map_reflected local kind from tables.lists (value_named tables.maps name) a p
 
 -- the rules with reflection told after the map
 abbrev pub out_after : GroupKey → Tables → Local → IpPrefix → Path → Option OutAttrs
 out_after key tables local p path =
     if is_let_out key tables p path
-    then option_map (λ (m : Mapped). finished key local path.learned (reflect local key.kind path.learned m)) (mapped tables key.map path.attrs p)
+    then option_map (λ (m : Mapped). finished key local path.learned (reflect local key.kind path.learned (heeded key.family path.attrs.next_hop m))) (mapped tables key.map path.attrs p)
     else None
 
 then_finished : {X Y Z : Type 0} (g : Y → Z) (h : X → Y) (x : Option X) → option_map g (option_map h x) ≡ option_map (λ (y : X). g (h y)) x
 then_finished g h None = refl
 then_finished g h (Some x) = refl
 
+-- reflection changes no next hop
+next_hop_reflected : (local : Local) (kind : Kind) (from : Learned) (a : Attributes) → (reflected local kind from a).next_hop ≡ a.next_hop
+next_hop_reflected local External from a = refl
+next_hop_reflected local Internal learned.Local a = refl
+next_hop_reflected local Internal learned.External a = refl
+next_hop_reflected local Internal (learned.Internal client router) a = refl
+next_hop_reflected local Client learned.Local a = refl
+next_hop_reflected local Client learned.External a = refl
+next_hop_reflected local Client (learned.Internal client router) a = refl
+
+with_next_hop_reflected : (local : Local) (kind : Kind) (from : Learned) (raw : IpAddress) (a : Attributes)
+    → record (reflected local kind from a) { next_hop = raw } ≡ reflected local kind from (record a { next_hop = raw })
+with_next_hop_reflected local External from raw a = refl
+with_next_hop_reflected local Internal learned.Local raw a = refl
+with_next_hop_reflected local Internal learned.External raw a = refl
+with_next_hop_reflected local Internal (learned.Internal client router) raw a = refl
+with_next_hop_reflected local Client learned.Local raw a = refl
+with_next_hop_reflected local Client learned.External raw a = refl
+with_next_hop_reflected local Client (learned.Internal client router) raw a = refl
+
+heeded_reflected : (family : Family) (local : Local) (kind : Kind) (from : Learned) (raw : IpAddress) (m : Mapped)
+    → heeded family raw (reflect local kind from m) ≡ reflect local kind from (heeded family raw m)
+heeded_reflected V4 local kind from raw m = refl
+heeded_reflected V6 local kind from raw m =
+    ap (λ (a : Attributes). record { attrs = a; set_next_hop = false; set_med = m.set_med }) (with_next_hop_reflected local kind from raw m.attrs)
+
+same_map_of : {X Y : Type 0} (g h : X → Y) → ((x : X) → g x ≡ h x) → (x : Option X) → option_map g x ≡ option_map h x
+same_map_of g h e None = refl
+same_map_of g h e (Some x) = ap Some (e x)
+
+towards_reflected : (family : Family) (local : Local) (kind : Kind) (from : Learned) (tables : Tables) (name : Option (List ℕ)) (a : Attributes) (p : IpPrefix)
+    → mapped_towards family tables name (reflected local kind from a) p ≡ option_map (λ (m : Mapped). reflect local kind from (heeded family a.next_hop m)) (mapped tables name a p)
+towards_reflected family local kind from tables name a p =
+    ap (λ (raw : IpAddress). option_map (heeded family raw) (mapped tables name (reflected local kind from a) p)) (next_hop_reflected local kind from a)
+    ∙ ap (option_map (heeded family a.next_hop)) (mapped_reflected local kind from tables name a p)
+    ∙ then_finished (heeded family a.next_hop) (reflect local kind from) (mapped tables name a p)
+    ∙ same_map_of (λ (m : Mapped). heeded family a.next_hop (reflect local kind from m)) (λ (m : Mapped). reflect local kind from (heeded family a.next_hop m))
+    (heeded_reflected family local kind from a.next_hop) (mapped tables name a p)
+
 pub out_is_after : (key : GroupKey) (tables : Tables) (local : Local) (p : IpPrefix) (path : Path) → out key tables local p path ≡ out_after key tables local p path
 unfolding out
 out_is_after key tables local p path =
     ap (λ (x : Option OutAttrs). if is_let_out key tables p path then x else None)
-    (ap (option_map (finished key local path.learned)) (mapped_reflected local key.kind path.learned tables key.map path.attrs p)
-    ∙ then_finished (finished key local path.learned) (reflect local key.kind path.learned) (mapped tables key.map path.attrs p))
+    (ap (option_map (finished key local path.learned)) (towards_reflected key.family local key.kind path.learned tables key.map path.attrs p)
+    ∙ then_finished (finished key local path.learned) (λ (m : Mapped). reflect local key.kind path.learned (heeded key.family path.attrs.next_hop m)) (mapped tables key.map path.attrs p))

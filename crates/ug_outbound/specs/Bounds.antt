@@ -1,10 +1,10 @@
 -- How much a route map may add, and what stands first in AS_PATH.
 use Rattle.std.specs.Prelude.{◌≡◌, ℕ, true, List, [], ◌∷◌, Option, Some, None}
 use Rattle.ug_types.specs.Attributes.{PathSegment}
-use Rattle.ug_routemap.specs.declared.table.NamedMap.{NamedMap}
+use Rattle.ug_prefixlist.specs.Named.{value_named}
 use Rattle.ug_routemap.specs.Rules.{MapRule}
 use Rattle.ug_routemap.specs.Refusals.{has_few_sets}
-use Rattle.ug_routemap.specs.Named.{map_named}
+use Rattle.ug_routemap.specs.Named.{NamedMap}
 
 abbrev pub FewSets : Option (List MapRule) → Type 0
 FewSets None = Unit {0}
@@ -13,7 +13,7 @@ FewSets (Some rules) = has_few_sets rules ≡ true
 -- the map of that name, where there is one, prepends few numbers and names few communities, as every route map does
 abbrev pub SetsFew : List NamedMap → Option (List ℕ) → Type 0
 SetsFew maps None = Unit {0}
-SetsFew maps (Some name) = FewSets (map_named maps name)
+SetsFew maps (Some name) = FewSets (value_named maps name)
 
 abbrev pub first_of : List ℕ → Option ℕ
 first_of [] = None

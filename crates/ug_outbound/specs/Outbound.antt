@@ -1,8 +1,10 @@
--- What goes out of a path: ten rules in their order, and then the kind of next hop. Their order is this project's
--- profile.
+-- What goes out of a path: a prefix of another family than the key's does not; then ten rules in their order, and then
+-- the kind of next hop. The order of the rules is this project's profile.
 use Rattle.std.specs.Prelude.{ℕ, ◌/◌, ◌^◌, Bool, true, false, ◌&&◌, ◌||◌, not, List, [], ◌∷◌, Option, Some, None, unwrap_or, if◌then◌else◌}
 use Rattle.std.specs.Option.{option_map}
-use Rattle.ug_types.specs.Ip.{IpAddress, IpPrefix}
+use Rattle.ug_types.specs.declared.family.Family.{Family}
+use Rattle.ug_types.specs.declared.family.Family.TheVariants.{V4, V6}
+use Rattle.ug_types.specs.Ip.{IpAddress, IpPrefix, same_family}
 use Rattle.ug_types.specs.Attributes.{PathSegment, Attributes}
 use Rattle.ug_types.specs.declared.route.Learned.{Learned}
 use Rattle.ug_types.specs.declared.route.Learned.TheVariants as learned
@@ -11,12 +13,11 @@ use Rattle.ug_types.specs.declared.route.NhKind.{NhKind}
 use Rattle.ug_types.specs.declared.route.NhKind.TheVariants as kinds
 use Rattle.ug_types.specs.declared.route.OutAttrs.{OutAttrs}
 use Rattle.ug_aspath.specs.Paths.{without_private, overridden, prepended}
-use Rattle.ug_prefixlist.specs.declared.table.NamedList.{NamedList}
-use Rattle.ug_prefixlist.specs.Named.{is_permitted}
+use Rattle.ug_prefixlist.specs.Named.{NamedList, value_named, is_permitted}
+use Rattle.ug_prefixlist.specs.Filters.{filter_permits}
 use Rattle.ug_routemap.specs.declared.mapped.Mapped.{Mapped}
 use Rattle.ug_routemap.specs.Rules.{MapRule}
 use Rattle.ug_routemap.specs.Maps.{holds, unmapped, map_result}
-use Rattle.ug_routemap.specs.Named.{map_named}
 use Rattle.ug_outbound.specs.declared.settings.Local.{Local}
 use Rattle.ug_outbound.specs.declared.kind.Kind.{Kind}
 use Rattle.ug_outbound.specs.declared.kind.Kind.TheVariants.{External, Internal, Client}
@@ -53,7 +54,8 @@ reflected local Internal (learned.Internal client router) a = reflected_from loc
 reflected local Client (learned.Internal client router) a = reflected_from local router a
 reflected local kind from a = with_reflection None [] a
 
--- 3. The prefix list, where there is one, permits the prefix: `is_permitted`.
+-- 3. The prefix list, where there is one, permits the prefix (`is_permitted`), and so does the peer's own filter where it
+-- has entries (`filter_permits`).
 
 -- 4. The route map, where there is one, maps the attributes or gives none. A map that is not there gives none.
 abbrev pub mapped_by_map : List NamedList → Option (List MapRule) → Attributes → IpPrefix → Option Mapped
@@ -62,7 +64,15 @@ mapped_by_map lists (Some rules) a p = map_result lists rules a p
 
 abbrev pub mapped : Tables → Option (List ℕ) → Attributes → IpPrefix → Option Mapped
 mapped tables None a p = Some (unmapped a)
-mapped tables (Some name) a p = mapped_by_map tables.lists (map_named tables.maps name) a p
+mapped tables (Some name) a p = mapped_by_map tables.lists (value_named tables.maps name) a p
+
+-- Towards an IPv6 peer a next hop that the map sets, which is IPv4, is as if it were not set.
+abbrev pub heeded : Family → IpAddress → Mapped → Mapped
+heeded V4 raw m = m
+heeded V6 raw m = record { attrs = record m.attrs { next_hop = raw }; set_next_hop = false; set_med = m.set_med }
+
+abbrev pub mapped_towards : Family → Tables → Option (List ℕ) → Attributes → IpPrefix → Option Mapped
+mapped_towards family tables name a p = option_map (heeded family a.next_hop) (mapped tables name a p)
 
 -- 5. With `remove_private_as` each private AS number is removed (RFC 6996), and not only where all are private: this
 -- project's profile.
@@ -132,14 +142,16 @@ attributes_out key local from set_med a = record {
 abbrev pub finished : GroupKey → Local → Learned → Mapped → OutAttrs
 finished key local from m = record { attrs = attributes_out key local from m.set_med m.attrs; nh_kind = next_hop_kind key from m.set_next_hop }
 
--- rules 1 to 3 let the path go
+-- the prefix is of the key's family, and rules 1 to 3 let the path go
 abbrev pub is_let_out : GroupKey → Tables → IpPrefix → Path → Bool
 is_let_out key tables p path =
-    communities_allow key.kind path.attrs.communities && (reflection_allows key.kind path.learned && is_permitted tables.lists p key.list)
+    same_family key.family p.family
+    && (communities_allow key.kind path.attrs.communities
+    && (reflection_allows key.kind path.learned && (is_permitted tables.lists p key.list && filter_permits key.filter p)))
 
 -- What goes out of a path, or that nothing does.
 unfoldable pub out : GroupKey → Tables → Local → IpPrefix → Path → Option OutAttrs
 out key tables local p path =
     if is_let_out key tables p path
-    then option_map (finished key local path.learned) (mapped tables key.map (reflected local key.kind path.learned path.attrs) p)
+    then option_map (finished key local path.learned) (mapped_towards key.family tables key.map (reflected local key.kind path.learned path.attrs) p)
     else None

@@ -1,10 +1,13 @@
 use crate::kind::Kind;
-use ug_types::Name;
+use ug_prefixlist::Filter;
+use ug_types::{Family, Name};
 
 /// What decides what goes out to a peer. Peers of equal keys are sent the same routes but for the next hop.
 #[derive(Debug, PartialEq, Eq, Drop)]
 pub struct GroupKey {
     pub kind: Kind,
+    /// The family of the routes that it is sent.
+    pub family: Family,
     /// The names of its policy's prefix list and route map.
     pub list: Option<Name>,
     pub map: Option<Name>,
@@ -16,4 +19,6 @@ pub struct GroupKey {
     pub add_path: bool,
     pub extended: bool,
     pub enhanced_refresh: bool,
+    /// The peer's own filter.
+    pub filter: Filter,
 }

@@ -6,7 +6,7 @@ mod key;
 mod keying;
 mod kind;
 mod laws;
-mod out;
+mod outgoing;
 mod peer;
 mod policy;
 mod reflection;
@@ -17,10 +17,7 @@ pub use key::GroupKey;
 pub use keying::key_of;
 pub use kind::Kind;
 pub use laws::outbound_laws;
-pub use out::outbound;
+pub use outgoing::outbound;
 pub use peer::{Peer, PeerTable};
 pub use policy::{NamedPolicy, Policies, Policy, PolicyTable};
 pub use settings::Local;
-
-#[cfg(test)]
-mod tests;

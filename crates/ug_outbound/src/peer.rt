@@ -1,4 +1,7 @@
-use ug_types::{Addr, Name, Prefix, Sequence};
+ghost use Rattle.std.specs.Prelude.{◌≡◌};
+ghost use Rattle.ug_outbound.specs.Keys.{ends_of};
+
+use ug_types::{Addr, Family, Name, PeerEnds, Prefix, Sequence};
 
 /// A peer as it is configured, with its present policy.
 #[derive(Debug, Drop)]
@@ -7,6 +10,8 @@ pub struct Peer {
     /// Its AS: an internal peer has the local one.
     pub asn: u32,
     pub router_id: Addr,
+    /// The family of its addresses and of the routes that it is sent.
+    pub family: Family,
     /// Its own address.
     pub address: Addr,
     /// The speaker's address towards it.
@@ -27,6 +32,21 @@ pub struct Peer {
     pub extended: bool,
     /// Enhanced refresh is in use (RFC 7313).
     pub enhanced_refresh: bool,
+    /// It may send a filter of its own (RFC 5291).
+    pub orf: bool,
+}
+
+impl Peer {
+    /// The ends of the link to it.
+    pub fn ends(&self) -> PeerEnds
+        ensures { result ≡ ends_of self.now }
+    {
+        PeerEnds {
+            address: self.address,
+            local: self.local_address,
+            subnet: self.subnet,
+        }
+    }
 }
 
 pub type PeerTable = Sequence<Peer>;

@@ -1,7 +1,7 @@
 use std::marker::Model;
 use ug_prefixlist::ListTable;
 use ug_routemap::MapTable;
-use ug_types::{Name, Sequence};
+use ug_types::{Name, Named, Sequence};
 
 /// Which prefix list and which route map filter what a peer is sent.
 #[derive(Debug, PartialEq, Eq, Drop)]
@@ -11,11 +11,7 @@ pub struct Policy {
 }
 
 /// A policy and its name.
-#[derive(Debug, Drop)]
-pub struct NamedPolicy {
-    pub name: Name,
-    pub policy: Policy,
-}
+pub type NamedPolicy = Named<Policy>;
 
 pub type PolicyTable = Sequence<NamedPolicy>;
 

@@ -47,20 +47,19 @@ is_good e = same_family e.prefix.family V4 && is_bound e.prefix.len e.ge && is_b
 
 -- Why entries are no list, the lowest number first: 1 two have one sequence number, 2 one isn't good, 3 there are
 -- over 1,024.
-abbrev pub list_refusal : List ListEntry → Option ℕ
-list_refusal entries =
-    if repeats seq_of entries then Some 1
+abbrev pub refusal_where : Bool → List ListEntry → Option ℕ
+refusal_where repeated entries =
+    if repeated then Some 1
     else if not (list_all is_good entries) then Some 2
     else if nat_lt 1024 (length entries) then Some 3
     else None
 
+abbrev pub list_refusal : List ListEntry → Option ℕ
+list_refusal entries = refusal_where (repeats seq_of entries) entries
+
 -- The same of entries in ascending order: the numbers rise where none repeats.
 abbrev pub refusal_in_order : List ListEntry → Option ℕ
-refusal_in_order entries =
-    if not (rises seq_of entries) then Some 1
-    else if not (list_all is_good entries) then Some 2
-    else if nat_lt 1024 (length entries) then Some 3
-    else None
+refusal_in_order entries = refusal_where (not (rises seq_of entries)) entries
 
 -- what a list keeps: its entries rise by their sequence numbers, each is good, and there are at most 1,024
 abbrev pub IsPrefixList : List ListEntry → Type 0

@@ -94,7 +94,7 @@ fn refusal_in_order(entries: &[ListEntry]) -> Option<u8>
 }
 
 /// What the first entry that matches a prefix says, or no.
-fn are_permitting(entries: &[ListEntry], prefix: &Prefix) -> bool
+pub fn are_permitting(entries: &[ListEntry], prefix: &Prefix) -> bool
     ensures { result ≡ permits entries.now prefix.now }
 {
     for entry in entries {

@@ -1,28 +1,24 @@
-//! Prefix lists by name.
+//! Prefix lists, and other values, by name.
 
 ghost use Rattle.std.specs.Prelude.{◌≡◌};
 ghost use Rattle.std.specs.Option.{option_map};
-ghost use Rattle.ug_prefixlist.specs.Named.{list_named, is_permitted};
+ghost use Rattle.ug_prefixlist.specs.Named.{value_named, is_permitted};
 
 use crate::list::PrefixList;
-use ug_types::{Name, Prefix, Sequence};
+use ug_types::{Name, Named, Prefix, Sequence};
 
 /// A prefix list and its name.
-#[derive(Debug, Drop)]
-pub struct NamedList {
-    pub name: Name,
-    pub list: PrefixList,
-}
+pub type NamedList = Named<PrefixList>;
 
 pub type ListTable = Sequence<NamedList>;
 
-/// The list of that name, the first where there are several; None exactly where there is none.
-pub fn find_list<'a>(lists: &'a ListTable, name: &Name) -> Option<&'a PrefixList>
-    ensures { option_map (λ list. list.now) result ≡ list_named lists.now.items name.now }
+/// The value of that name, the first where there are several; None exactly where there is none.
+pub fn find_named<'a, T>(items: &'a [Named<T>], name: &Name) -> Option<&'a T>
+    ensures { option_map (λ value. value.now) result ≡ value_named items.now name.now }
 {
-    for named in lists.as_slice() {
+    for named in items {
         if named.name == *name {
-            return Some(&named.list);
+            return Some(&named.value);
         }
     }
     None
@@ -35,7 +31,7 @@ pub fn is_permitted(lists: &ListTable, prefix: &Prefix, name: &Option<Name>) -> 
     let Some(name) = name else {
         return true;
     };
-    match find_list(lists, name) {
+    match find_named(lists.as_slice(), name) {
         Some(list) => list.permits(prefix),
         None => false,
     }

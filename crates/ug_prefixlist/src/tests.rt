@@ -146,13 +146,29 @@ fn lists_are_found(rt: HostRuntime) -> Result<(), Fail> {
     let mut lists = Sequence::new(alloc);
     let named = NamedList {
         name: a.copy(alloc)?,
-        list,
+        value: list,
     };
     assert!(rt; lists.push(named).is_ok());
-    assert!(rt; find_list(&lists, &a).is_some());
-    assert!(rt; find_list(&lists, &b).is_none());
+    assert!(rt; find_named(lists.as_slice(), &a).is_some());
+    assert!(rt; find_named(lists.as_slice(), &b).is_none());
     assert!(rt; is_permitted(&lists, &prefix(0, 0), &None));
     assert!(rt; is_permitted(&lists, &prefix(0, 0), &Some(a)));
     assert!(rt; !is_permitted(&lists, &prefix(0, 0), &Some(b)));
+    Ok(())
+}
+
+/// Without entries a filter permits everything, and with one nothing but what that permits.
+#[test]
+fn filters_permit(rt: HostRuntime) -> Result<(), Fail> {
+    let alloc = rt.alloc();
+    let ten = prefix(0x0A00_0000, 8);
+    let eleven = prefix(0x0B00_0000, 8);
+    let none = Filter::none(alloc);
+    assert!(rt; none.permits(&ten) && none.permits(&eleven));
+    let entry = entry(10, true, ten, None, Some(24));
+    let filter = Filter::new(Sequence::from_vec(Vec::from_slice(alloc, &[entry])?));
+    assert!(rt; filter.permits(&ten) && !filter.permits(&eleven));
+    assert!(rt; filter.copy(alloc)? == filter && filter != none);
+    assert_eq!(rt; filter.entries().len(), 1);
     Ok(())
 }

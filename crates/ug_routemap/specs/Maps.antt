@@ -5,8 +5,7 @@ use Rattle.std.specs.Option.{option_or}
 use Rattle.ug_types.specs.Ip.{IpPrefix}
 use Rattle.ug_types.specs.Attributes.{PathSegment, Attributes}
 use Rattle.ug_aspath.specs.Paths.{prepended}
-use Rattle.ug_prefixlist.specs.declared.table.NamedList.{NamedList}
-use Rattle.ug_prefixlist.specs.Named.{is_permitted}
+use Rattle.ug_prefixlist.specs.Named.{NamedList, is_permitted}
 use Rattle.ug_routemap.specs.declared.entry.OnMatch.{OnMatch}
 use Rattle.ug_routemap.specs.declared.entry.OnMatch.TheVariants as on_matches
 use Rattle.ug_routemap.specs.declared.mapped.Mapped.{Mapped}

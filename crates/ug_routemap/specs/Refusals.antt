@@ -41,24 +41,21 @@ has_few_sets rules = nat_le (prepends_in rules) 16 && nat_le (communities_in rul
 
 -- Why entries are no map, the lowest number first: 1 two have one sequence number, 2 a goto is not ahead of its entry,
 -- 3 there are over 256, 4 an unknown list is named, 5 over 16 numbers are prepended, or over 16 communities set and added.
-abbrev pub map_refusal : List (List ℕ) → List MapRule → Option ℕ
-map_refusal names rules =
-    if repeats rule_seq rules then Some 1
+abbrev pub refusal_where : Bool → List (List ℕ) → List MapRule → Option ℕ
+refusal_where repeated names rules =
+    if repeated then Some 1
     else if not (list_all is_ahead rules) then Some 2
     else if nat_lt 256 (length rules) then Some 3
     else if not (list_all (is_known names) rules) then Some 4
     else if not (has_few_sets rules) then Some 5
     else None
 
+abbrev pub map_refusal : List (List ℕ) → List MapRule → Option ℕ
+map_refusal names rules = refusal_where (repeats rule_seq rules) names rules
+
 -- The same of entries in ascending order: the numbers rise where none repeats.
 abbrev pub refusal_in_order : List (List ℕ) → List MapRule → Option ℕ
-refusal_in_order names rules =
-    if not (rises rule_seq rules) then Some 1
-    else if not (list_all is_ahead rules) then Some 2
-    else if nat_lt 256 (length rules) then Some 3
-    else if not (list_all (is_known names) rules) then Some 4
-    else if not (has_few_sets rules) then Some 5
-    else None
+refusal_in_order names rules = refusal_where (not (rises rule_seq rules)) names rules
 
 -- an origin that is set has a meaning
 abbrev pub is_origin : Option ℕ → Bool

@@ -16,7 +16,7 @@ pub use entry::{MapEntry, MapEntryList, OnMatch};
 pub use map::RouteMap;
 pub use mapped::Mapped;
 pub use refusal::MapRefusal;
-pub use table::{MapTable, NamedMap, find_map};
+pub use table::{MapTable, NamedMap};
 
 #[cfg(test)]
 mod tests;

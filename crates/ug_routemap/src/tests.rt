@@ -1,7 +1,7 @@
 use super::*;
 use std::alloc::Global;
 use std::test::Fail;
-use ug_prefixlist::{ListEntry, ListTable, NamedList, PrefixList};
+use ug_prefixlist::{ListEntry, ListTable, NamedList, PrefixList, find_named};
 use ug_types::{
     Addr, AttrParts, Attrs, Family, Name, NameList, NoMemory, NumberList, Prefix, Segment,
     SegmentList, Sequence,
@@ -219,7 +219,7 @@ fn lists(alloc: Global) -> Result<ListTable, Fail> {
     let mut lists = Vec::new(alloc);
     lists.push(NamedList {
         name: name(alloc, b"x")?,
-        list,
+        value: list,
     })?;
     Ok(Sequence::from_vec(lists))
 }
@@ -435,10 +435,9 @@ fn maps_are_found(rt: HostRuntime) -> Result<(), Fail> {
     let mut maps = Vec::new(alloc);
     maps.push(NamedMap {
         name: name(alloc, b"x")?,
-        map,
+        value: map,
     })?;
-    let maps = Sequence::from_vec(maps);
-    assert!(rt; find_map(&maps, &name(alloc, b"x")?).is_some());
-    assert!(rt; find_map(&maps, &name(alloc, b"y")?).is_none());
+    assert!(rt; find_named(&maps, &name(alloc, b"x")?).is_some());
+    assert!(rt; find_named(&maps, &name(alloc, b"y")?).is_none());
     Ok(())
 }

@@ -4,7 +4,7 @@ ghost use Rattle.std.specs.Prelude.{◌≡◌, ◌+◌, ◌≤◌, None, length,
 ghost use Rattle.std.specs.Option.{option_map};
 ghost use Rattle.ug_types.specs.Attributes.{attributes_of, refusal_of};
 ghost use Rattle.ug_types.specs.Spelling.{attributes};
-ghost use Rattle.ug_outbound.specs.Outbound.{is_let_out, mapped, reflected, attributes_out, finished, out};
+ghost use Rattle.ug_outbound.specs.Outbound.{is_let_out, mapped, heeded, reflected, attributes_out, finished, out};
 ghost use Rattle.ug_outbound.specs.Bounds.{SetsFew};
 
 use crate::as_path::path_out;
@@ -17,9 +17,11 @@ use crate::rules::{
 use crate::settings::Local;
 use std::alloc::Global;
 use std::sync::ledger::Ledger;
-use ug_prefixlist::is_permitted;
-use ug_routemap::{Mapped, find_map};
-use ug_types::{AttrParts, Attrs, Learned, Name, NoMemory, OutAttrs, Path, Prefix, Steps};
+use ug_prefixlist::{find_named, is_permitted};
+use ug_routemap::Mapped;
+use ug_types::{
+    Addr, AttrParts, Attrs, Family, Learned, Name, NoMemory, OutAttrs, Path, Prefix, Steps,
+};
 
 /// What goes out of a path to the peers of a key; None exactly where nothing does. A prefix list that isn't there
 /// permits nothing, and a route map that isn't there gives none. One step is counted, also where memory is wanting.
@@ -44,17 +46,21 @@ pub fn outbound<L: Ledger>(
     let Some(mapped) = mapped(alloc, policies, &key.map, &path.attrs, prefix)? else {
         return Ok(None);
     };
+    let mapped = heeded(key.family, path.attrs.parts().next_hop, mapped);
     Ok(Some(finished(alloc, key, local, &path.learned, mapped)?))
 }
 
-/// Whether the communities, the rules of reflection and the prefix list let a path go.
+/// Whether the prefix is of the key's family, and the communities, the rules of reflection, the prefix list and the
+/// peer's own filter let a path go.
 fn is_let_out(key: &GroupKey, policies: &Policies, prefix: &Prefix, path: &Path) -> bool
     ensures { result ≡ is_let_out key.now policies.now prefix.now path.now }
 {
     let communities = path.attrs.parts().communities.as_slice();
-    communities_allow(key.kind, communities)
+    key.family == prefix.family
+        && communities_allow(key.kind, communities)
         && reflection_allows(key.kind, &path.learned)
         && is_permitted(&policies.lists, prefix, &key.list)
+        && key.filter.permits(prefix)
 }
 
 /// What the route map of that name makes of attributes, or their copy where no map is named.
@@ -75,9 +81,30 @@ fn mapped(
             set_med: false,
         }));
     };
-    match find_map(&policies.maps, name) {
+    match find_named(policies.maps.as_slice(), name) {
         Some(map) => map.apply(alloc, &policies.lists, attrs, prefix),
         None => Ok(None),
+    }
+}
+
+/// What was mapped; towards an IPv6 peer a next hop that the map set, which is IPv4, is as if it were not set.
+fn heeded(family: Family, raw: Addr, mapped: Mapped) -> Mapped
+    ensures { result ≡ heeded family raw mapped }
+{
+    if family == Family::V4 {
+        return mapped;
+    }
+    let parts = AttrParts {
+        next_hop: raw,
+        ..mapped.attrs.into_parts()
+    };
+    let Ok(attrs) = Attrs::received(parts) else {
+        unreachable!()
+    };
+    Mapped {
+        attrs,
+        set_next_hop: false,
+        set_med: mapped.set_med,
     }
 }
 

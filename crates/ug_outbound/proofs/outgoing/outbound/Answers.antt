@@ -1,10 +1,10 @@
 use Rattle.std.proofs.Common.{Some, ap, sym, ◌∙◌}
 use Rattle.ug_types.specs.declared.route.OutAttrs.{OutAttrs}
 use Rattle.ug_routemap.specs.declared.mapped.Mapped.{Mapped}
-use Rattle.ug_outbound.specs.Outbound.{finished}
+use Rattle.ug_outbound.specs.Outbound.{heeded, finished}
 use Rattle.ug_outbound.proofs.Mapping.{out_is_after, reflect}
 use Rattle.ug_outbound.proofs.Bounds.{kept_back, not_mapped, let_out, out_bytes}
-use Rattle.ug_outbound.proofs.out.outbound.Goals as goal
+use Rattle.ug_outbound.proofs.outgoing.outbound.Goals as goal
 
 pub returns-then-not-is_let_out-clause-exact : goal.returns-then-not-is_let_out-clause-exact
 returns-then-not-is_let_out-clause-exact g c =
@@ -17,9 +17,9 @@ returns-in_default-clause-exact g c =
 pub returns-clause-exact : goal.returns-clause-exact
 returns-clause-exact g c =
     let key = c.args.key.now in
-    let from = c.args.path.now.learned in
-    ap (λ (o : OutAttrs). Some o) c.in_ok-finished.ensures
-    ∙ let_out _ _ (λ (m : Mapped). finished key c.args.local.now from (reflect c.args.local.now key.kind from m)) _ (sym c.is_let_out.ensures ∙ c.if-not-is_let_out.false) (sym c.in_ok-mapped.ensures.exact ∙ c.in-Some.is)
+    let path = c.args.path.now in
+    ap (λ (o : OutAttrs). Some o) (c.in_ok-finished.ensures ∙ ap (λ (m : Mapped). finished key c.args.local.now path.learned (reflect c.args.local.now key.kind path.learned m)) (c.heeded-mapped.ensures ∙ ap (λ raw. heeded key.family raw c.in-Some.mapped) (ap (λ a. a.next_hop) c.parts.ensures.parts)))
+    ∙ let_out _ _ (λ (m : Mapped). finished key c.args.local.now path.learned (reflect c.args.local.now key.kind path.learned (heeded key.family path.attrs.next_hop m))) _ (sym c.is_let_out.ensures ∙ c.if-not-is_let_out.false) (sym c.in_ok-mapped.ensures.exact ∙ c.in-Some.is)
     ∙ sym (out_is_after key c.args.policies.now c.args.local.now c.args.prefix.now c.args.path.now)
 
 pub returns-clause-short : goal.returns-clause-short

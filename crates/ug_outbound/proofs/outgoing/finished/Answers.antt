@@ -2,7 +2,7 @@ use Rattle.std.proofs.Common.{◌≡◌, true, ap, ◌∙◌}
 use Rattle.ug_types.specs.Attributes.{Attributes, attributes_of, is_well_formed}
 use Rattle.ug_outbound.specs.Outbound.{reflected}
 use Rattle.ug_outbound.proofs.Kept.{out_kept, reflected_formed}
-use Rattle.ug_outbound.proofs.out.finished.Goals as goal
+use Rattle.ug_outbound.proofs.outgoing.finished.Goals as goal
 
 -- what goes out is well formed, so it is received
 pub unreachable-requires : goal.unreachable-requires
