@@ -1,0 +1,9 @@
+pub mod Lookups
+pub mod Relisting
+pub mod Keeping
+pub mod Changing
+pub mod PrefixOrder
+pub mod Counting
+pub mod Filtering
+pub mod Staying
+pub mod Starting

@@ -1,0 +1,25 @@
+use Rattle.std.proofs.Common.{◌≡◌, None, List, map, refl, ap, sym, subst, ◌∙◌}
+use Rattle.ug_world.specs.declared.peer_state.PeerState.{PeerState}
+use Rattle.ug_world.specs.World.{peer_named}
+use Rattle.ug_world.specs.After.{with_policy, changed_peer}
+use Rattle.ug_world.specs.Kept.{IsPlaceOf}
+use Rattle.ug_world.proofs.Changing.{peers_as_they_were, peer_changed, are_peers_changed}
+use Rattle.ug_world.proofs.peers.Peers.set_policy.Goals as goal
+
+pub returns-in_default : goal.returns-in_default
+returns-in_default c =
+    peers_as_they_were c.args.self.now c.args.name.now (with_policy c.args.policy)
+    (subst (λ (xs : List PeerState). peer_named xs c.args.name.now ≡ None) (c.deref.ensures.value ∙ c.self.view_is) c.in_default.ensures)
+
+pub invariant_of-self : goal.invariant_of-self
+invariant_of-self c =
+    are_peers_changed c.self.inside.seats.items c.args.name.now c.in-Some.place c.self.invariant
+    (subst (λ (xs : List PeerState). IsPlaceOf xs c.args.name.now c.in-Some.place) c.deref.ensures.value c.in-Some.ensures)
+    (with_policy c.args.policy) c.index_mut.result.now c.set_policy.new.seat c.index_mut.ensures.value c.set_policy.ensures (λ (s : PeerState). refl)
+
+pub returns-in-Some : goal.returns-in-Some
+returns-in-Some c =
+    peer_changed c.self.inside.seats.items c.args.name.now c.in-Some.place c.self.invariant
+    (subst (λ (xs : List PeerState). IsPlaceOf xs c.args.name.now c.in-Some.place) c.deref.ensures.value c.in-Some.ensures)
+    (with_policy c.args.policy) c.index_mut.result.now c.set_policy.new.seat c.index_mut.ensures.value c.set_policy.ensures
+    ∙ ap (map (changed_peer c.args.name.now (with_policy c.args.policy))) c.self.view_is

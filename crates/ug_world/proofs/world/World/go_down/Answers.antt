@@ -1,0 +1,9 @@
+use Rattle.std.proofs.Common.{arith}
+use Rattle.ug_world.specs.declared.peer_state.PeerState.{PeerState}
+use Rattle.ug_world.specs.After.{gone_down}
+use Rattle.ug_world.proofs.Staying.{world_with_peer}
+use Rattle.ug_world.proofs.world.World.go_down.Goals as goal
+
+pub invariant_of-self : goal.invariant_of-self
+invariant_of-self c =
+    world_with_peer c.self.inside.none c.self.inside.version c.self.inside.peers c.self.inside.policies.lists c.self.invariant c.args.name.now (gone_down) c.go_down.new.self c.go_down.ensures (λ (s : PeerState). omega arith)

@@ -1,0 +1,11 @@
+pub mod World
+pub mod Names
+pub mod Private
+pub mod Verdicts
+pub mod After
+pub mod Orders
+pub mod Kept
+pub mod Filtered
+pub mod Parts
+pub mod Touches
+pub mod Worlds

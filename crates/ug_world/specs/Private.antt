@@ -1,0 +1,37 @@
+-- What a peer should have of the routes in a world.
+use Rattle.std.specs.Prelude.{ℕ, ◌==◌, Bool, true, false, List, [], ◌∷◌, find, slice_get, Option, Some, None, option_and_then, if◌then◌else◌}
+use Rattle.std.specs.Option.{option_map}
+use Rattle.ug_types.specs.Attributes.{Attributes}
+use Rattle.ug_types.specs.declared.key.Key.{Key}
+use Rattle.ug_types.specs.declared.route.Path.{Path}
+use Rattle.ug_types.specs.declared.route.OutAttrs.{OutAttrs}
+use Rattle.ug_rewrite.specs.NextHops.{told_to}
+use Rattle.ug_outbound.specs.Outbound.{out}
+use Rattle.ug_outbound.specs.Keys.{ends_of}
+use Rattle.ug_outbound.specs.declared.key.GroupKey.{GroupKey}
+use Rattle.ug_tables.specs.Tables.{Table}
+use Rattle.ug_world.specs.declared.peer_state.PeerState.{PeerState}
+use Rattle.ug_world.specs.World.{World, paths_to, key_in}
+
+-- Without ADD-PATH a prefix's first path stands under identifier 0; with it each path stands under its own (RFC 7911).
+abbrev pub path_at : Bool → ℕ → List Path → Option Path
+path_at false id [] = None
+path_at false id (path ∷ paths) = if id == 0 then Some path else None
+path_at true id paths = find (λ (path : Path). path.id == id) paths
+
+-- What the peers of a group key should have, each but for its next hops.
+unfoldable pub wanted : GroupKey → World → Key → Option OutAttrs
+wanted group w key = option_and_then (out group w.tables w.local key.prefix) (path_at group.add_path key.id (paths_to w.routes key.prefix))
+
+-- what a peer is told of a path to a prefix
+abbrev pub told_of : World → PeerState → Key → Path → Option Attributes
+told_of w s key path = option_map (told_to (ends_of s.peer)) (out (key_in w s) w.tables w.local key.prefix path)
+
+abbrev pub table_of_peer : World → Option PeerState → Table
+table_of_peer w None key = None
+table_of_peer w (Some s) key = if s.up then option_and_then (told_of w s key) (path_at s.peer.add_path key.id (paths_to w.routes key.prefix)) else None
+
+-- A peer's private table: nothing where it isn't up, and else each prefix's path, or paths, by the outbound rules and
+-- then by the rule of next hops. It is worked out for this peer alone.
+unfoldable pub private_table : ℕ → World → Table
+private_table p w = table_of_peer w (slice_get w.peers p)

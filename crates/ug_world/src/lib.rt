@@ -1,0 +1,24 @@
+//! The world of a speaker: which events it accepts, what they make of it, and what each peer should have of its routes.
+#![tactic(auto)]
+
+mod best;
+mod copies;
+mod fresh;
+mod judge;
+mod laws;
+mod lists;
+mod loc_rib;
+mod orf_length;
+mod parts;
+mod peer_state;
+mod peers;
+mod readers;
+mod seats;
+mod take;
+mod world;
+
+pub use judge::Refusal;
+pub use laws::world_laws;
+pub use parts::WorldParts;
+pub use peer_state::PeerState;
+pub use world::World;

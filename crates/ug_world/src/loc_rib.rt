@@ -1,0 +1,165 @@
+//! The routes that a speaker has.
+
+ghost use Rattle.std.specs.Prelude.{◌≡◌, ◌≤◌, ◌||◌, nat_lt, if◌then◌else◌, List, [], length, is_some, false, None, IsSome, IfSome, IfNone, IfOk, OnOk, OnErr, option_copied};
+ghost use Rattle.std.specs.Map.{lookup, remove_entry};
+ghost use Rattle.std.specs.BTreeMap.{insert_entry, get};
+ghost use Rattle.std.specs.BTreeMap.Range.{IsLeBy};
+ghost use Rattle.std.specs.Ordering.{is_eq};
+ghost use Rattle.ug_types.specs.Ip.{IpPrefix};
+ghost use Rattle.ug_types.specs.Keys.{prefix_cmp, same_prefix};
+ghost use Rattle.ug_types.specs.declared.route.Path as stored;
+ghost use Rattle.ug_world.specs.World.{paths_to};
+ghost use Rattle.ug_world.specs.Verdicts.{path_count, is_overfull};
+ghost use Rattle.ug_world.specs.Orders.{IsAfterBy, IsAfter, IsNotAfter};
+
+use crate::best::Best;
+use std::alloc::Global;
+use std::collections::BTreeMap;
+use std::marker::Model;
+use std::ops::Bound;
+use ug_types::{NoMemory, Path, Prefix};
+
+/// The Loc-RIB: each prefix that has paths, with them. Contracts see the prefixes in their order, each with its paths.
+#[derive(Drop)]
+pub struct LocRib {
+    rows: BTreeMap<Prefix, Best>,
+    /// How many paths there are in all.
+    paths: u64,
+}
+
+impl Model for LocRib {
+    ghost use Rattle.std.specs.Prelude.{List};
+    ghost use Rattle.ug_types.specs.Ip.{IpPrefix};
+    ghost use Rattle.ug_types.specs.declared.route.Path.{Path};
+    ghost use Rattle.ug_world.specs.Kept.{IsCounted};
+
+    ghost Value = { List (IpPrefix × List Path) };
+
+    ghost view = { λ r. r.rows.entries };
+
+    ghost invariant = { λ r. IsCounted r.paths r.rows.entries };
+}
+
+impl LocRib {
+    /// No routes. It takes no memory.
+    pub fn new(alloc: Global) -> LocRib
+        ensures { result ≡ [] }
+    {
+        LocRib {
+            rows: BTreeMap::new(alloc),
+            paths: 0,
+        }
+    }
+
+    /// The paths of a prefix, the best first; empty exactly where it has none.
+    pub fn paths(&self, prefix: &Prefix) -> &[Path]
+        ensures { result.now ≡ paths_to self.now prefix.now }
+    {
+        match self.rows.get(prefix) {
+            Some(best) => best.as_slice(),
+            None => &[],
+        }
+    }
+
+    /// Whether a prefix has paths.
+    pub fn contains(&self, prefix: &Prefix) -> bool
+        ensures { result ≡ is_some (lookup (same_prefix prefix.now) self.now) }
+    {
+        self.rows.get(prefix).is_some()
+    }
+
+    /// Whether there would be over 1,048,576 prefixes, or over 2,097,152 paths, if this prefix had so many paths in place
+    /// of those that it has.
+    pub fn is_overfull_with(&self, prefix: &Prefix, count: usize) -> bool
+        ensures { (given : List stored.Path) → length given ≡ count → result ≡ is_overfull (insert_entry prefix_cmp self.now prefix.now given) }
+    {
+        let (prefixes, paths) = self.counts_with(prefix, count);
+        are_over(prefixes, paths)
+    }
+
+    /// How many prefixes and how many paths there would be then.
+    fn counts_with(&self, prefix: &Prefix, count: usize) -> (u128, u128)
+        ensures prefixes { (given : List stored.Path) → length given ≡ count → result.0 ≡ length (insert_entry prefix_cmp self.now prefix.now given) }
+        ensures paths { (given : List stored.Path) → length given ≡ count → result.1 ≡ path_count (insert_entry prefix_cmp self.now prefix.now given) }
+    {
+        let before = self.paths(prefix).len() as u128;
+        let there = one_where(self.contains(prefix));
+        let prefixes = self.rows.len() as u128 + 1 - there;
+        let paths = self.paths as u128 + count as u128 - before;
+        (prefixes, paths)
+    }
+
+    /// Gives a prefix these paths, in place of those before. Want of memory changes nothing.
+    pub fn set(&mut self, prefix: Prefix, best: Best) -> Result<(), NoMemory>
+        requires room { is_overfull (insert_entry prefix_cmp self.old prefix best) ≡ false }
+        ensures ok { OnOk result (self.new ≡ insert_entry prefix_cmp self.old prefix best) }
+        ensures err { OnErr result (self.new ≡ self.old) }
+    {
+        let (_, paths) = self.counts_with(&prefix, best.as_slice().len());
+        self.rows.insert(prefix, best)?;
+        self.paths = paths as u64;
+        Ok(())
+    }
+
+    /// Takes the paths of a prefix away.
+    pub fn remove(&mut self, prefix: &Prefix)
+        ensures { self.new ≡ remove_entry (same_prefix prefix.now) self.old }
+    {
+        let before = self.paths(prefix).len() as u64;
+        self.rows.remove(prefix);
+        self.paths -= before;
+    }
+
+    /// The least prefix with paths above the given one, or the first; None exactly where there is none.
+    pub fn prefix_after(&self, prefix: Option<&Prefix>) -> Option<&Prefix>
+        ensures there { IfSome result (λ p. IsSome (lookup (same_prefix p.now) self.now)) }
+        ensures above { IfSome result (λ p. IsAfter (option_copied prefix.entry) p.now) }
+        ensures least { IfSome result (λ p. (q : IpPrefix) → IsAfter (option_copied prefix.entry) q → IsSome (lookup (same_prefix q) self.now) → IsNotAfter p.now q) }
+        ensures none { IfNone result ((q : IpPrefix) → IsAfter (option_copied prefix.entry) q → lookup (same_prefix q) self.now ≡ None) }
+    {
+        first_after(&self.rows, prefix)
+    }
+
+    /// Equal routes, in memory of their own.
+    pub fn copy(&self) -> Result<LocRib, NoMemory>
+        ensures { IfOk result (λ copy. copy ≡ self.now) }
+    {
+        Ok(LocRib {
+            rows: self.rows.clone()?,
+            paths: self.paths,
+        })
+    }
+}
+
+/// Whether so many prefixes, or so many paths, are too many.
+fn are_over(prefixes: u128, paths: u128) -> bool
+    ensures { result ≡ (nat_lt 1048576 prefixes || nat_lt 2097152 paths) }
+{
+    prefixes > 1048576 || paths > 2097152
+}
+
+fn one_where(there: bool) -> u128
+    ensures one { result ≡ (if there then 1 else 0) }
+    ensures small { result ≤ 1 }
+{
+    if there { 1 } else { 0 }
+}
+
+/// The least prefix above the given one, or the first.
+fn first_after<'a>(rows: &'a BTreeMap<Prefix, Best>, prefix: Option<&Prefix>) -> Option<&'a Prefix>
+    ensures there { IfSome result (λ p. IsSome (get ⟦<Prefix as Ord>⟧.cmp rows.now p.now)) }
+    ensures above { IfSome result (λ p. IsAfterBy ⟦<Prefix as Ord>⟧.cmp (option_copied prefix.entry) p.now) }
+    ensures least { IfSome result (λ p. (q : IpPrefix) → IsAfterBy ⟦<Prefix as Ord>⟧.cmp (option_copied prefix.entry) q →
+        IsSome (get ⟦<Prefix as Ord>⟧.cmp rows.now q) → IsLeBy ⟦<Prefix as Ord>⟧.cmp p.now q) }
+    ensures none { IfNone result ((q : IpPrefix) → IsAfterBy ⟦<Prefix as Ord>⟧.cmp (option_copied prefix.entry) q →
+        get ⟦<Prefix as Ord>⟧.cmp rows.now q ≡ None) }
+{
+    let start = match prefix {
+        Some(prefix) => Bound::Excluded(*prefix),
+        None => Bound::Unbounded,
+    };
+    match rows.range((start, Bound::Unbounded)).next() {
+        Some((prefix, _)) => Some(prefix),
+        None => None,
+    }
+}

@@ -1,0 +1,15 @@
+use ug_outbound::Peer;
+use ug_prefixlist::Filter;
+
+/// A peer with what its sessions made of it.
+#[derive(Debug, Drop)]
+pub struct PeerState {
+    pub peer: Peer,
+    pub up: bool,
+    /// How many sessions it has had, the present one among them.
+    pub sessions: u32,
+    /// The filter in force.
+    pub filter: Filter,
+    /// The filter that the next request puts in force.
+    pub waiting: Filter,
+}
