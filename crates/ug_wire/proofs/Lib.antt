@@ -1,0 +1,16 @@
+pub mod OneText
+pub mod Formed
+pub mod Walks
+pub mod Heads
+pub mod AttributeParts
+pub mod ShortValues
+pub mod Digits
+pub mod RoutesAgain
+pub mod ValuesAgain
+pub mod AttributesAgain
+pub mod AllAgain
+pub mod Headers
+pub mod Fronts
+pub mod WholeMessages
+pub mod WrittenAgain
+pub mod Spelled

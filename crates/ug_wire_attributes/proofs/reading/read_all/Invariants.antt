@@ -1,0 +1,16 @@
+use Rattle.std.proofs.Common.{◌≡◌, ◌-◌, ◌≤◌, length, drop}
+use Rattle.ug_wire.specs.Walking.{walk, walk_all}
+use Rattle.ug_wire.specs.AttributesRead.{attribute_step, nothing_read}
+use Rattle.ug_wire_attributes.specs.Views.{so_far}
+use Rattle.ug_wire_attributes.proofs.reading.read_all.Given as goal
+
+-- walking on from here gives what walking from the start gives
+abbrev pub invariant-loop-place : goal.invariant-loop-place
+invariant-loop-place l = record {
+  within : l.place ≤ length l.bytes;
+  limit : l.found.limit ≡ length l.bytes;
+  same : walk (attribute_step l.family) 0 l.place (so_far l.bytes l.found) (drop l.place l.bytes) ≡ walk_all (attribute_step l.family) nothing_read l.bytes;
+}
+
+abbrev pub decreases-loop-place : goal.decreases-loop-place
+decreases-loop-place l = length l.bytes - l.place

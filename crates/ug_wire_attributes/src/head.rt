@@ -1,0 +1,79 @@
+//! An attribute as such: what stands before its value, and how long it is in all.
+
+ghost use Rattle.std.specs.Prelude.{◌≡◌, ℕ, ◌+◌, ◌*◌, ◌<◌, ◌≤◌, ◌++◌, length};
+ghost use Rattle.ug_wire.specs.Spelling.{attribute, numbers, where_some};
+ghost use Rattle.ug_wire.specs.Heads.{head, size_around};
+
+use crate::values::put_numbers;
+use ug_types::ByteList;
+use ug_wire::{put, put_u16};
+
+/// Set where the length of the value has two bytes.
+const EXTENDED: u8 = 16;
+
+/// How many bytes an attribute has whose value has `len`.
+pub fn size_around(len: usize) -> usize
+    requires { len ≤ 65535 }
+    ensures { result ≡ size_around len }
+{
+    if len > 255 { len + 4 } else { len + 3 }
+}
+
+/// Adds what stands before a value of `len` bytes.
+#[tactic(auto, unfolding(ug_wire::specs::Heads::head))]
+pub fn put_head(out: &mut ByteList, flags: u8, kind: u8, len: usize)
+    requires flags { flags < 240 }
+    requires short { len ≤ 65535 }
+    requires room { length (head flags kind len) ≤ out.old.spare }
+    ensures items { out.new.items ≡ out.old.items ++ head flags kind len }
+    ensures spare { out.old.spare ≤ out.new.spare + length (head flags kind len) }
+{
+    if len <= 255 {
+        put(out, &[flags, kind, len as u8]);
+    } else {
+        put(out, &[flags + EXTENDED, kind]);
+        put_u16(out, len as u16);
+    }
+}
+
+/// Adds an attribute whose value is at hand.
+#[tactic(auto, using(ug_wire::proofs::Heads::attribute_steps))]
+pub fn put_attribute(out: &mut ByteList, flags: u8, kind: u8, value: &[u8])
+    requires flags { flags < 240 }
+    requires short { length value.now ≤ 65535 }
+    requires room { length (attribute flags kind value.now) ≤ out.old.spare }
+    ensures items { out.new.items ≡ out.old.items ++ attribute flags kind value.now }
+    ensures spare { out.old.spare ≤ out.new.spare + length (attribute flags kind value.now) }
+{
+    put_head(out, flags, kind, value.len());
+    put(out, value);
+}
+
+/// How many bytes an attribute has whose value is a list of numbers.
+#[tactic(auto, using(ug_wire::proofs::Heads::size_steps))]
+pub fn list_size(list: &[u32]) -> usize
+    requires { length (numbers list.now) ≤ 65535 }
+    ensures size { (flags type : ℕ) → result ≡ length (where_some (λ ns. attribute flags type (numbers ns)) list.now) }
+    ensures small { result ≤ 65539 }
+{
+    if list.is_empty() {
+        0
+    } else {
+        size_around(4 * list.len())
+    }
+}
+
+/// Adds an attribute whose value is a list of numbers, where there are any.
+#[tactic(auto, using(ug_wire::proofs::Heads::attribute_steps))]
+pub fn put_list(out: &mut ByteList, flags: u8, kind: u8, list: &[u32])
+    requires flags { flags < 240 }
+    requires short { length (numbers list.now) ≤ 65535 }
+    requires room { length (where_some (λ ns. attribute flags kind (numbers ns)) list.now) ≤ out.old.spare }
+    ensures items { out.new.items ≡ out.old.items ++ where_some (λ ns. attribute flags kind (numbers ns)) list.now }
+    ensures spare { out.old.spare ≤ out.new.spare + length (where_some (λ ns. attribute flags kind (numbers ns)) list.now) }
+{
+    if !list.is_empty() {
+        put_head(out, flags, kind, 4 * list.len());
+        put_numbers(out, list);
+    }
+}

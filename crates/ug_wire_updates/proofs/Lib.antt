@@ -1,0 +1,4 @@
+pub mod Texts
+pub mod RouteFaults
+pub mod Goes
+pub mod FromStart

@@ -1,0 +1,3 @@
+pub mod Updates
+pub mod Views
+pub mod Readers

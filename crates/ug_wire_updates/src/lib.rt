@@ -1,0 +1,25 @@
+//! Messages as bytes: UPDATEs written, with routes announced with the attributes that they share, routes withdrawn, or
+//! nothing, as End-of-RIB; and streams of UPDATEs and ROUTE-REFRESHes read, in whatever pieces they come.
+#![tactic(auto)]
+
+mod ahead;
+mod alike;
+mod fault;
+mod parts;
+mod plain;
+mod reader;
+mod reading;
+mod window;
+mod writing;
+
+pub use alike::routes_are_alike;
+pub use plain::read_all;
+pub use reader::Reader;
+pub use writing::{
+    routes_size, start, write_eor, write_routes, write_size, write_update, write_withdraw,
+};
+
+#[cfg(test)]
+mod read_tests;
+#[cfg(test)]
+mod tests;

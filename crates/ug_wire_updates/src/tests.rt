@@ -1,0 +1,352 @@
+//! Messages whose bytes were worked out by hand.
+
+ghost use Rattle.std.specs.Prelude.{◌≡◌, true, ◌+◌, ◌≤◌, ◌||◌, IsTrue, IfOk};
+ghost use Rattle.ug_types.specs.declared.family.Family.TheVariants.{V4};
+ghost use Rattle.ug_wire.specs.Spellable.{is_ipv4, has_ipv4_addresses, are_of_family};
+ghost use Rattle.ug_wire.specs.Lengths.{HasShortValues};
+ghost use Rattle.ug_wire_updates.specs.Updates.{have_identifiers, lack_identifiers, weight_of_all};
+
+use super::*;
+use std::alloc::Global;
+use std::process::Abort;
+use ug_types::{
+    Addr, Aggregator, AttrParts, Attrs, ByteList, Family, Key, NoMemory, NumberList, Prefix,
+    Segment, SegmentList, Sequence, Written,
+};
+use ug_wire::values_are_short;
+use ug_wire_attributes::size_of;
+use ug_wire_routes::NlriRefusal;
+
+/// Whether the bytes are the marker and then those that the text spells in hexadecimal; other signs are passed over.
+fn are_marked(bytes: &[u8], text: &str) -> bool {
+    if bytes.len() < 16 || bytes[..16] != [255; 16] {
+        return false;
+    }
+    let mut place: usize = 16;
+    let mut high: Option<u8> = None;
+    for sign in text.as_bytes() {
+        let digit = match *sign {
+            b'0'..=b'9' => *sign - b'0',
+            b'A'..=b'F' => *sign - b'A' + 10,
+            _ => continue,
+        };
+        high = match high {
+            None => Some(digit),
+            Some(first) => {
+                if bytes.get(place).copied() != Some((first << 4) | digit) {
+                    return false;
+                }
+                place = place.wrapping_add(1);
+                None
+            }
+        };
+    }
+    place == bytes.len() && high.is_none()
+}
+
+fn key(bits: u32, len: u8, id: u32) -> Key
+    requires { len ≤ 32 }
+{
+    let prefix = Prefix::new(Family::V4, (bits as u128) << 96, len).unwrap();
+    Key { prefix, id }
+}
+
+/// 10.0.0.0/8 under each of the identifiers.
+fn tens(alloc: Global, ids: &[u32]) -> Result<Vec<Key>, NoMemory> {
+    let mut keys = Vec::new(alloc);
+    for id in ids {
+        keys.push(key(0x0A000000, 8, *id))?;
+    }
+    Ok(keys)
+}
+
+fn numbers(alloc: Global, list: &[u32]) -> Result<NumberList, NoMemory> {
+    Ok(Sequence::from_vec(Vec::from_slice(alloc, list)?))
+}
+
+fn segment(alloc: Global, is_set: bool, list: &[u32]) -> Result<Segment, NoMemory> {
+    Ok(Segment {
+        is_set,
+        numbers: numbers(alloc, list)?,
+    })
+}
+
+fn add(path: &mut SegmentList, segment: Segment) -> Result<(), NoMemory> {
+    match path.push(segment) {
+        Ok(()) => Ok(()),
+        Err(_) => Err(NoMemory),
+    }
+}
+
+fn parts(alloc: Global, path: SegmentList, next_hop: Addr) -> AttrParts {
+    AttrParts {
+        origin: 0,
+        path,
+        next_hop,
+        med: None,
+        local_pref: None,
+        atomic: false,
+        aggregator: None,
+        communities: Sequence::new(alloc),
+        originator: None,
+        clusters: Sequence::new(alloc),
+    }
+}
+
+fn attrs(rt: &impl Abort, parts: AttrParts) -> Attrs
+    ensures { HasShortValues result }
+{
+    values_are_short();
+    match Attrs::new(parts) {
+        Ok(attrs) => attrs,
+        Err(e) => panic!(rt; "refused: {}", e.number),
+    }
+}
+
+fn have_identifiers(keys: &[Key]) -> bool
+    ensures { result ≡ have_identifiers keys.now }
+{
+    keys.iter().all(|key| key.id != 0)
+}
+
+fn lack_identifiers(keys: &[Key]) -> bool
+    ensures { result ≡ lack_identifiers keys.now }
+{
+    keys.iter().all(|key| key.id == 0)
+}
+
+fn are_alike(keys: &[Key]) -> bool
+    ensures { result ≡ (have_identifiers keys.now || lack_identifiers keys.now) }
+{
+    have_identifiers(keys) || lack_identifiers(keys)
+}
+
+fn are_ipv4(keys: &[Key]) -> bool
+    ensures { result ≡ are_of_family V4 keys.now }
+{
+    keys.iter().all(|key| key.prefix.family == Family::V4)
+}
+
+fn is_ipv4(addr: &Addr) -> bool
+    ensures { result ≡ is_ipv4 addr.now }
+{
+    addr.family == Family::V4
+}
+
+/// Whether all addresses are of IPv4.
+#[tactic(auto, unfolding(ug_wire::specs::Spellable::has_ipv4_addresses))]
+fn has_ipv4(attrs: &Attrs) -> bool
+    ensures hop { IsTrue result → is_ipv4 attrs.now.next_hop ≡ true }
+    ensures others { IsTrue result → has_ipv4_addresses attrs.now ≡ true }
+{
+    let parts = attrs.parts();
+    if let Some(aggregator) = parts.aggregator {
+        if !is_ipv4(&aggregator.addr) {
+            return false;
+        }
+    }
+    if let Some(originator) = parts.originator {
+        if !is_ipv4(&originator) {
+            return false;
+        }
+    }
+    is_ipv4(&parts.next_hop)
+}
+
+fn fit(keys: &[Key], room: usize) -> bool
+    ensures { IsTrue result → weight_of_all keys.now ≤ room }
+{
+    let mut left = room;
+    for key in keys {
+        let size = ug_wire_routes::size(key);
+        if left < size {
+            return false;
+        }
+        left -= size;
+    }
+    true
+}
+
+/// The message that announces the keys spells so, and its NEXT_HOP stands at that place.
+fn announces(
+    rt: &impl Abort,
+    alloc: Global,
+    attrs: &Attrs,
+    keys: &[Key],
+    text: &str,
+    place: usize,
+) -> Result<(), NoMemory>
+    requires { HasShortValues attrs.now }
+{
+    let size = size_of(attrs);
+    assert!(rt; size < 65000);
+    assert!(rt; !keys.is_empty() && are_alike(keys) && fit(keys, 500));
+    assert!(rt; are_ipv4(keys) && has_ipv4(attrs));
+    let message = write_update(alloc, attrs, keys)?;
+    assert!(rt; are_marked(message.bytes.as_slice(), text));
+    assert_eq!(rt; message.place, place);
+    Ok(())
+}
+
+/// The message that withdraws the keys spells so.
+fn withdraws(rt: &impl Abort, alloc: Global, keys: &[Key], text: &str) -> Result<(), NoMemory> {
+    assert!(rt; !keys.is_empty() && are_alike(keys) && fit(keys, 500) && are_ipv4(keys));
+    let message = write_withdraw(alloc, keys)?;
+    assert!(rt; are_marked(message.as_slice(), text));
+    Ok(())
+}
+
+/// ORIGIN IGP, an AS_PATH of 65001, and NEXT_HOP 192.0.2.1.
+fn plain(rt: &impl Abort, alloc: Global) -> Result<Attrs, NoMemory>
+    ensures { IfOk result (λ a. HasShortValues a) }
+{
+    let mut path = Sequence::new(alloc);
+    add(&mut path, segment(alloc, false, &[65001])?)?;
+    Ok(attrs(rt, parts(alloc, path, Addr::v4(0xC0000201))))
+}
+
+#[test]
+fn one_route(rt: HostRuntime) -> Result<(), NoMemory> {
+    let alloc = rt.alloc();
+    let attrs = plain(&rt, alloc)?;
+    let keys = tens(alloc, &[0])?;
+    announces(
+        &rt,
+        alloc,
+        &attrs,
+        keys.as_slice(),
+        "002D 02 0000 0014 40010100 40020602010000FDE9 400304C0000201 080A",
+        39,
+    )?;
+    withdraws(&rt, alloc, keys.as_slice(), "0019 02 0002 080A 0000")
+}
+
+#[test]
+fn identifiers(rt: HostRuntime) -> Result<(), NoMemory> {
+    let alloc = rt.alloc();
+    let attrs = plain(&rt, alloc)?;
+    let keys = tens(alloc, &[7, 9])?;
+    announces(
+        &rt,
+        alloc,
+        &attrs,
+        keys.as_slice(),
+        "0037 02 0000 0014 40010100 40020602010000FDE9 400304C0000201 00000007080A 00000009080A",
+        39,
+    )?;
+    let second = tens(alloc, &[9])?;
+    withdraws(
+        &rt,
+        alloc,
+        second.as_slice(),
+        "001D 02 0006 00000009080A 0000",
+    )
+}
+
+#[test]
+fn end_of_rib(rt: HostRuntime) -> Result<(), NoMemory> {
+    let message = write_eor(rt.alloc())?;
+    assert!(rt; are_marked(message.as_slice(), "0017 02 0000 0000"));
+    Ok(())
+}
+
+/// An AS_PATH whose length has two bytes.
+#[test]
+fn long_path(rt: HostRuntime) -> Result<(), NoMemory> {
+    let alloc = rt.alloc();
+    let mut path = Sequence::new(alloc);
+    add(&mut path, segment(alloc, false, &[65001])?)?;
+    add(&mut path, segment(alloc, false, &[65010; 255])?)?;
+    let attrs = attrs(&rt, parts(alloc, path, Addr::v4(0xC0000201)));
+    let text = long_text(alloc)?;
+    let keys = tens(alloc, &[0])?;
+    announces(&rt, alloc, &attrs, keys.as_slice(), text.as_str(), 1062)
+}
+
+fn long_text(alloc: Global) -> Result<String, NoMemory> {
+    let mut text = String::from_str(
+        alloc,
+        "042C 02 0000 0413 40010100 5002 0404 0201 0000FDE9 02FF",
+    )?;
+    for _ in 0..255 {
+        text.push_str("0000FDF2")?;
+    }
+    text.push_str("400304C0000201 080A")?;
+    Ok(text)
+}
+
+/// An empty AS_PATH, and what a reflector adds.
+#[test]
+fn reflected(rt: HostRuntime) -> Result<(), NoMemory> {
+    let alloc = rt.alloc();
+    let mut parts = parts(alloc, Sequence::new(alloc), Addr::v4(0xCB007109));
+    parts.local_pref = Some(100);
+    parts.originator = Some(Addr::v4(0x0A000001));
+    parts.clusters = numbers(alloc, &[0xC00002FE])?;
+    let attrs = attrs(&rt, parts);
+    let keys = tens(alloc, &[0])?;
+    announces(
+        &rt,
+        alloc,
+        &attrs,
+        keys.as_slice(),
+        "003C 02 0000 0023 40010100 400200 400304CB007109 40050400000064 8009040A000001 800A04C00002FE 080A",
+        33,
+    )
+}
+
+/// All ten attributes, and prefixes of many lengths.
+#[test]
+fn everything(rt: HostRuntime) -> Result<(), NoMemory> {
+    let alloc = rt.alloc();
+    let mut path = Sequence::new(alloc);
+    add(&mut path, segment(alloc, false, &[64512])?)?;
+    add(&mut path, segment(alloc, true, &[64513, 64514])?)?;
+    let mut parts = parts(alloc, path, Addr::v4(0xC6336401));
+    parts.origin = 1;
+    parts.med = Some(5);
+    parts.local_pref = Some(200);
+    parts.atomic = true;
+    parts.aggregator = Some(Aggregator {
+        asn: 64512,
+        addr: Addr::v4(0x0A000002),
+    });
+    parts.communities = numbers(alloc, &[0xFDE80001, 0xFFFFFF01])?;
+    parts.originator = Some(Addr::v4(0x0A000001));
+    parts.clusters = numbers(alloc, &[0x0A000003, 0x0A000004])?;
+    let attrs = attrs(&rt, parts);
+    let keys = [
+        key(0xFFFFFFFF, 0, 0),
+        key(0xFFFFFFFF, 1, 0),
+        key(0xFFFFFFFF, 7, 0),
+        key(0xFFFFFFFF, 8, 0),
+        key(0xFFFFFFFF, 9, 0),
+        key(0xFFFFFFFF, 24, 0),
+        key(0xFFFFFFFF, 25, 0),
+        key(0xFFFFFFFF, 31, 0),
+        key(0xFFFFFFFF, 32, 0),
+    ];
+    announces(
+        &rt,
+        alloc,
+        &attrs,
+        &keys,
+        "008B 02 0000 0057 40010101 400210 02010000FC00 01020000FC010000FC02 400304C6336401 80040400000005 400504000000C8 400600 C007080000FC000A000002 C00808FDE80001FFFFFF01 8009040A000001 800A080A0000030A000004 00 0180 07FE 08FF 09FF80 18FFFFFF 19FFFFFF80 1FFFFFFFFE 20FFFFFFFF",
+        49,
+    )
+}
+
+/// Routes from the front of bytes, and why there is none.
+#[test]
+fn routes_read(rt: HostRuntime) {
+    let nine = key(0x0A800000, 9, 7);
+    // The bits past the ninth are not heeded.
+    assert!(rt; ug_wire_routes::read(&[0, 0, 0, 7, 9, 10, 255, 32], true) == Ok((nine, 7)));
+    assert!(rt; ug_wire_routes::read(&[0], false) == Ok((key(0, 0, 0), 1)));
+    let too_long = NlriRefusal { number: 1 };
+    let cut_short = NlriRefusal { number: 2 };
+    assert!(rt; ug_wire_routes::read(&[33], false) == Err(too_long));
+    assert!(rt; ug_wire_routes::read(&[32, 10, 0, 0], false) == Err(cut_short));
+    assert!(rt; ug_wire_routes::read(&[0, 0, 0, 7], true) == Err(cut_short));
+    assert!(rt; ug_wire_routes::read(&[0, 0, 0], true) == Err(cut_short));
+}
