@@ -30,6 +30,8 @@ pub fn check<E: Source, K: Sink>(
     ensures report_faults { K.faults report.old ≤ K.faults report.new }
     ensures source_faults { E.faults source.old ≤ E.faults source.new }
     ensures files { E.files source.new ≡ E.files source.old }
+    ensures is_picked { E.is_picked source.new ≡ E.is_picked source.old }
+    ensures made { E.made source.new ≡ E.made source.old }
     ensures wire_faults { E.wire_faults source.new ≡ E.wire_faults source.old }
 {
     let checker = match read_stream(alloc, add_path, extended, source) {

@@ -18,7 +18,7 @@ use std::alloc::Global;
 use ug_edge::{Failed, Sink};
 use ug_pieces::write_all;
 use ug_receiver::Table;
-use ug_rows::write_row;
+use ug_rows::RowWriter;
 use ug_types::{Attrs, Key, NoMemory};
 
 /// How many bytes are written at once, as nearly as whole lines come.
@@ -36,7 +36,7 @@ pub fn write_report<K: Sink>(alloc: Global, checker: &Checker, report: &mut K) -
     ensures faults { K.faults report.old ≤ K.faults report.new }
 {
     let mut text = String::new(alloc);
-    match write_rows(&checker.table, &mut text, report) {
+    match write_rows(alloc, &checker.table, &mut text, report) {
         Ok(()) => {}
         Err(stop) => return Err(stop),
     }
@@ -68,7 +68,12 @@ fn add_totals(checker: &Checker, text: &mut String) -> Result<(), NoMemory>
 }
 
 /// Writes the rows of the table, but for those that the text has at the end.
-fn write_rows<K: Sink>(table: &Table, text: &mut String, report: &mut K) -> Result<(), Stop>
+fn write_rows<K: Sink>(
+    alloc: Global,
+    table: &Table,
+    text: &mut String,
+    report: &mut K,
+) -> Result<(), Stop>
     ensures ok { OnOk result ((before : Option (List ℕ)) (lines : List (List ℕ)) (rest : List (List ℕ)) →
         HasWritten before (K.held report.old) (string_bytes text.old) lines (row_texts table.now.rows ++ rest) →
         HasWritten before (K.held report.new) (string_bytes text.new) lines rest) }
@@ -80,8 +85,9 @@ fn write_rows<K: Sink>(table: &Table, text: &mut String, report: &mut K) -> Resu
     ensures no_read { IsErrOf result Stop.Read → ⊥ }
     ensures faults { K.faults report.old ≤ K.faults report.new }
 {
+    let mut writer = RowWriter::new(alloc);
     for (key, attrs) in table.iter() {
-        match put_row(key, attrs, text, report) {
+        match put_row(&mut writer, &key, attrs, text, report) {
             Ok(()) => {}
             Err(stop) => return Err(stop),
         }
@@ -90,7 +96,13 @@ fn write_rows<K: Sink>(table: &Table, text: &mut String, report: &mut K) -> Resu
 }
 
 /// Adds a row to the text, and writes the text where it is long enough.
-fn put_row<K: Sink>(key: &Key, attrs: &Attrs, text: &mut String, report: &mut K) -> Result<(), Stop>
+fn put_row<'a, K: Sink>(
+    writer: &mut RowWriter<'a>,
+    key: &Key,
+    attrs: &'a Attrs,
+    text: &mut String,
+    report: &mut K,
+) -> Result<(), Stop>
     ensures ok { OnOk result ((before : Option (List ℕ)) (lines : List (List ℕ)) (rest : List (List ℕ)) →
         HasWritten before (K.held report.old) (string_bytes text.old) lines (row_text key.now attrs.now ∷ rest) →
         HasWritten before (K.held report.new) (string_bytes text.new) lines rest) }
@@ -101,7 +113,7 @@ fn put_row<K: Sink>(key: &Key, attrs: &Attrs, text: &mut String, report: &mut K)
     ensures no_read { IsErrOf result Stop.Read → ⊥ }
     ensures faults { K.faults report.old ≤ K.faults report.new }
 {
-    match write_row(text, key, attrs) {
+    match writer.write_row(text, key, attrs) {
         Ok(()) => {}
         Err(NoMemory) => return Err(Stop::NoMemory),
     }

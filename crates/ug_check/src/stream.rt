@@ -31,6 +31,8 @@ pub fn read_stream<E: Source>(
     ensures no_report { IsErrOf result Stop.Report → ⊥ }
     ensures faults { E.faults source.old ≤ E.faults source.new }
     ensures files { E.files source.new ≡ E.files source.old }
+    ensures is_picked { E.is_picked source.new ≡ E.is_picked source.old }
+    ensures made { E.made source.new ≡ E.made source.old }
     ensures wire_faults { E.wire_faults source.new ≡ E.wire_faults source.old }
 {
     let mut buffer = match vec![in alloc; 0u8; PIECE] {

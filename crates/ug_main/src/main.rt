@@ -1,26 +1,33 @@
 //! The program: a run over the files of the system.
 #![tactic(auto)]
 
-ghost use Rattle.std.specs.Prelude.{◌≡◌, ◌<◌, ◌↔◌, IfErr, true, false, map};
+ghost use Rattle.std.specs.Prelude.{◌≡◌, ◌<◌, ◌↔◌, IfErr, true, false, map, length, List, [], ◌∷◌, Some};
 ghost use Rattle.std.specs.String.{string_bytes};
-ghost use Rattle.ug_edge.specs.Told.{Rose};
-ghost use Rattle.ug_run.specs.Words.{is_command};
-ghost use Rattle.ug_run.specs.Statuses.{is_fixed};
+ghost use Rattle.ug_edge.specs.Told.{Rose, IsEnded, file_told, Missing};
+ghost use Rattle.ug_rib.specs.One.{configured_world, up_p1};
+ghost use Rattle.ug_run.specs.Words.{OneCommand, CheckCommand, One, Check, command_of, is_command};
+ghost use Rattle.ug_run.specs.Statuses.{is_fixed, is_complete, ends_unread, status_text};
+ghost use Rattle.ug_run.specs.Checked.{IsChecked};
+ghost use Rattle.ug_run.specs.Promise.{AppendsThenStatus, IsPromised, HasMade, WireTold};
 
 use std::alloc::Global;
-use std::env;
 use std::io::{self, ErrorKind, Write};
 use std::marker::Brand;
 use std::process::ExitCode;
+use std::rt::Files;
 use std::sync::Wait;
 use std::sync::ledger::{Blank, Ledger};
 use std::thread::Threads;
+use std::{env, fs};
 use ug_edge::{HostSite, Sink, Site, StdoutSink};
 use ug_run::{Status, serve};
 use ug_types::Steps;
 
 /// Runs the command that the arguments are, and ends with the number of its status.
 fn main(rt: HostRuntime) -> ExitCode {
+    let Ok(_held) = hold_standard_streams(&rt) else {
+        return ExitCode::from(refuse(&rt, Status::ReadFault).number());
+    };
     let status = match words(&rt) {
         Ok(words) => {
             let mut site = HostSite::new(rt, rt.alloc());
@@ -37,6 +44,25 @@ fn main(rt: HostRuntime) -> ExitCode {
         Err(status) => refuse(&rt, status),
     };
     ExitCode::from(status.number())
+}
+
+/// Three files that stand where standard streams were closed, or behind the streams.
+#[derive(Drop)]
+struct Held<F> {
+    _first: F,
+    _second: F,
+    _third: F,
+}
+
+/// Opens three files, which get the lowest descriptors that are free. While they are held no other file can stand at
+/// that of a standard stream, and get what is meant for the report. The root folder can be opened everywhere, and takes
+/// no bytes.
+fn hold_standard_streams<R: Files>(rt: &R) -> io::Result<Held<R::File>> {
+    Ok(Held {
+        _first: fs::open(rt, "/")?,
+        _second: fs::open(rt, "/")?,
+        _third: fs::open(rt, "/")?,
+    })
 }
 
 /// The arguments after the program's own name. Ones that are no text are no command.
@@ -64,7 +90,7 @@ fn words(rt: &HostRuntime) -> Result<Vec<String>, Status>
     Ok(words)
 }
 
-/// A run, with a counter of its own.
+/// A run, with a counter of its own. Its status is that of `serve`, with all that holds of a run that ends so.
 fn run<L: Ledger, R: Threads + Wait + Sync, E: Site, K: Sink>(
     rt: &R,
     alloc: Global,
@@ -76,6 +102,20 @@ fn run<L: Ledger, R: Threads + Wait + Sync, E: Site, K: Sink>(
     requires name { blank.name ≡ L.name }
     requires parts { blank.parts ≡ L.parts }
     requires some { 0 < blank.parts }
+    ensures promise { (command : OneCommand) → command_of (map string_bytes words.now) ≡ Some (One command) →
+        ((wires : List WireTold) × IsPromised configured_world (up_p1 ∷ []) (file_told (E.files site.old) command.events) result wires
+        (E.is_picked site.new) (E.left site.new) (K.held report.old) (K.held report.new) (Rose (K.faults report.old) (K.faults report.new))
+        × HasMade (E.made site.old) (E.made site.new) command.dir configured_world (length wires)) }
+    ensures checked { (command : CheckCommand) → command_of (map string_bytes words.now) ≡ Some (Check command) →
+        IsChecked command (file_told (E.files site.old) command.stream) (E.is_picked site.new) (E.left site.new) result (K.held report.old) (K.held report.new) (Rose (K.faults report.old) (K.faults report.new)) }
+    ensures check_missing { (command : CheckCommand) → command_of (map string_bytes words.now) ≡ Some (Check command) →
+        file_told (E.files site.old) command.stream ≡ Missing → ends_unread result ≡ true }
+    ensures check_unmade { (command : CheckCommand) → command_of (map string_bytes words.now) ≡ Some (Check command) → E.made site.new ≡ E.made site.old }
+    ensures no_command { is_command (map string_bytes words.now) ≡ false →
+        AppendsThenStatus (K.held report.old) (K.held report.new) (Rose (K.faults report.old) (K.faults report.new)) [] (status_text Status.Usage) }
+    ensures unmade { is_command (map string_bytes words.now) ≡ false → E.made site.new ≡ E.made site.old }
+    ensures unread { is_command (map string_bytes words.now) ≡ false → E.left site.new ≡ E.left site.old }
+    ensures ended { is_complete result ≡ true → IsEnded (E.left site.new) }
     ensures usage { (result ≡ Status.Usage) ↔ (is_command (map string_bytes words.now) ≡ false) }
     ensures read { result ≡ Status.ReadFault → Rose (E.faults site.old) (E.faults site.new) }
     ensures report { result ≡ Status.ReportFault → Rose (K.faults report.old) (K.faults report.new) }

@@ -14,7 +14,7 @@ use Rattle.ug_message.specs.Streams.{IsSentForm, IsUpdate, says_nothing}
 use Rattle.ug_tables.specs.Tables.{tables_after, table_of}
 use Rattle.ug_tables.specs.Climbing.{NeverBack, Follows}
 use Rattle.ug_tables.specs.ClimbingLaws.{NeverBack-from}
-use Rattle.ug_edge.specs.Told.{AppendsPiece, TakesFront, IsEnded, IsFresh, HasPicked, FileText}
+use Rattle.ug_edge.specs.Told.{AppendsPiece, TakesFront, IsEnded, IsFresh, HasPicked, FileText, FileTold, Untold, Missing, Bytes, file_told, missing_or_bytes, WiresMade, MakesWire, AppendsNames}
 use Rattle.ug_event.specs.Bytes.{same_bytes}
 use Rattle.ug_run.specs.Lines.{ended_from, rest_from, most_bytes, most_lines, lines_read}
 use Rattle.ug_rib.specs.World.{World, PeerState, with_up, verdict}
@@ -29,8 +29,8 @@ use Rattle.ug_run.specs.Report.{Loss, line_texts, loss_text, counts_text, losses
 use Rattle.ug_pieces.specs.Reporting.{AppendsFront}
 use Rattle.ug_run.specs.Limits.{IsPastLimits}
 use Rattle.ug_run.specs.Intake.{lines_text, IsRun, IsReading, IsReportedUntil, HasReadAll, HasStopped}
-use Rattle.ug_run.specs.Statuses.{status_text, status_of, is_complete, is_read_fault, made_wires}
-use Rattle.ug_run.specs.Promise.{ends_of_rib, IsPrivate, HaveEndOfRib, AreOpened, IsPartOf, file_told, is_empty, lines_counted, WireTold, Content, EachFrom, EachSession, HaveSessions, HaveMessages, AreNeverBack, HaveEnd, HaveLosses, has_rest, times_up, name_of, is_lost, AppendsThenStatus, HasReport, IsFirstLoss, IsLimited, IsPromised}
+use Rattle.ug_run.specs.Statuses.{status_text, status_of, is_complete, is_read_fault, made_wires, ends_unread}
+use Rattle.ug_run.specs.Promise.{ends_of_rib, IsPrivate, HaveEndOfRib, AreOpened, IsPartOf, AgreesWithSite, AreUnharmed, HasMade, is_empty, lines_counted, WireTold, Content, EachFrom, EachSession, HaveSessions, HaveMessages, AreNeverBack, HaveEnd, HaveLosses, has_rest, times_up, name_of, is_lost, AppendsThenStatus, HasReport, IsFirstLoss, IsLimited, IsPromised}
 use Rattle.ug_run.specs.Ending.{lost_text, losses_where, IsConcluded, IsOutcome, IsUnbegun, IsUnmade}
 use Rattle.ug_run.specs.declared.status.Status.{Status}
 use Rattle.ug_run.specs.declared.status.Status.TheVariants as statuses
@@ -245,17 +245,35 @@ part_read None name None now read picked taken = tt
 part_read None name (Some left) now read picked taken = absurd picked
 part_read (Some files) name None now read picked taken = absurd picked
 part_read (Some files) name (Some left) None read picked taken = absurd taken
-part_read (Some files) name (Some left) (Some now) read picked taken = subst (λ (file : Option (List ℕ)). IsPartOf file read now) (sym picked) taken
+part_read (Some files) name (Some left) (Some now) read picked taken = subst (λ (file : Option (List ℕ)). IsPartOf (missing_or_bytes file) read now) (sym picked) taken
 
 pub no_rest : (now : Option (List ℕ)) → IsEnded now → rest_of now ≡ []
 unfolding rest_of
 no_rest None h = refl
 no_rest (Some left) h = h
 
-part_unread : (file : Option (List ℕ)) → IsPartOf file [] (rest_of file)
+-- a picked file is there
+pub not_missing : (files : Option (List FileText)) (name : List ℕ) (left : Option (List ℕ)) → HasPicked files name left → file_told files name ≡ Missing → ⊥
+not_missing None name left picked e = cc
+not_missing (Some files) name None picked e = absurd picked
+not_missing (Some files) name (Some left) picked e = let bytes : Bytes left ≡ Missing = ap missing_or_bytes (sym picked) ∙ e in cc
+
+-- what is left to read is the rest
+pub agrees_read : (is_picked : Bool) (now : Option (List ℕ)) (read : List ℕ) → is_picked ≡ true → AgreesWithSite is_picked now read (rest_of now)
 unfolding rest_of
-part_unread None = tt
-part_unread (Some bytes) = refl
+agrees_read is_picked None read now_picked = rw now_picked tt
+agrees_read is_picked (Some left) read now_picked = rw now_picked refl
+
+unread_of : FileTold → List ℕ
+unread_of Untold = []
+unread_of Missing = []
+unread_of (Bytes bytes) = bytes
+
+part_unread : (file : FileTold) → IsPartOf file [] (unread_of file)
+unfolding unread_of
+part_unread Untold = tt
+part_unread Missing = (refl, refl)
+part_unread (Bytes bytes) = refl
 
 no_lines : (whole : Bool) → lines_read whole [] ≡ []
 unfolding ended_from rest_from most_lines most_bytes
@@ -296,10 +314,10 @@ not_complete stops.TooLong e = cc
 not_complete stops.NoMemory e = cc
 not_complete stops.Report e = cc
 
-pub promised_stopped : (stop : Stop) (files : Option (List FileText)) (name : List ℕ) (before left now mid held : Option (List ℕ)) (sessions : Option (List (List ℕ))) (faults : ℕ) (lost : Bool) (failed : Type 0)
-    → HasPicked files name left → (lost ≡ true → 1 ≤ faults) → HasStopped stop before left now sessions lost mid → AppendsThenStatus mid held failed [] (status_text (status_of stop))
-    → IsPromised configured_world (up_p1 ∷ []) (file_told files name) (status_of stop) (record { sessions = sessions; faults = faults } ∷ []) before held failed
-promised_stopped stop files name before left now mid held sessions faults lost failed picked blamed h status =
+pub promised_stopped : (stop : Stop) (files : Option (List FileText)) (name : List ℕ) (before left now mid held : Option (List ℕ)) (sessions : Option (List (List ℕ))) (faults : ℕ) (lost : Bool) (is_picked : Bool) (failed : Type 0)
+    → HasPicked files name left → is_picked ≡ true → (lost ≡ true → 1 ≤ faults) → HasStopped stop before left now sessions lost mid → AppendsThenStatus mid held failed [] (status_text (status_of stop))
+    → IsPromised configured_world (up_p1 ∷ []) (file_told files name) (status_of stop) (record { sessions = sessions; faults = faults } ∷ []) is_picked now before held failed
+promised_stopped stop files name before left now mid held sessions faults lost is_picked failed picked now_picked blamed h status =
     let counted = lines_counted (status_of stop) h.read (rest_of now) in
     let t = taken_lines stop before left now mid sessions lost h in
     let k = h.kept in
@@ -309,7 +327,10 @@ promised_stopped stop files name before left now mid held sessions faults lost f
       read = h.read;
       rest = rest_of now;
       is_part = part_read files name left now h.read picked h.taken;
+      missing = λ e. absurd (not_missing files name left picked e);
+      agrees = λ made. agrees_read is_picked now h.read now_picked;
       whole = λ complete. absurd (not_complete stop complete);
+      unharmed = λ ok. absurd (not_complete stop (ap is_complete ok));
       limits = limited stop h.read h.past h.not_past;
       lost = losses_where lost;
       contents = (wire.content ∷ []) ∷ [];
@@ -410,10 +431,16 @@ within_limits_of statuses.TooLong lost accepted refused mid last done read h wit
 within_limits_of (statuses.Malformed cause offset) lost accepted refused mid last done read h within = absurd h
 within_limits_of (statuses.Lost peer session) lost accepted refused mid last done read h within = within
 
-pub promised_read : (status : Status) (files : Option (List FileText)) (name : List ℕ) (before left now mid last held : Option (List ℕ)) (sessions : Option (List (List ℕ))) (faults : ℕ) (lost : Bool) (origins : IpPrefix → Option ℕ) (c a r : ℕ) (done failed : Type 0)
-    → HasPicked files name left → (lost ≡ true → 1 ≤ faults) → HasReadAll before left now sessions lost origins c a r mid → IsConcluded status lost a r mid last done → AppendsThenStatus last held failed [] (status_text status)
-    → IsPromised configured_world (up_p1 ∷ []) (file_told files name) status (record { sessions = sessions; faults = faults } ∷ []) before held failed
-promised_read status files name before left now mid last held sessions faults lost origins c a r done failed picked blamed h concluded status_line =
+unlost : (status : Status) (lost : Bool) (a r : ℕ) (mid last : Option (List ℕ)) (done : Type 0) → status ≡ statuses.Ok → IsConcluded status lost a r mid last done → lost ≡ false
+unlost status lost a r mid last done ok h = (subst (λ (s : Status). IsConcluded s lost a r mid last done) ok h).0
+
+unharmed_of : (sessions : Option (List (List ℕ))) (faults p : ℕ) (wire : WireTold) → faults ≡ 0 → slice_get (told sessions faults ∷ []) p ≡ Some wire → wire.faults ≡ 0
+unharmed_of sessions faults p wire none at = ap (λ (w : WireTold). w.faults) (sym (at_place (told sessions faults) wire p at).1) ∙ none
+
+pub promised_read : (status : Status) (files : Option (List FileText)) (name : List ℕ) (before left now mid last held : Option (List ℕ)) (sessions : Option (List (List ℕ))) (faults : ℕ) (lost : Bool) (origins : IpPrefix → Option ℕ) (c a r : ℕ) (is_picked : Bool) (done failed : Type 0)
+    → HasPicked files name left → is_picked ≡ true → (lost ≡ true → 1 ≤ faults) → (lost ≡ false → faults ≡ 0) → HasReadAll before left now sessions lost origins c a r mid → IsConcluded status lost a r mid last done → AppendsThenStatus last held failed [] (status_text status)
+    → IsPromised configured_world (up_p1 ∷ []) (file_told files name) status (record { sessions = sessions; faults = faults } ∷ []) is_picked now before held failed
+promised_read status files name before left now mid last held sessions faults lost origins c a r is_picked done failed picked now_picked blamed clean h concluded status_line =
     let counted = lines_counted status h.read (rest_of now) in
     let whole : counted ≡ map line_of (lines_read true h.read) =
     ap (λ (bs : List ℕ). map line_of (lines_read (is_empty bs && not (is_read_fault status)) h.read)) (no_rest now h.ended) ∙ ap (λ (f : Bool). map line_of (lines_read (true && not f) h.read)) (all_read status lost a r mid last done concluded) in
@@ -425,7 +452,10 @@ promised_read status files name before left now mid last held sessions faults lo
       read = h.read;
       rest = rest_of now;
       is_part = part_read files name left now h.read picked h.taken;
+      missing = λ e. absurd (not_missing files name left picked e);
+      agrees = λ made. agrees_read is_picked now h.read now_picked;
       whole = λ complete. no_rest now h.ended;
+      unharmed = λ ok p wire at. unharmed_of sessions faults p wire (clean (unlost status lost a r mid last done ok concluded)) at;
       limits = within_limits_of status lost a r mid last done h.read concluded h.within;
       lost = losses_where lost;
       contents = (wire.content ∷ []) ∷ [];
@@ -472,6 +502,17 @@ not_complete_early statuses.TooLong h e = absurd h
 not_complete_early (statuses.Lost peer session) h e = absurd h
 not_complete_early (statuses.Malformed cause offset) h e = absurd h
 
+unread_early : (status : Status) → IsEarly status → ends_unread status ≡ true
+unread_early statuses.ReadFault h = refl
+unread_early statuses.SiteFault h = refl
+unread_early statuses.NoMemory h = refl
+unread_early statuses.Ok h = absurd h
+unread_early statuses.Usage h = absurd h
+unread_early statuses.ReportFault h = absurd h
+unread_early statuses.TooLong h = absurd h
+unread_early (statuses.Lost peer session) h = absurd h
+unread_early (statuses.Malformed cause offset) h = absurd h
+
 early_report : (status : Status) (before held : Option (List ℕ)) (failed : Type 0) (counted : List Line) → IsEarly status → counted ≡ [] → AppendsThenStatus before held failed [] (status_text status) → HasReport status opened counted [] before held failed
 early_report statuses.ReadFault before held failed counted early none h = rw none h
 early_report statuses.SiteFault before held failed counted early none h = h
@@ -517,17 +558,20 @@ early_limits statuses.TooLong early = absurd early
 early_limits (statuses.Lost peer session) early = absurd early
 early_limits (statuses.Malformed cause offset) early = absurd early
 
-pub promised_unbegun : (status : Status) (file : Option (List ℕ)) (before held : Option (List ℕ)) (sessions : Option (List (List ℕ))) (faults : ℕ) (failed : Type 0)
-    → IsUnbegun status → IsFresh sessions → AppendsThenStatus before held failed [] (status_text status)
-    → IsPromised configured_world (up_p1 ∷ []) file status (record { sessions = sessions; faults = faults } ∷ []) before held failed
-promised_unbegun status file before held sessions faults failed unbegun fresh h =
+pub promised_unbegun : (status : Status) (file : FileTold) (before held : Option (List ℕ)) (sessions : Option (List (List ℕ))) (faults : ℕ) (is_picked : Bool) (left : Option (List ℕ)) (failed : Type 0)
+    → is_picked ≡ false → IsUnbegun status → IsFresh sessions → AppendsThenStatus before held failed [] (status_text status)
+    → IsPromised configured_world (up_p1 ∷ []) file status (record { sessions = sessions; faults = faults } ∷ []) is_picked left before held failed
+promised_unbegun status file before held sessions faults is_picked left failed not_picked unbegun fresh h =
     let early : IsEarly status = elim unbegun [ inl e ↦ subst IsEarly (sym e) tt | inr e ↦ subst IsEarly (sym e) tt ] in
-    let counted = lines_counted status [] (rest_of file) in
+    let counted = lines_counted status [] (unread_of file) in
     record {
       read = [];
-      rest = rest_of file;
+      rest = unread_of file;
       is_part = part_unread file;
+      missing = λ e. unread_early status early;
+      agrees = λ made. rw not_picked refl;
       whole = λ complete. absurd (not_complete_early status early complete);
+      unharmed = λ ok. absurd (not_complete_early status early (ap is_complete ok));
       limits = early_limits status early;
       lost = [];
       contents = [] ∷ [];
@@ -538,7 +582,7 @@ promised_unbegun status file before held sessions faults failed unbegun fresh h 
       opened = ((λ complete. absurd (not_complete_early status early complete)), tt);
       end = ((λ complete. absurd (not_complete_early status early complete)), tt);
       losses = ((λ complete. absurd (not_complete_early status early complete)), tt);
-      report = early_report status before held failed counted early (counted_none status (rest_of file)) h;
+      report = early_report status before held failed counted early (counted_none status (unread_of file)) h;
       first_loss = early_loss status early;
     }
 
@@ -546,16 +590,19 @@ not_made : (status : Status) → IsUnmade status → made_wires status ≡ true 
 not_made status (inl e) made = let m : made_wires statuses.SiteFault ≡ true = ap made_wires (sym e) ∙ made in cc
 not_made status (inr e) made = let m : made_wires statuses.NoMemory ≡ true = ap made_wires (sym e) ∙ made in cc
 
-pub promised_unmade : (status : Status) (file : Option (List ℕ)) (before held : Option (List ℕ)) (failed : Type 0) (wires : List WireTold)
-    → wires ≡ [] → IsUnmade status → AppendsThenStatus before held failed [] (status_text status) → IsPromised configured_world (up_p1 ∷ []) file status wires before held failed
-promised_unmade status file before held failed wires none unmade h =
+pub promised_unmade : (status : Status) (file : FileTold) (before held : Option (List ℕ)) (is_picked : Bool) (left : Option (List ℕ)) (failed : Type 0) (wires : List WireTold)
+    → wires ≡ [] → IsUnmade status → AppendsThenStatus before held failed [] (status_text status) → IsPromised configured_world (up_p1 ∷ []) file status wires is_picked left before held failed
+promised_unmade status file before held is_picked left failed wires none unmade h =
     let early : IsEarly status = elim unmade [ inl e ↦ subst IsEarly (sym e) tt | inr e ↦ subst IsEarly (sym e) tt ] in
-    let counted = lines_counted status [] (rest_of file) in
+    let counted = lines_counted status [] (unread_of file) in
     rw none (record {
       read = [];
-      rest = rest_of file;
+      rest = unread_of file;
       is_part = part_unread file;
+      missing = λ e. unread_early status early;
+      agrees = λ made. absurd (not_made status unmade made);
       whole = λ complete. absurd (not_complete_early status early complete);
+      unharmed = λ ok. absurd (not_complete_early status early (ap is_complete ok));
       limits = early_limits status early;
       lost = [];
       contents = [];
@@ -566,7 +613,7 @@ promised_unmade status file before held failed wires none unmade h =
       opened = tt;
       end = tt;
       losses = tt;
-      report = early_report status before held failed counted early (counted_none status (rest_of file)) h;
+      report = early_report status before held failed counted early (counted_none status (unread_of file)) h;
       first_loss = early_loss status early;
     })
 
@@ -596,15 +643,26 @@ outcome_ended status before left now sessions lost held failed (inl h) complete 
 outcome_ended status before left now sessions lost held failed (inr h) complete = h.read.ended
 
 -- the promise, of what a run came to and its status line
-pub promised : (status : Status) (files : Option (List FileText)) (name : List ℕ) (before left now last held : Option (List ℕ)) (sessions : Option (List (List ℕ))) (faults : ℕ) (lost : Bool) (done failed : Type 0)
-    → HasPicked files name left → (lost ≡ true → 1 ≤ faults) → IsOutcome status before left now sessions lost last done → AppendsThenStatus last held failed [] (status_text status)
-    → IsPromised configured_world (up_p1 ∷ []) (file_told files name) status (record { sessions = sessions; faults = faults } ∷ []) before held failed
-promised status files name before left now last held sessions faults lost done failed picked blamed (inl h) line =
-    subst (λ (s : Status). IsPromised configured_world (up_p1 ∷ []) (file_told files name) s (record { sessions = sessions; faults = faults } ∷ []) before held failed) (sym h.is)
-    (promised_stopped h.stop files name before left now last held sessions faults lost failed picked blamed h.stopped (subst (λ (s : Status). AppendsThenStatus last held failed [] (status_text s)) h.is line))
-promised status files name before left now last held sessions faults lost done failed picked blamed (inr h) line =
-    promised_read status files name before left now h.mid last held sessions faults lost h.origins h.count h.accepted h.refused done failed picked blamed h.read h.concluded line
+pub promised : (status : Status) (files : Option (List FileText)) (name : List ℕ) (before left now last held : Option (List ℕ)) (sessions : Option (List (List ℕ))) (faults : ℕ) (lost : Bool) (is_picked : Bool) (done failed : Type 0)
+    → HasPicked files name left → is_picked ≡ true → (lost ≡ true → 1 ≤ faults) → (lost ≡ false → faults ≡ 0) → IsOutcome status before left now sessions lost last done → AppendsThenStatus last held failed [] (status_text status)
+    → IsPromised configured_world (up_p1 ∷ []) (file_told files name) status (record { sessions = sessions; faults = faults } ∷ []) is_picked now before held failed
+promised status files name before left now last held sessions faults lost is_picked done failed picked now_picked blamed clean (inl h) line =
+    subst (λ (s : Status). IsPromised configured_world (up_p1 ∷ []) (file_told files name) s (record { sessions = sessions; faults = faults } ∷ []) is_picked now before held failed) (sym h.is)
+    (promised_stopped h.stop files name before left now last held sessions faults lost is_picked failed picked now_picked blamed h.stopped (subst (λ (s : Status). AppendsThenStatus last held failed [] (status_text s)) h.is line))
+promised status files name before left now last held sessions faults lost is_picked done failed picked now_picked blamed clean (inr h) line =
+    promised_read status files name before left now h.mid last held sessions faults lost h.origins h.count h.accepted h.refused is_picked done failed picked now_picked blamed clean h.read h.concluded line
 
 -- a fault within a part of a run is one of the run
 pub later_status : (before held : Option (List ℕ)) (F G : Type 0) (text line : List ℕ) → (F → G) → AppendsThenStatus before held F text line → AppendsThenStatus before held G text line
 later_status before held F G text line f h = (h.0, h.1, h.2, h.3, elim h.4 [ inl e ↦ inl e | inr failed ↦ inr (f failed) ])
+
+-- the wires that were made are p1's, or none
+pub made_one : (old new : WiresMade) (dir : List ℕ) (wires : ℕ) → wires ≡ 1 → MakesWire old new dir (codes "p1") → HasMade old new dir configured_world wires
+made_one old new dir wires one h = rw one (record { counted = h.counted; named = h.named })
+
+appends_no_name : (names : Option (List _)) → AppendsNames names names []
+appends_no_name None = tt
+appends_no_name (Some names) = sym (append-nil names)
+
+pub made_none : (old new : WiresMade) (dir : List ℕ) (wires : ℕ) → wires ≡ 0 → new ≡ old → HasMade old new dir configured_world wires
+made_none old new dir wires none same = rw (none, same) (record { counted = omega arith; named = appends_no_name old.names })

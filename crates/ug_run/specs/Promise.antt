@@ -6,7 +6,7 @@ use Rattle.ug_types.specs.Messages.{Message}
 use Rattle.ug_message.specs.Streams.{IsSentForm, IsUpdate, says_nothing}
 use Rattle.ug_tables.specs.Tables.{Table, tables_after, table_of}
 use Rattle.ug_tables.specs.Climbing.{NeverBack}
-use Rattle.ug_edge.specs.Told.{AppendsPiece, FileText, file_named}
+use Rattle.ug_edge.specs.Told.{AppendsPiece, FileTold, Untold, Missing, Bytes, WiresMade, AppendsNames}
 use Rattle.ug_event.specs.Bytes.{same_bytes}
 use Rattle.ug_run.specs.Lines.{lines_read}
 use Rattle.ug_rib.specs.World.{PeerState, World}
@@ -17,21 +17,25 @@ use Rattle.ug_event.specs.Grammar.{line_of}
 use Rattle.ug_run.specs.Report.{Loss, line_texts, losses_status, completed_text, report_text}
 use Rattle.ug_pieces.specs.Reporting.{AppendsFront}
 use Rattle.ug_run.specs.Limits.{IsPastLimits}
-use Rattle.ug_run.specs.Statuses.{is_read_fault, is_complete, made_wires, status_text}
+use Rattle.ug_run.specs.Statuses.{is_read_fault, is_complete, made_wires, ends_unread, status_text}
 use Rattle.ug_run.specs.declared.status.Status.{Status}
 use Rattle.ug_run.specs.declared.status.Status.TheVariants as statuses
 
 -- ---- the lines that count
 
--- The bytes of the events' file are those that were read and then the rest; nothing is said where the files are not
--- told, and nothing was read where there is no such file.
-abbrev pub IsPartOf : Option (List ℕ) → List ℕ → List ℕ → Type 0
-IsPartOf None read rest = Unit {0}
-IsPartOf (Some bytes) read rest = bytes ≡ read ++ rest
+-- The bytes of the file are those that were read and then the rest; nothing is said where the files are not told, and
+-- nothing was read where there is no such file.
+abbrev pub IsPartOf : FileTold → List ℕ → List ℕ → Type 0
+IsPartOf Untold read rest = Unit {0}
+IsPartOf Missing read rest = (read ≡ []) × (rest ≡ [])
+IsPartOf (Bytes bytes) read rest = bytes ≡ read ++ rest
 
-abbrev pub file_told : Option (List FileText) → List ℕ → Option (List ℕ)
-file_told None name = None
-file_told (Some files) name = file_named name files
+-- What was read and the rest agree with the site: where a file is picked the rest is what the site has left to read,
+-- and where none is nothing was read.
+abbrev pub AgreesWithSite : Bool → Option (List ℕ) → List ℕ → List ℕ → Type 0
+AgreesWithSite false left read rest = read ≡ []
+AgreesWithSite true None read rest = Unit {0}
+AgreesWithSite true (Some left) read rest = rest ≡ left
 
 abbrev pub is_empty : List ℕ → Bool
 is_empty [] = true
@@ -168,6 +172,15 @@ HaveLosses status w lost p wire contents =
     → EachSession (λ n bytes c. has_rest c ≡ true → is_lost (name_of (slice_get w.peers p)) n lost ≡ true) wire.sessions contents
     × (length (losses_of (name_of (slice_get w.peers p)) lost) ≤ wire.faults)
 
+-- `unharmed`: at `Ok` no call of a wire failed.
+abbrev pub AreUnharmed : Status → List WireTold → Type 0
+AreUnharmed status wires = status ≡ statuses.Ok → (p : ℕ) (wire : WireTold) → slice_get wires p ≡ Some wire → wire.faults ≡ 0
+
+-- The site made just these wires, where told for that folder, and for the first of the configured peers in their order.
+pub record HasMade (old new : WiresMade) (dir : List ℕ) (w : World) (wires : ℕ) : Type 0 where
+  pub counted : new.count ≡ old.count + wires
+  pub named : AppendsNames old.names new.names (map (λ (s : PeerState). record { dir = dir; peer = s.peer.name }) (take wires w.peers))
+
 -- The report got this text and then the status line, which may be missing or cut short where the report failed.
 abbrev pub AppendsThenStatus : Option (List ℕ) → Option (List ℕ) → Type 0 → List ℕ → List ℕ → Type 0
 AppendsThenStatus before held failed text line =
@@ -215,16 +228,19 @@ IsLimited (statuses.Malformed cause offset) read = Unit {0}
 -- ---- the whole
 
 -- What a run over a configured world promises, in which these lines come before the first of the file. `file` is
--- the events' file, where it is told and there.
-pub record IsPromised (configured : World) (opening : List Line) (file : Option (List ℕ)) (status : Status) (wires : List WireTold)
-    (before held : Option (List ℕ)) (failed : Type 0) : Type 0 where
+-- what is told of the events' file, `is_picked` and `left` whether the site reads from it and what is left of it.
+pub record IsPromised (configured : World) (opening : List Line) (file : FileTold) (status : Status) (wires : List WireTold)
+    (is_picked : Bool) (left : Option (List ℕ)) (before held : Option (List ℕ)) (failed : Type 0) : Type 0 where
   pub read : List ℕ
   pub rest : List ℕ
   pub is_part : IsPartOf file read rest
+  pub missing : file ≡ Missing → ends_unread status ≡ true
+  pub agrees : made_wires status ≡ true → AgreesWithSite is_picked left read rest
   pub whole : is_complete status ≡ true → rest ≡ []
   pub limits : IsLimited status read
   pub lost : List Loss
   pub contents : List (List Content)
+  pub unharmed : AreUnharmed status wires
   pub sessions : HaveSessions status (last_world configured (opening ++ lines_counted status read rest)) wires
   pub messages : EachWire (HaveMessages configured) wires contents
   pub never_back : EachWire (AreNeverBack (worlds configured (opening ++ lines_counted status read rest))) wires contents

@@ -86,3 +86,15 @@ made_wires statuses.NoMemory = false
 made_wires statuses.TooLong = true
 made_wires (statuses.Lost peer session) = true
 made_wires (statuses.Malformed cause offset) = false
+
+-- whether a run that could read nothing may end so
+abbrev pub ends_unread : Status → Bool
+ends_unread statuses.Ok = false
+ends_unread statuses.Usage = false
+ends_unread statuses.ReadFault = true
+ends_unread statuses.ReportFault = false
+ends_unread statuses.SiteFault = true
+ends_unread statuses.NoMemory = true
+ends_unread statuses.TooLong = false
+ends_unread (statuses.Lost peer session) = false
+ends_unread (statuses.Malformed cause offset) = false

@@ -1,10 +1,10 @@
 //! The command `check`.
 
 ghost use Rattle.std.specs.Prelude.{◌≡◌, ◌≤◌, ◌⊎◌, [], true};
-ghost use Rattle.ug_edge.specs.Told.{Rose, IsEnded};
+ghost use Rattle.ug_edge.specs.Told.{Rose, IsEnded, file_told, Missing};
 ghost use Rattle.ug_run.specs.WordViews.{check_seen};
-ghost use Rattle.ug_run.specs.Statuses.{status_text, is_complete};
-ghost use Rattle.ug_run.specs.Promise.{AppendsThenStatus, file_told};
+ghost use Rattle.ug_run.specs.Statuses.{status_text, is_complete, ends_unread};
+ghost use Rattle.ug_run.specs.Promise.{AppendsThenStatus};
 ghost use Rattle.ug_run.specs.Checked.{IsChecked};
 
 use crate::frame::{end, pick};
@@ -23,11 +23,13 @@ pub fn check<E: Site, K: Sink>(
     site: &mut E,
     report: &mut K,
 ) -> Status
-    ensures checked { IsChecked (check_seen words.now) (file_told (E.files site.old) words.now.stream.now) result (K.held report.old) (K.held report.new) (Rose (K.faults report.old) (K.faults report.new)) }
+    ensures checked { IsChecked (check_seen words.now) (file_told (E.files site.old) words.now.stream.now) (E.is_picked site.new) (E.left site.new) result (K.held report.old) (K.held report.new) (Rose (K.faults report.old) (K.faults report.new)) }
     ensures usage { result ≡ Status.Usage → ⊥ }
     ensures made { result ≡ Status.SiteFault → ⊥ }
     ensures read { result ≡ Status.ReadFault → Rose (E.faults site.old) (E.faults site.new) }
     ensures report { result ≡ Status.ReportFault → Rose (K.faults report.old) (K.faults report.new) }
+    ensures missing { file_told (E.files site.old) words.now.stream.now ≡ Missing → ends_unread result ≡ true }
+    ensures unmade { E.made site.new ≡ E.made site.old }
     ensures ended { is_complete result ≡ true → IsEnded (E.left site.new) }
 {
     match pick(words.stream, site) {

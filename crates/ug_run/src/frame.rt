@@ -1,7 +1,7 @@
 //! What frames each command: the file that it reads, and its status line.
 
-ghost use Rattle.std.specs.Prelude.{◌≡◌, ◌≤◌, [], OnOk, IfErr, IsErrOf, true};
-ghost use Rattle.ug_edge.specs.Told.{Rose, HasPicked};
+ghost use Rattle.std.specs.Prelude.{◌≡◌, ◌≤◌, [], OnOk, OnErr, IfErr, IsErrOf, true, false};
+ghost use Rattle.ug_edge.specs.Told.{Rose, HasPicked, file_told, Missing};
 ghost use Rattle.ug_run.specs.Statuses.{status_text, is_fixed};
 ghost use Rattle.ug_run.specs.Promise.{AppendsThenStatus};
 ghost use Rattle.ug_run.specs.Ending.{IsUnbegun};
@@ -11,13 +11,18 @@ use ug_edge::{Failed, Sink, Site, SiteFault};
 use ug_pieces::write_all;
 
 /// Picks a file.
+#[tactic(auto, using(crate::proofs::Ending::not_missing))]
 pub fn pick<E: Site>(name: &str, site: &mut E) -> Result<(), Status>
     ensures picked { OnOk result (HasPicked (E.files site.old) name.now (E.left site.new)) }
+    ensures there { OnOk result (file_told (E.files site.old) name.now ≡ Missing → ⊥) }
+    ensures is_picked { OnOk result (E.is_picked site.new ≡ true) }
+    ensures is_unpicked { OnErr result (E.is_picked site.new ≡ false) }
     ensures status { IfErr result IsUnbegun }
     ensures fixed { IfErr result (λ status. is_fixed status ≡ true) }
     ensures failed { IsErrOf result Status.ReadFault → Rose (E.faults site.old) (E.faults site.new) }
     ensures faults { E.faults site.old ≤ E.faults site.new }
     ensures files { E.files site.new ≡ E.files site.old }
+    ensures made { E.made site.new ≡ E.made site.old }
     ensures wire_faults { E.wire_faults site.new ≡ E.wire_faults site.old }
 {
     match site.pick(name) {

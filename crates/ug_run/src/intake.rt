@@ -204,6 +204,8 @@ impl<W: Wire> Intake<W> {
         ensures report_faults { K.faults report.old ≤ K.faults report.new }
         ensures site_faults { E.faults site.old ≤ E.faults site.new }
         ensures files { E.files site.new ≡ E.files site.old }
+        ensures is_picked { E.is_picked site.new ≡ E.is_picked site.old }
+        ensures made { E.made site.new ≡ E.made site.old }
         ensures wire_faults { E.wire_faults site.new ≡ E.wire_faults site.old }
     {
         let mut buffer = match vec![in self.run.alloc; 0u8; PIECE] {

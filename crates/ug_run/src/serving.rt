@@ -1,13 +1,13 @@
 //! The top call.
 
-ghost use Rattle.std.specs.Prelude.{◌≡◌, ◌+◌, ◌<◌, ◌≤◌, ◌++◌, [], ◌∷◌, List, ℕ, map, length, Some, None, Option, IfOk, IfErr, OnOk, OnErr, IsErrOf, true, false, ◌↔◌};
+ghost use Rattle.std.specs.Prelude.{◌≡◌, ◌+◌, ◌<◌, ◌≤◌, ◌++◌, [], ◌∷◌, List, ℕ, map, length, Some, None, Option, IfOk, IfErr, OnOk, OnErr, IsErrOf, true, false, codes, ◌↔◌};
 ghost use Rattle.std.specs.String.{string_bytes};
-ghost use Rattle.ug_edge.specs.Told.{Rose, HasPicked, IsEnded, IsFresh, AppendsPiece};
+ghost use Rattle.ug_edge.specs.Told.{Rose, HasPicked, IsEnded, IsFresh, AppendsPiece, MakesWire, file_told, Missing};
 ghost use Rattle.ug_run.specs.Words.{OneCommand, CheckCommand, One, Check, command_of, is_command};
 ghost use Rattle.ug_rib.specs.One.{configured_world, up_p1};
-ghost use Rattle.ug_run.specs.Statuses.{status_text, is_complete, is_fixed};
+ghost use Rattle.ug_run.specs.Statuses.{status_text, is_complete, is_fixed, ends_unread};
 ghost use Rattle.ug_run.specs.Checked.{IsChecked};
-ghost use Rattle.ug_run.specs.Promise.{AppendsThenStatus, IsPromised, file_told};
+ghost use Rattle.ug_run.specs.Promise.{AppendsThenStatus, IsPromised, HasMade};
 ghost use Rattle.ug_pieces.specs.Reporting.{AppendsFront};
 ghost use Rattle.ug_run.specs.Ending.{lost_text, IsOutcome, IsConcluded, IsUnbegun, IsUnmade};
 ghost use Rattle.ug_run.specs.Intake.{IsReading};
@@ -57,10 +57,17 @@ pub fn serve<R: Threads + Wait + Sync, E: Site, K: Sink, L: Ledger>(
 ) -> Done<E::Wire>
     ensures promise { (command : OneCommand) → command_of (map string_bytes words.now) ≡ Some (One command) →
         IsPromised configured_world (up_p1 ∷ []) (file_told (E.files site.old) command.events) result.status
-        (map (λ wire. record { sessions = E.Wire.sessions wire; faults = E.Wire.faults wire }) result.wires.items) (K.held report.old) (K.held report.new) (Rose (K.faults report.old) (K.faults report.new)) }
+        (map (λ wire. record { sessions = E.Wire.sessions wire; faults = E.Wire.faults wire }) result.wires.items) (E.is_picked site.new) (E.left site.new) (K.held report.old) (K.held report.new) (Rose (K.faults report.old) (K.faults report.new)) }
     ensures checked { (command : CheckCommand) → command_of (map string_bytes words.now) ≡ Some (Check command) →
-        IsChecked command (file_told (E.files site.old) command.stream) result.status (K.held report.old) (K.held report.new) (Rose (K.faults report.old) (K.faults report.new)) }
+        IsChecked command (file_told (E.files site.old) command.stream) (E.is_picked site.new) (E.left site.new) result.status (K.held report.old) (K.held report.new) (Rose (K.faults report.old) (K.faults report.new)) }
     ensures check_wires { (command : CheckCommand) → command_of (map string_bytes words.now) ≡ Some (Check command) → result.wires.items ≡ [] }
+    ensures check_missing { (command : CheckCommand) → command_of (map string_bytes words.now) ≡ Some (Check command) →
+        file_told (E.files site.old) command.stream ≡ Missing → ends_unread result.status ≡ true }
+    // The wires given back are all that were made, in the order of the peers that they are for.
+    ensures made { (command : OneCommand) → command_of (map string_bytes words.now) ≡ Some (One command) →
+        HasMade (E.made site.old) (E.made site.new) command.dir configured_world (length result.wires.items) }
+    ensures check_unmade { (command : CheckCommand) → command_of (map string_bytes words.now) ≡ Some (Check command) → E.made site.new ≡ E.made site.old }
+    ensures unmade { is_command (map string_bytes words.now) ≡ false → E.made site.new ≡ E.made site.old }
     // No wire is given back only where none was made, and then no file was picked.
     ensures given_back { (command : OneCommand) → command_of (map string_bytes words.now) ≡ Some (One command) → result.wires.items ≡ [] → E.left site.new ≡ E.left site.old }
     ensures usage { (result.status ≡ Status.Usage) ↔ (is_command (map string_bytes words.now) ≡ false) }
@@ -98,7 +105,8 @@ fn one<E: Site, K: Sink>(
     report: &mut K,
 ) -> Done<E::Wire>
     ensures promise { IsPromised configured_world (up_p1 ∷ []) (file_told (E.files site.old) events.now) result.status
-        (map (λ wire. record { sessions = E.Wire.sessions wire; faults = E.Wire.faults wire }) result.wires.items) (K.held report.old) (K.held report.new) (Rose (K.faults report.old) (K.faults report.new)) }
+        (map (λ wire. record { sessions = E.Wire.sessions wire; faults = E.Wire.faults wire }) result.wires.items) (E.is_picked site.new) (E.left site.new) (K.held report.old) (K.held report.new) (Rose (K.faults report.old) (K.faults report.new)) }
+    ensures made { HasMade (E.made site.old) (E.made site.new) dir.now configured_world (length result.wires.items) }
     ensures given_back { result.wires.items ≡ [] → E.left site.new ≡ E.left site.old }
     ensures usage { result.status ≡ Status.Usage → ⊥ }
     ensures read { result.status ≡ Status.ReadFault → Rose (E.faults site.old) (E.faults site.new) }
@@ -146,6 +154,8 @@ fn run<W: Wire, E: Source, K: Sink>(intake: &mut Intake<W>, site: &mut E, report
     ensures faults { K.faults report.old ≤ K.faults report.new }
     ensures site_faults { E.faults site.old ≤ E.faults site.new }
     ensures files { E.files site.new ≡ E.files site.old }
+    ensures is_picked { E.is_picked site.new ≡ E.is_picked site.old }
+    ensures wires_made { E.made site.new ≡ E.made site.old }
     ensures wire_faults { E.wire_faults site.new ≡ E.wire_faults site.old }
 {
     match intake.read_events(site, report) {
@@ -170,6 +180,8 @@ fn prepare<E: Site>(
     ensures fixed { IfErr result (λ status. is_fixed status ≡ true) }
     ensures failed { IsErrOf result Status.SiteFault → Rose (E.wire_faults site.old) (E.wire_faults site.new) }
     ensures wire_faults { E.wire_faults site.old ≤ E.wire_faults site.new }
+    ensures made { OnOk result (MakesWire (E.made site.old) (E.made site.new) dir.now (codes "p1")) }
+    ensures unmade { OnErr result (E.made site.new ≡ E.made site.old) }
     ensures left { E.left site.new ≡ E.left site.old }
     ensures faults { E.faults site.new ≡ E.faults site.old }
     ensures files { E.files site.new ≡ E.files site.old }

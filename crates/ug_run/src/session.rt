@@ -15,6 +15,7 @@ pub struct Session<W: Wire> {
     pub lost: bool,
     ghost begun: { 0 < W.begun wire },
     ghost blamed: { lost ≡ true → 1 ≤ W.faults wire },
+    ghost unharmed: { lost ≡ false → W.faults wire ≡ 0 },
 }
 
 impl<W: Wire> Session<W> {
@@ -22,6 +23,7 @@ impl<W: Wire> Session<W> {
     pub fn begin(wire: W) -> Session<W>
         requires begun { W.begun wire ≡ 0 }
         requires fresh { IsFresh (W.sessions wire) }
+        requires clean { W.faults wire ≡ 0 }
         ensures { HasSent (W.sessions result.wire) result.lost [] }
     {
         let mut wire = wire;
@@ -55,6 +57,7 @@ fn send_all<W: Wire>(wire: &mut W, message: &[u8]) -> Result<(), Failed>
     ensures ok { OnOk result (SendsPiece (W.sessions wire.old) (W.sessions wire.new) message.now) }
     ensures err { OnErr result (SendsFront (W.sessions wire.old) (W.sessions wire.new) message.now) }
     ensures failed { OnErr result (Rose (W.faults wire.old) (W.faults wire.new)) }
+    ensures unharmed { OnOk result (W.faults wire.new ≡ W.faults wire.old) }
     ensures faults { W.faults wire.old ≤ W.faults wire.new }
     ensures begun { W.begun wire.new ≡ W.begun wire.old }
 {

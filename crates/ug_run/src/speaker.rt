@@ -55,6 +55,7 @@ impl<W: Wire> Speaker<W> {
     pub fn open(alloc: Global, prepared: Prepared, wire: W) -> Speaker<W>
         requires begun { W.begun wire ≡ 0 }
         requires fresh { IsFresh (W.sessions wire) }
+        requires clean { W.faults wire ≡ 0 }
         ensures end_of_rib { result.session.lost ≡ false → HasSent (W.sessions result.session.wire) false (end_of_rib_message ∷ []) }
         ensures course { IsCourse [] (W.sessions result.session.wire) result.session.lost (origins_in ⟦<Prefix as Ord>⟧.cmp result.origins) }
     {

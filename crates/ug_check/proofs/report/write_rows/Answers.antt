@@ -8,6 +8,6 @@ use Rattle.ug_check.proofs.report.write_rows.Goals as goal
 
 pub returns-in-Err-clause-stopped : goal.returns-in-Err-clause-stopped
 returns-in-Err-clause-stopped g c = λ before lines rest h.
-    let is : c.loop-key.key-iterator ≡ (c.in-Some.key.now, c.in-Some.attrs.now) ∷ c.next.new.self = search rules in
+    let is : c.loop-key.key-iterator ≡ (c.in-Some.key, c.in-Some.attrs.now) ∷ c.next.new.self = search rules in
     c.in-Err.ensures.stopped before lines (row_texts c.next.new.self ++ rest)
     (subst (λ (es : List (Key × Attributes)). HasWritten before (g.K.Sink.held c.loop-key.report) (string_bytes c.loop-key.text) lines (row_texts es ++ rest)) is (c.loop-key.invariant.written before lines rest h))

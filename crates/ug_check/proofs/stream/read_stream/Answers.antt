@@ -16,6 +16,8 @@ loop-count-init g c = record {
   room = c.in-Ok.ensures.len;
   faults = omega arith;
   files = refl;
+  is_picked = refl;
+  made = refl;
   wire_faults = refl;
 }
 
@@ -75,5 +77,7 @@ loop-count-preserved g c =
       room = c.loop-count.invariant.room;
       faults = omega (arith, c.loop-count.invariant.faults, c.in-Ok-read.ensures.faults);
       files = c.in-Ok-read.ensures.files ∙ c.loop-count.invariant.files;
+      is_picked = c.in-Ok-read.ensures.is_picked ∙ c.loop-count.invariant.is_picked;
+      made = c.in-Ok-read.ensures.made ∙ c.loop-count.invariant.made;
       wire_faults = c.in-Ok-read.ensures.wire_faults ∙ c.loop-count.invariant.wire_faults;
     }

@@ -6,7 +6,7 @@ abbrev pub invariant-loop-at : goal.invariant-loop-at
 invariant-loop-at g l = record {
   within : l.at ≤ length l.message;
   sent : SendsPiece (g.W.Wire.sessions l.fn.wire) (g.W.Wire.sessions l.wire) (take l.at l.message);
-  faults : g.W.Wire.faults l.fn.wire ≤ g.W.Wire.faults l.wire;
+  faults : g.W.Wire.faults l.wire ≡ g.W.Wire.faults l.fn.wire;
   begun : g.W.Wire.begun l.wire ≡ g.W.Wire.begun l.fn.wire;
 }
 

@@ -13,6 +13,8 @@ loop-count-init g c = record {
   report_faults = omega arith;
   site_faults = omega arith;
   files = refl;
+  is_picked = refl;
+  made = refl;
   wire_faults = refl;
 }
 
@@ -77,5 +79,7 @@ loop-count-preserved g c = record {
   report_faults = omega (arith, c.loop-count.invariant.report_faults, c.in-Ok-feed.ensures.faults);
   site_faults = omega (arith, c.loop-count.invariant.site_faults, c.in-Ok-read.ensures.faults);
   files = c.in-Ok-read.ensures.files ∙ c.loop-count.invariant.files;
+  is_picked = c.in-Ok-read.ensures.is_picked ∙ c.loop-count.invariant.is_picked;
+  made = c.in-Ok-read.ensures.made ∙ c.loop-count.invariant.made;
   wire_faults = c.in-Ok-read.ensures.wire_faults ∙ c.loop-count.invariant.wire_faults;
 }

@@ -20,6 +20,8 @@ invariant-loop-count g l =
       report_faults : g.K.Sink.faults l.fn.report ≤ g.K.Sink.faults l.report;
       site_faults : g.E.Source.faults l.fn.site ≤ g.E.Source.faults l.site;
       files : g.E.Source.files l.site ≡ g.E.Source.files l.fn.site;
+      is_picked : g.E.Source.is_picked l.site ≡ g.E.Source.is_picked l.fn.site;
+      made : g.E.Source.made l.site ≡ g.E.Source.made l.fn.site;
       wire_faults : g.E.Source.wire_faults l.site ≡ g.E.Source.wire_faults l.fn.site;
     }
 

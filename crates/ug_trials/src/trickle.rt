@@ -32,6 +32,10 @@ impl Source for Trickle {
 
     ghost files = { λ t. ⟦<MemSite as Source>⟧.files t.site };
 
+    ghost is_picked = { λ t. ⟦<MemSite as Source>⟧.is_picked t.site };
+
+    ghost made = { λ t. ⟦<MemSite as Source>⟧.made t.site };
+
     ghost wire_faults = { λ t. ⟦<MemSite as Source>⟧.wire_faults t.site };
 
     fn read(&mut self, buf: &mut [u8]) -> Result<usize, Failed> {

@@ -3,8 +3,6 @@
 ghost use Rattle.std.specs.Prelude.{◌≡◌, ◌<◌};
 
 use super::*;
-use crate::slow::expected_stream;
-use crate::trickle::Trickle;
 use std::alloc::Global;
 use std::marker::Brand;
 use std::process::Abort;
@@ -14,6 +12,7 @@ use std::test::Fail;
 use std::thread::Threads;
 use ug_edge::{CallKind, Cut, FailAt, File, MemSink, MemSite, MemWire};
 use ug_event::{Event, Line, read_line};
+use ug_run::{Done, Status, WireList, serve};
 use ug_types::{ByteList, NoMemory, NumberList, Sequence, Steps};
 
 mod check;

@@ -4,4 +4,5 @@ mod stream;
 
 pub use stream::expected_stream;
 
+#[cfg(test)]
 mod tests;
