@@ -8,17 +8,19 @@ build:
 	cd crates/ug_main && rt run -- one data/events.txt ../../out/build
 	cp crates/ug_main/out/ug_main out/ug_main
 
-# Runs the first example, and shows the report and the bytes of the session.
-demo: build
-	mkdir -p out/first
-	out/ug_main one examples/first/events.txt out/first
+# Runs the first example by an unproved build of the same sources, which takes half a minute, and shows the report and
+# the bytes of the session.
+demo:
+	@echo "This build is not proved: make build proves the program, and make test all of the repository."
+	rm -rf out/first && mkdir -p out/first
+	cd crates/ug_main && rt try -- one data/events.txt "$(CURDIR)/out/first"
 	od -A d -t x1 out/first/p1.1
 
 # Proves and tests everything.
 test:
 	.ci/run
 
-# Measures runs over many prefixes, and checks of many routes.
+# Measures the program, proved.
 bench: build
 	bench/one.sh
 	bench/check.sh

@@ -3,6 +3,9 @@
 cd "$(dirname "$0")/.." || exit 1
 make build > /dev/null || { echo "0 passed, 1 failed"; exit 1; }
 program=$PWD/out/ug_main
+examples=$PWD/examples
+samples=$PWD/tests/samples
+readme=$PWD/README.md
 work=$(mktemp -d)
 trap 'rm -rf "$work"' EXIT
 cd "$work" || exit 1
@@ -13,25 +16,52 @@ printf 'paths 10.0.0.0/8 id=1 from=local nh=0.0.0.0 origin=igp as=-\n' > events
 passed=0
 failed=0
 
-# expect NAME STATUS REPORT BYTES WORDS..: BYTES is how many the session has, and - where there is no file.
-expect() {
-    local name=$1 status=$2 report=$3 bytes=$4
-    shift 4
-    rm -f there/*
-    local said errors code size=-
-    said=$("$program" "$@" 2> errors)
-    code=$?
-    errors=$(cat errors)
-    [ -f there/p1.1 ] && size=$(stat -c %s there/p1.1)
-    if [ "$code" = "$status" ] && [ "$said" = "$report" ] && [ "$size" = "$bytes" ] && [ -z "$errors" ]; then
+# note NAME RESULT..: counts a test that passed where the result is ok.
+note() {
+    if [ "$2" = ok ]; then
         passed=$((passed + 1))
     else
         failed=$((failed + 1))
-        echo "$name: status $code, report '$said', $size bytes, errors '$errors'"
+        echo "$*"
     fi
 }
 
+# run WORDS..: runs the program, and keeps its exit number, its report and what it says of errors.
+run() {
+    said=$("$program" "$@" 2> errors)
+    code=$?
+    errors=$(cat errors)
+}
+
+# ends NAME STATUS REPORT: whether the last run ended so.
+ends() {
+    if [ "$code" = "$2" ] && [ "$said" = "$3" ] && [ -z "$errors" ]; then
+        note "$1" ok
+    else
+        note "$1" "status $code, report '$said', errors '$errors'"
+    fi
+}
+
+# expect NAME STATUS REPORT BYTES WORDS..: BYTES is how many the session has, and - where there is no file.
+expect() {
+    local name=$1 status=$2 report=$3 bytes=$4 size=-
+    shift 4
+    rm -rf there/*
+    run "$@"
+    ends "$name" "$status" "$report"
+    [ -f there/p1.1 ] && size=$(stat -c %s there/p1.1)
+    [ "$size" = "$bytes" ] && note "$name" ok || note "$name" "$size bytes"
+}
+
+# same NAME FILE FILE: whether the files are equal.
+same() {
+    cmp -s "$2" "$3" && note "$1" ok || note "$1" "$2 and $3 differ"
+}
+
+# ---- what `one` reads and writes
+
 expect "one announcement" 0 "accepted 1 refused 0" 68 one events there
+cp there/p1.1 announced
 expect "an announcement and its withdrawal" 0 "accepted 2 refused 0" 93 one gone there
 expect "a withdrawal of no prefix" 0 $'line 3 refused 4 no-such-prefix\naccepted 2 refused 1' 93 one gone-twice there
 expect "no file of events" 3 "status 3 read" - one nothing there
@@ -41,6 +71,87 @@ expect "a file as the folder" 5 "status 5 site" - one events events
 expect "no words" 1 "status 1 usage" -
 expect "an unknown option" 1 "status 1 usage" - one --fast events there
 expect "words that are no text" 1 "status 1 usage" - one events $'\xff'
+
+head -c 2000000 /dev/zero | tr '\0' '\n' > lines
+expect "as many lines as are read" 0 "accepted 0 refused 0" 23 one lines there
+echo >> lines
+expect "a line too many" 7 "status 7 too-long" 23 one lines there
+
+run one "$examples/first/events.txt" there
+od -A d -t x1 there/p1.1 > dump
+sed -n '/^    od -A d -t x1/,/^$/p' "$readme" | sed -e 1d -e '/^$/d' -e 's/^    //' > dump.readme
+same "the bytes that README shows" dump dump.readme
+
+# ---- sessions and reports that can't be written
+
+lost=$'lost p1 1\naccepted 1 refused 0\nstatus 8 lost p1 1'
+rm -rf there/*
+ln -s /dev/full there/p1.1
+run one events there
+ends "a full device as the session's file" 8 "$lost"
+rm -rf there/*
+mkdir there/p1.1
+run one events there
+ends "a folder as the session's file" 8 "$lost"
+rm -rf there/*
+
+# A file may have 1,024 bytes, and the last of these messages goes past them.
+for n in $(seq 1 23); do
+    echo "paths $n.0.0.0/8 id=1 from=local nh=0.0.0.0 origin=igp as=-"
+done > many
+run one many there
+ends "a session of 1058 bytes" 0 "accepted 23 refused 0"
+rm -rf there/*
+said=$(trap '' XFSZ; ulimit -f 1; "$program" one many there)
+code=$?
+ends "a session's file that grows no further" 8 $'lost p1 1\naccepted 23 refused 0\nstatus 8 lost p1 1'
+
+rm -rf there/*
+said=
+"$program" one events there > /dev/full 2> errors
+code=$?
+ends "a report that can't be written" 4 ""
+same "the session of a run without a report" there/p1.1 announced
+
+# ---- no file of the program takes the place of a standard stream
+
+rm -rf there/*
+(exec "$program" one events there <&- >&- 2>&-)
+code=$?
+ends "closed standard streams" 4 ""
+same "the session of a run with closed standard streams" there/p1.1 announced
+rm -rf there/*
+(exec "$program" one events there >&-)
+code=$?
+ends "closed standard output" 4 ""
+same "the session of a run with closed standard output" there/p1.1 announced
+rm -rf there/*
+said=$(exec "$program" one events there <&- 2>&-)
+code=$?
+ends "closed standard input" 0 "accepted 1 refused 0"
+same "the session of a run with closed standard input" there/p1.1 announced
+
+# ---- what `check` reads
+
+run check announced
+ends "check of a session" 0 $'10.0.0.0/8 id=0 nh=192.0.2.1 origin=igp as=65001\nmessages 2 eors 1 rows 1 rest 0'
+(printf '\0'; tail -c +2 announced) > faulty
+run check faulty
+ends "check of a stream with a fault" 9 "status 9 malformed 1 0"
+run check there
+ends "check of a folder" 3 "status 3 read"
+
+# Streams that routers sent, each with the options of `check` and what it prints.
+for stream in "$samples"/*.bin; do
+    name=$(basename "$stream" .bin)
+    mapfile -t options < "$samples/$name.options"
+    status=0
+    grep -q '^status 9 ' "$samples/$name.rows" && status=9
+    "$program" check "${options[@]}" "$stream" > rows 2> errors
+    code=$?
+    [ "$code" = "$status" ] && [ ! -s errors ] && note "check of $name" ok || note "check of $name" "status $code"
+    same "rows of $name" rows "$samples/$name.rows"
+done
 
 echo "$passed passed, $failed failed"
 [ "$failed" = 0 ]
