@@ -71,3 +71,13 @@ same_size one other e = sym (size_front one) ∙ ap (λ (b : List ℕ). message_
 
 pub same_header : (c : Capabilities) (one other : List ℕ) → take 19 one ≡ take 19 other → header_fault c one ≡ header_fault c other
 same_header c one other e = sym (header_front c one) ∙ ap (λ (b : List ℕ). header_fault c b) e ∙ header_front c other
+
+pub same_type : (one other : List ℕ) → take 19 one ≡ take 19 other → message_type one ≡ message_type other
+same_type one other e = sym (type_front one) ∙ ap (λ (b : List ℕ). message_type b) e ∙ type_front other
+
+pub known_type : (c : Capabilities) (bytes : List ℕ) → header_fault c bytes ≡ None → ((message_type bytes == 2) || (message_type bytes == 5)) ≡ true
+unfolding header_fault
+known_type c bytes e =
+    let type = message_type bytes in
+    let parts = all_three (is_marked bytes) (is_size c type (message_size bytes)) ((type == 2) || (type == 5)) (fault 1 0) (fault 2 16) (fault 3 18) e in
+    parts.three

@@ -14,3 +14,4 @@ pub mod Fronts
 pub mod WholeMessages
 pub mod WrittenAgain
 pub mod Spelled
+pub mod Sent

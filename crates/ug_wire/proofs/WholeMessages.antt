@@ -51,11 +51,11 @@ no_fault : (h : Option Fault) (r : Result Message Fault) (says : Message) → un
 no_fault None r says e = refl
 no_fault (Some f) r says e = absurd cc
 
-spelled_header : (c : Capabilities) (m : List ℕ) (says : Message) → Spells c m says → header_fault c m ≡ None
+pub spelled_header : (c : Capabilities) (m : List ℕ) (says : Message) → Spells c m says → header_fault c m ≡ None
 unfolding read_message
 spelled_header c m says s = no_fault (header_fault c m) (read_body c m) says s.read
 
-spelled_body : (h : Option Fault) (r : Result Message Fault) (says : Message) → unless_faulty h r ≡ Ok says → r ≡ Ok says
+pub spelled_body : (h : Option Fault) (r : Result Message Fault) (says : Message) → unless_faulty h r ≡ Ok says → r ≡ Ok says
 spelled_body None r says e = e
 spelled_body (Some f) r says e = absurd cc
 

@@ -11,8 +11,9 @@ ghost use Rattle.ug_types.specs.declared.family.Family.TheVariants.{V4};
 ghost use Rattle.ug_wire.specs.RoutesRead.{route_at};
 ghost use Rattle.ug_wire.specs.AttributesRead.{read_attributes};
 ghost use Rattle.ug_wire.specs.Walking.{Fault};
-ghost use Rattle.ug_wire.specs.Reading.{IsWhole, Spells, HasFault};
+ghost use Rattle.ug_wire.specs.Reading.{message_type, IsWhole, Spells, HasFault};
 ghost use Rattle.ug_wire.specs.Received.{IsStream, IsFaultyAt};
+ghost use Rattle.ug_wire.specs.Streams.{IsCut, IsSentForm, IsUpdate, IsHeeded};
 ghost use Rattle.ug_wire.specs.Texts.{written};
 ghost use Rattle.ug_types.specs.Attributes.{Attributes, refusal_of};
 ghost use Rattle.ug_wire.specs.Spelling.{attributes, route};
@@ -75,4 +76,14 @@ pub fn streams()
 pub fn written_again()
     ensures spells { (c : sessions.Capabilities) → (m : Message) → (text : List ℕ) → written c m ≡ Some text → Spells c text m }
     ensures only { (c : sessions.Capabilities) → (m : Message) → (other : Message) → (text : List ℕ) → written c m ≡ Some text → Spells c text other → other ≡ m }
+{}
+
+/// A session's bytes are received as the messages that they were written of, with the same rest. A rest of an UPDATE has
+/// the header of one, where it has all of it.
+pub fn sent_and_received()
+    ensures updates { (c : sessions.Capabilities) → (bytes : List ℕ) → (messages : List Message) → (rest : List ℕ) →
+        IsSentForm c IsUpdate bytes messages rest → IsStream c bytes messages rest }
+    ensures heeded { (c : sessions.Capabilities) → (bytes : List ℕ) → (messages : List Message) → (rest : List ℕ) →
+        IsSentForm c IsHeeded bytes messages rest → IsStream c bytes messages rest }
+    ensures rest { (c : sessions.Capabilities) → (rest : List ℕ) → IsCut c IsUpdate rest → 19 ≤ length rest → message_type rest ≡ 2 }
 {}
