@@ -1,5 +1,5 @@
 -- A stream that was read whole, decoded.
-use Rattle.std.proofs.Common.{◌≡◌, ℕ, Bool, List, [], ◌∷◌, ◌++◌, length, Option, refl, sym, ap, subst, ◌∙◌}
+use Rattle.std.proofs.Common.{◌≡◌, ℕ, List, [], ◌∷◌, ◌++◌, length, Option, refl, sym, ap, subst, ◌∙◌}
 use Rattle.std.specs.List.{AllByRecursion}
 use Rattle.std.specs.List.Sorted.{IsStrictlySortedBy}
 use Rattle.std.specs.Map.{keys_of}
@@ -8,10 +8,10 @@ use Rattle.ug_types.specs.declared.key.Key.{Key}
 use Rattle.ug_types.specs.declared.family.Family.{Family}
 use Rattle.ug_types.specs.declared.family.Family.TheVariants.{V4, V6}
 use Rattle.ug_types.specs.contracts.key.KeyOrd.TheImpl as key_ord
-use Rattle.ug_update.specs.Streams.{IsStream}
-use Rattle.ug_update.specs.Readers.{ReaderState}
+use Rattle.ug_types.specs.declared.capabilities.Capabilities.{Capabilities}
+use Rattle.ug_wire_updates.specs.Readers.{ReaderState}
 use Rattle.ug_receiver.specs.Rows.{Rows}
-use Rattle.ug_check.specs.Decoded.{EachSpells, key_cmp, row_texts, totals_text}
+use Rattle.ug_check.specs.Decoded.{key_cmp, row_texts, totals_text}
 use Rattle.ug_check.specs.Checks.{IsDone}
 use Rattle.ug_check.specs.Checkers.{HasReadAll}
 use Rattle.ug_check.proofs.Streams.{settled_stream}
@@ -36,10 +36,10 @@ unfolding IsStrictlySortedBy
 in_order [] h = tt
 in_order (k ∷ ks) h = (all_above k ks h.0, in_order ks h.1)
 
-pub done : (left now : Option (List ℕ)) (add_path extended : Bool) (r : ReaderState) (t : Rows) (messages eors : ℕ) (reported : List (List ℕ) → Type 0)
-    → r.add_path ≡ add_path → r.extended ≡ extended → IsStrictlySortedBy key_ord.ghosts.cmp (keys_of t.rows) → HasReadAll left now r t messages eors
-    → reported (row_texts t.rows ++ totals_text messages eors (length t.rows) (length r.left) ∷ []) → IsDone add_path extended left now reported
-done left now add_path extended r t messages eors reported a x ascending h report =
+done_in : (left now : Option (List ℕ)) (r : ReaderState) (t : Rows) (messages eors : ℕ) (reported : List (List ℕ) → Type 0)
+    → IsStrictlySortedBy key_ord.ghosts.cmp (keys_of t.rows) → HasReadAll left now r t messages eors
+    → reported (row_texts t.rows ++ totals_text messages eors (length t.rows) (length r.left) ∷ []) → IsDone r.session left now reported
+done_in left now r t messages eors reported ascending h report =
     let k = h.settled.checked in
     record {
       read = h.stream;
@@ -51,8 +51,8 @@ done left now add_path extended r t messages eors reported a x ascending h repor
       rest = r.left;
       rows = t.rows;
       decoded = record {
-        read = subst (λ (z : Bool). IsStream add_path z h.stream k.given r.left) x (subst (λ (z : Bool). IsStream z r.extended h.stream k.given r.left) a (settled_stream r t messages eors h.stream h.settled));
-        spelled = subst (λ (z : Bool). EachSpells add_path z k.texts k.given) x (subst (λ (z : Bool). EachSpells z r.extended k.texts k.given) a k.spelled);
+        read = settled_stream r t messages eors h.stream h.settled;
+        spelled = k.spelled;
         parts = k.parts;
         table = record { ascending = in_order (keys_of t.rows) ascending; each = k.rows };
       };
@@ -60,3 +60,8 @@ done left now add_path extended r t messages eors reported a x ascending h repor
           (ap (λ (n : ℕ). row_texts t.rows ++ totals_text n eors (length t.rows) (length r.left) ∷ []) k.messages_are
           ∙ ap (λ (n : ℕ). row_texts t.rows ++ totals_text (length k.given) n (length t.rows) (length r.left) ∷ []) k.eors_are) report;
     }
+
+pub done : (left now : Option (List ℕ)) (session : Capabilities) (r : ReaderState) (t : Rows) (messages eors : ℕ) (reported : List (List ℕ) → Type 0)
+    → r.session ≡ session → IsStrictlySortedBy key_ord.ghosts.cmp (keys_of t.rows) → HasReadAll left now r t messages eors
+    → reported (row_texts t.rows ++ totals_text messages eors (length t.rows) (length r.left) ∷ []) → IsDone session left now reported
+done left now session r t messages eors reported same ascending h report = subst (λ (c : Capabilities). IsDone c left now reported) same (done_in left now r t messages eors reported ascending h report)

@@ -1,19 +1,20 @@
 -- A stream, piece by piece.
-use Rattle.std.proofs.Common.{◌≡◌, ℕ, ◌+◌, ◌-◌, ◌<◌, ◌≤◌, Bool, List, [], ◌++◌, length, take, Option, refl, sym, ap, subst, ◌∙◌, arith, inl, length-append}
+use Rattle.std.proofs.Common.{◌≡◌, ℕ, ◌+◌, ◌-◌, ◌<◌, ◌≤◌, List, [], ◌++◌, length, take, Option, refl, sym, ap, subst, ◌∙◌, arith, inl, length-append}
 use Rattle.std.proofs.lemmas.List.{append-nil, length-take}
 use Rattle.ug_edge.specs.Told.{TakesFront, IsEnded}
 use Rattle.ug_pieces.specs.ReadingLaws.{TakesFront-none, TakesFront-more, ended_after, take_past, take_front}
-use Rattle.ug_update.specs.Streams.{IsStream}
-use Rattle.ug_update.specs.Readers.{ReaderState, new_reader, IsFaultyAt}
+use Rattle.ug_types.specs.declared.capabilities.Capabilities.{Capabilities}
+use Rattle.ug_wire.specs.Received.{IsStream, IsFaultyAt}
+use Rattle.ug_wire_updates.specs.Readers.{ReaderState, new_reader}
 use Rattle.ug_receiver.specs.Rows.{Rows, no_rows}
 use Rattle.ug_check.specs.Checks.{most_bytes, IsCause, HasStopped}
 use Rattle.ug_check.specs.Checkers.{HasChecked, IsSettled, IsBehind, HasReadAll, IsPieceCause}
 use Rattle.ug_check.specs.declared.stop.Stop.{Stop}
 use Rattle.ug_check.specs.declared.stop.Stop.TheVariants as stops
 
-pub begins : (left : Option (List ℕ)) (add_path extended : Bool) (r : ReaderState) (t : Rows) (messages eors : ℕ) → r ≡ new_reader add_path extended → t ≡ no_rows → messages ≡ 0 → eors ≡ 0 → IsBehind 0 left left r t messages eors
-begins left add_path extended r t messages eors reader table none zero =
-    subst (λ (x : ReaderState). IsBehind 0 left left x t messages eors) (sym reader) (subst (λ (x : Rows). IsBehind 0 left left (new_reader add_path extended) x messages eors) (sym table) (record {
+pub begins : (left : Option (List ℕ)) (session : Capabilities) (r : ReaderState) (t : Rows) (messages eors : ℕ) → r ≡ new_reader session → t ≡ no_rows → messages ≡ 0 → eors ≡ 0 → IsBehind 0 left left r t messages eors
+begins left session r t messages eors reader table none zero =
+    subst (λ (x : ReaderState). IsBehind 0 left left x t messages eors) (sym reader) (subst (λ (x : Rows). IsBehind 0 left left (new_reader session) x messages eors) (sym table) (record {
       stream = [];
       taken = TakesFront-none left;
       size = refl;
@@ -33,7 +34,7 @@ begins left add_path extended r t messages eors reader table none zero =
       };
     }))
 
-pub settled_stream : (r : ReaderState) (t : Rows) (messages eors : ℕ) (stream : List ℕ) (h : IsSettled r t messages eors stream) → IsStream r.add_path r.extended stream h.checked.given r.left
+pub settled_stream : (r : ReaderState) (t : Rows) (messages eors : ℕ) (stream : List ℕ) (h : IsSettled r t messages eors stream) → IsStream r.session stream h.checked.given r.left
 settled_stream r t messages eors stream h = record {
   whole = h.checked.read.whole;
   are_spelled = h.checked.read.are_spelled;
@@ -61,32 +62,32 @@ within_limit total n buffer piece stream within size is =
     take_front most_bytes stream (take n buffer) (omega arith) ∙ ap (λ (k : ℕ). stream ++ take (most_bytes - k) (take n buffer)) size ∙ ap (λ (p : List ℕ). stream ++ p) (sym is)
 
 -- a piece in which there is a fault, or for which memory was wanting
-pub stops_at : (stop : Stop) (total n : ℕ) (buffer piece : List ℕ) (left now next : Option (List ℕ)) (add_path extended : Bool) (r : ReaderState) (t : Rows) (messages eors : ℕ)
-    → total ≤ most_bytes → piece ≡ take (most_bytes - total) (take n buffer) → TakesFront now next (take n buffer) → r.add_path ≡ add_path → r.extended ≡ extended
-    → ((stream : List ℕ) → HasChecked r t messages eors stream → IsPieceCause stop r.add_path r.extended (stream ++ piece))
-    → IsBehind total left now r t messages eors → HasStopped stop add_path extended left next
-stops_at stop total n buffer piece left now next add_path extended r t messages eors within is takes a x feeds h =
+pub stops_at : (stop : Stop) (total n : ℕ) (buffer piece : List ℕ) (left now next : Option (List ℕ)) (session : Capabilities) (r : ReaderState) (t : Rows) (messages eors : ℕ)
+    → total ≤ most_bytes → piece ≡ take (most_bytes - total) (take n buffer) → TakesFront now next (take n buffer) → r.session ≡ session
+    → ((stream : List ℕ) → HasChecked r t messages eors stream → IsPieceCause stop r.session (stream ++ piece))
+    → IsBehind total left now r t messages eors → HasStopped stop session left next
+stops_at stop total n buffer piece left now next session r t messages eors within is takes same feeds h =
     let limit = within_limit total n buffer piece h.stream within h.size is in
-    let cause = subst (λ (z : Bool). IsPieceCause stop add_path z (h.stream ++ piece)) x (subst (λ (z : Bool). IsPieceCause stop z r.extended (h.stream ++ piece)) a (feeds h.stream h.settled.checked)) in
+    let cause = subst (λ (z : Capabilities). IsPieceCause stop z (h.stream ++ piece)) same (feeds h.stream h.settled.checked) in
     record {
       read = h.stream ++ take n buffer;
       taken = TakesFront-more left now next h.stream (take n buffer) h.taken takes;
       cause = by_stop stop cause limit;
     }
   where
-    by_stop : (s : Stop) → IsPieceCause s add_path extended (h.stream ++ piece) → take most_bytes (h.stream ++ take n buffer) ≡ h.stream ++ piece → IsCause s add_path extended (h.stream ++ take n buffer)
-    by_stop (stops.Malformed cause offset) c limit = (c.0, subst (λ (s : List ℕ). IsFaultyAt add_path extended s c.0 cause offset) (sym limit) c.1)
+    by_stop : (s : Stop) → IsPieceCause s session (h.stream ++ piece) → take most_bytes (h.stream ++ take n buffer) ≡ h.stream ++ piece → IsCause s session (h.stream ++ take n buffer)
+    by_stop (stops.Malformed cause offset) c limit = (c.0, subst (λ (s : List ℕ). IsFaultyAt session s c.0 cause offset) (sym limit) c.1)
     by_stop stops.NoMemory c limit = tt
     by_stop stops.TooLong c limit = absurd c
     by_stop stops.Read c limit = absurd c
     by_stop stops.Report c limit = absurd c
 
 -- a piece with a byte past the limit
-pub passes_limit : (total n : ℕ) (buffer piece : List ℕ) (left now next : Option (List ℕ)) (add_path extended : Bool) (r s : ReaderState) (t u : Rows) (messages eors more marks : ℕ)
-    → total ≤ most_bytes → n ≤ length buffer → most_bytes - total < n → piece ≡ take (most_bytes - total) (take n buffer) → TakesFront now next (take n buffer) → s.add_path ≡ add_path → s.extended ≡ extended
+pub passes_limit : (total n : ℕ) (buffer piece : List ℕ) (left now next : Option (List ℕ)) (session : Capabilities) (r s : ReaderState) (t u : Rows) (messages eors more marks : ℕ)
+    → total ≤ most_bytes → n ≤ length buffer → most_bytes - total < n → piece ≡ take (most_bytes - total) (take n buffer) → TakesFront now next (take n buffer) → s.session ≡ session
     → ((stream : List ℕ) → HasChecked r t messages eors stream → IsSettled s u more marks (stream ++ piece))
-    → IsBehind total left now r t messages eors → HasStopped stops.TooLong add_path extended left next
-passes_limit total n buffer piece left now next add_path extended r s t u messages eors more marks within fits past is takes a x feeds h =
+    → IsBehind total left now r t messages eors → HasStopped stops.TooLong session left next
+passes_limit total n buffer piece left now next session r s t u messages eors more marks within fits past is takes same feeds h =
     let limit = within_limit total n buffer piece h.stream within h.size is in
     let settled = feeds h.stream h.settled.checked in
     let stream = settled_stream s u more marks (h.stream ++ piece) settled in
@@ -97,13 +98,22 @@ passes_limit total n buffer piece left now next add_path extended r s t u messag
         omega (arith, length-append h.stream (take n buffer), length-take n buffer, h.size),
         settled.checked.given,
         s.left,
-        subst (λ (p : List ℕ). IsStream add_path extended p settled.checked.given s.left) (sym limit)
-            (subst (λ (z : Bool). IsStream add_path z (h.stream ++ piece) settled.checked.given s.left) x (subst (λ (z : Bool). IsStream z s.extended (h.stream ++ piece) settled.checked.given s.left) a stream)),
+        subst (λ (p : List ℕ). IsStream session p settled.checked.given s.left) (sym limit) (subst (λ (z : Capabilities). IsStream z (h.stream ++ piece) settled.checked.given s.left) same stream),
       );
     }
 
-pub not_read : (total : ℕ) (left now next : Option (List ℕ)) (add_path extended : Bool) (r : ReaderState) (t : Rows) (messages eors : ℕ) → next ≡ now → IsBehind total left now r t messages eors → HasStopped stops.Read add_path extended left next
-not_read total left now next add_path extended r t messages eors same h = record { read = h.stream; taken = subst (λ (n : Option (List ℕ)). TakesFront left n h.stream) (sym same) h.taken; cause = tt }
+pub not_read : (total : ℕ) (left now next : Option (List ℕ)) (session : Capabilities) (r : ReaderState) (t : Rows) (messages eors : ℕ) → total ≤ most_bytes → r.session ≡ session → next ≡ now
+    → IsBehind total left now r t messages eors → HasStopped stops.Read session left next
+not_read total left now next session r t messages eors within is same h = record {
+  read = h.stream;
+  taken = subst (λ (n : Option (List ℕ)). TakesFront left n h.stream) (sym same) h.taken;
+  cause = (
+    subst (λ (k : ℕ). k ≤ most_bytes) (sym h.size) within,
+    h.settled.checked.given,
+    r.left,
+    subst (λ (z : Capabilities). IsStream z h.stream h.settled.checked.given r.left) is (settled_stream r t messages eors h.stream h.settled),
+  );
+}
 
 pub reads_all : (total : ℕ) (left now next : Option (List ℕ)) (r : ReaderState) (t : Rows) (messages eors : ℕ) → total ≤ most_bytes → IsEnded now → TakesFront now next [] → IsBehind total left now r t messages eors → HasReadAll left next r t messages eors
 reads_all total left now next r t messages eors within ended takes h = record {
@@ -114,11 +124,11 @@ reads_all total left now next r t messages eors within ended takes h = record {
   settled = h.settled;
 }
 
-pub begins_without : (left : Option (List ℕ)) (add_path extended : Bool) → HasStopped stops.NoMemory add_path extended left left
-begins_without left add_path extended = record { read = []; taken = TakesFront-none left; cause = tt }
+pub begins_without : (left : Option (List ℕ)) (session : Capabilities) → HasStopped stops.NoMemory session left left
+begins_without left session = record { read = []; taken = TakesFront-none left; cause = tt }
 
-pub reads_no : (stop : Stop) (a x : Bool) (stream : List ℕ) → IsPieceCause stop a x stream → stop ≡ stops.Read → ⊥
-reads_no stop a x stream h e = subst (λ (s : Stop). IsPieceCause s a x stream) e h
+pub reads_no : (stop : Stop) (session : Capabilities) (stream : List ℕ) → IsPieceCause stop session stream → stop ≡ stops.Read → ⊥
+reads_no stop session stream h e = subst (λ (s : Stop). IsPieceCause s session stream) e h
 
-pub reports_no : (stop : Stop) (a x : Bool) (stream : List ℕ) → IsPieceCause stop a x stream → stop ≡ stops.Report → ⊥
-reports_no stop a x stream h e = subst (λ (s : Stop). IsPieceCause s a x stream) e h
+pub reports_no : (stop : Stop) (session : Capabilities) (stream : List ℕ) → IsPieceCause stop session stream → stop ≡ stops.Report → ⊥
+reports_no stop session stream h e = subst (λ (s : Stop). IsPieceCause s session stream) e h

@@ -1,12 +1,13 @@
 -- Where a checker stands: what it has read of a stream, and what that left.
-use Rattle.std.specs.Prelude.{◌≡◌, ℕ, ◌≤◌, Bool, List, ◌++◌, length, Option}
+use Rattle.std.specs.Prelude.{◌≡◌, ℕ, ◌≤◌, List, ◌++◌, length, Option}
 use Rattle.std.specs.List.{concat}
+use Rattle.ug_types.specs.declared.capabilities.Capabilities.{Capabilities}
 use Rattle.ug_types.specs.declared.key.Key.{Key}
 use Rattle.ug_types.specs.Messages.{Message}
 use Rattle.ug_tables.specs.Tables.{nothing_read, reading_from}
 use Rattle.ug_edge.specs.Told.{TakesFront, IsEnded}
-use Rattle.ug_update.specs.Streams.{IsUnfinished}
-use Rattle.ug_update.specs.Readers.{ReaderState, HasRead, IsFaultyAt}
+use Rattle.ug_wire.specs.Received.{IsUnfinished, IsFaultyAt}
+use Rattle.ug_wire_updates.specs.Readers.{ReaderState, HasRead}
 use Rattle.ug_receiver.specs.Rows.{Rows, reading_of}
 use Rattle.ug_check.specs.Decoded.{EachSpells, ends_of_rib}
 use Rattle.ug_check.specs.Checks.{most_bytes}
@@ -18,17 +19,17 @@ pub record HasChecked (reader : ReaderState) (table : Rows) (messages eors : ℕ
   pub given : List Message
   pub texts : List (List ℕ)
   pub read : HasRead reader stream given
-  pub spelled : EachSpells reader.add_path reader.extended texts given
+  pub spelled : EachSpells reader.session texts given
   pub parts : stream ≡ concat texts ++ reader.left
   pub rows : (key : Key) → (reading_of table).table key ≡ (reading_from nothing_read given).table key
   pub stale : (key : Key) → (reading_of table).stale key ≡ (reading_from nothing_read given).stale key
   pub messages_are : messages ≡ length given
-  pub eors_are : eors ≡ ends_of_rib texts given
+  pub eors_are : eors ≡ ends_of_rib reader.session.family texts
 
 -- Beside that no whole message is left.
 pub record IsSettled (reader : ReaderState) (table : Rows) (messages eors : ℕ) (stream : List ℕ) : Type 0 where
   pub checked : HasChecked reader table messages eors stream
-  pub unfinished : IsUnfinished reader.extended reader.left
+  pub unfinished : IsUnfinished reader.session reader.left
 
 -- So much of the source was read.
 pub record IsBehind (total : ℕ) (left now : Option (List ℕ)) (reader : ReaderState) (table : Rows) (messages eors : ℕ) : Type 0 where
@@ -46,9 +47,9 @@ pub record HasReadAll (left now : Option (List ℕ)) (reader : ReaderState) (tab
   pub settled : IsSettled reader table messages eors stream
 
 -- Why a piece was not taken whole: there is a fault in the stream with it, or memory was wanting.
-abbrev pub IsPieceCause : Stop → Bool → Bool → List ℕ → Type 0
-IsPieceCause (stops.Malformed cause offset) add_path extended stream = (messages : List Message) × IsFaultyAt add_path extended stream messages cause offset
-IsPieceCause stops.NoMemory add_path extended stream = Unit {0}
-IsPieceCause stops.TooLong add_path extended stream = ⊥
-IsPieceCause stops.Read add_path extended stream = ⊥
-IsPieceCause stops.Report add_path extended stream = ⊥
+abbrev pub IsPieceCause : Stop → Capabilities → List ℕ → Type 0
+IsPieceCause (stops.Malformed cause offset) session stream = (messages : List Message) × IsFaultyAt session stream messages cause offset
+IsPieceCause stops.NoMemory session stream = Unit {0}
+IsPieceCause stops.TooLong session stream = ⊥
+IsPieceCause stops.Read session stream = ⊥
+IsPieceCause stops.Report session stream = ⊥

@@ -1,43 +1,34 @@
 -- What a stream of messages says, and the report on it.
-use Rattle.std.specs.Prelude.{◌≡◌, ℕ, ◌+◌, ◌==◌, Bool, true, false, ◌&&◌, List, [], ◌∷◌, ◌++◌, length, map, codes, if◌then◌else◌}
+use Rattle.std.specs.Prelude.{◌≡◌, ℕ, ◌+◌, List, [], ◌∷◌, ◌++◌, length, map, codes, if◌then◌else◌}
 use Rattle.std.specs.List.{concat}
 use Rattle.std.specs.List.Sorted.{IsStrictlySortedBy}
 use Rattle.std.specs.Map.{keys_of}
 use Rattle.std.specs.Fmt.{decimal}
 use Rattle.std.specs.declared.cmp.Ordering.{Ordering}
 use Rattle.std.specs.Ordering.{nat_cmp, ordering_then}
+use Rattle.ug_types.specs.declared.capabilities.Capabilities.{Capabilities}
+use Rattle.ug_types.specs.declared.family.Family.{Family}
 use Rattle.ug_types.specs.declared.key.Key.{Key}
 use Rattle.ug_types.specs.Keys.{prefix_cmp}
 use Rattle.ug_types.specs.Attributes.{Attributes}
-use Rattle.ug_types.specs.Messages.{Message, Updates, Begins, Ends, Ignored}
+use Rattle.ug_types.specs.Messages.{Message}
 use Rattle.ug_tables.specs.Tables.{Table, table_of}
-use Rattle.ug_update.specs.Reading.{Spells}
-use Rattle.ug_update.specs.Streams.{IsStream}
+use Rattle.ug_wire.specs.Reading.{Spells, ends_rib}
+use Rattle.ug_wire.specs.Received.{IsStream}
 use Rattle.ug_receiver.specs.Rows.{row_at}
 use Rattle.ug_rows.specs.Rows.{row_text}
 
 -- The texts spell these messages, one each.
-abbrev pub EachSpells : Bool → Bool → List (List ℕ) → List Message → Type 0
-EachSpells add_path extended [] [] = Unit {0}
-EachSpells add_path extended [] (m ∷ ms) = ⊥
-EachSpells add_path extended (text ∷ texts) [] = ⊥
-EachSpells add_path extended (text ∷ texts) (m ∷ ms) = Spells add_path extended text m × EachSpells add_path extended texts ms
+abbrev pub EachSpells : Capabilities → List (List ℕ) → List Message → Type 0
+EachSpells session [] [] = Unit {0}
+EachSpells session [] (m ∷ ms) = ⊥
+EachSpells session (text ∷ texts) [] = ⊥
+EachSpells session (text ∷ texts) (m ∷ ms) = Spells session text m × EachSpells session texts ms
 
-abbrev pub is_update : Message → Bool
-is_update (Updates u) = true
-is_update Begins = false
-is_update Ends = false
-is_update Ignored = false
-
--- End-of-RIB is an UPDATE of 23 bytes (RFC 4724 section 2).
-abbrev pub is_end_of_rib : ℕ → Message → Bool
-is_end_of_rib size m = (size == 23) && is_update m
-
--- how many of the messages, with these texts, are End-of-RIB
-abbrev pub ends_of_rib : List (List ℕ) → List Message → ℕ
-ends_of_rib [] ms = 0
-ends_of_rib (text ∷ texts) [] = 0
-ends_of_rib (text ∷ texts) (m ∷ ms) = (if is_end_of_rib (length text) m then 1 else 0) + ends_of_rib texts ms
+-- how many of these messages of a session are End-of-RIB
+abbrev pub ends_of_rib : Family → List (List ℕ) → ℕ
+ends_of_rib family [] = 0
+ends_of_rib family (text ∷ texts) = (if ends_rib family text then 1 else 0) + ends_of_rib family texts
 
 -- keys order by prefix, and then by identifier
 abbrev pub key_cmp : Key → Key → Ordering
@@ -50,9 +41,9 @@ pub record AreRows (rows : List (Key × Attributes)) (table : Table) : Type 0 wh
 
 -- The stream is these texts, which spell these messages, and then a rest that is less than a message; the table that
 -- the messages leave has these rows.
-pub record IsDecoded (add_path extended : Bool) (stream : List ℕ) (texts : List (List ℕ)) (messages : List Message) (rest : List ℕ) (rows : List (Key × Attributes)) : Type 0 where
-  pub read : IsStream add_path extended stream messages rest
-  pub spelled : EachSpells add_path extended texts messages
+pub record IsDecoded (session : Capabilities) (stream : List ℕ) (texts : List (List ℕ)) (messages : List Message) (rest : List ℕ) (rows : List (Key × Attributes)) : Type 0 where
+  pub read : IsStream session stream messages rest
+  pub spelled : EachSpells session texts messages
   pub parts : stream ≡ concat texts ++ rest
   pub table : AreRows rows (table_of messages)
 
@@ -64,6 +55,6 @@ totals_text messages eors rows rest =
 abbrev pub row_texts : List (Key × Attributes) → List (List ℕ)
 row_texts rows = map (λ (row : Key × Attributes). row_text row.0 row.1) rows
 
--- the report on a stream, line by line
-abbrev pub check_lines : List (List ℕ) → List Message → List ℕ → List (Key × Attributes) → List (List ℕ)
-check_lines texts messages rest rows = row_texts rows ++ totals_text (length messages) (ends_of_rib texts messages) (length rows) (length rest) ∷ []
+-- the report on a stream of such a session, line by line
+abbrev pub check_lines : Family → List (List ℕ) → List Message → List ℕ → List (Key × Attributes) → List (List ℕ)
+check_lines family texts messages rest rows = row_texts rows ++ totals_text (length messages) (ends_of_rib family texts) (length rows) (length rest) ∷ []

@@ -4,18 +4,17 @@ ghost use Rattle.std.specs.Prelude.{◌≡◌, ◌+◌, ◌<◌, ◌≤◌, ◌^
 ghost use Rattle.ug_types.specs.Messages.{Message, message_of};
 ghost use Rattle.ug_types.specs.declared.key.Key as route_keys;
 ghost use Rattle.ug_tables.specs.Tables.{applied};
-ghost use Rattle.ug_update.specs.Reading.{message_size};
-ghost use Rattle.ug_update.specs.Streams.{IsUnfinished, Says, Awaited};
-ghost use Rattle.ug_update.specs.Readers.{new_reader, front, behind_message, HasRead};
+ghost use Rattle.ug_wire.specs.Reading.{message_size};
+ghost use Rattle.ug_wire.specs.Received.{IsUnfinished, Says, Awaited};
+ghost use Rattle.ug_wire_updates.specs.Readers.{new_reader, front, behind_message, HasRead};
 ghost use Rattle.ug_receiver.specs.Rows.{no_rows, reading_of};
-ghost use Rattle.ug_check.specs.Decoded.{is_end_of_rib};
 ghost use Rattle.ug_check.specs.Checkers.{HasChecked, IsSettled, IsPieceCause};
 
 use crate::stop::Stop;
 use std::alloc::Global;
 use ug_receiver::Table;
-use ug_types::{Item, Next, NoMemory};
-use ug_update::Reader;
+use ug_types::{Capabilities, Item, Next, NoMemory};
+use ug_wire_updates::Reader;
 
 /// A reader of the stream, the table that its messages left so far, and how many messages and End-of-RIBs they were.
 #[derive(Drop)]
@@ -30,14 +29,14 @@ pub struct Checker {
 
 impl Checker {
     /// A checker before any byte.
-    pub fn new(alloc: Global, add_path: bool, extended: bool) -> Checker
-        ensures reader { result.reader ≡ new_reader add_path extended }
+    pub fn new(alloc: Global, session: Capabilities) -> Checker
+        ensures reader { result.reader ≡ new_reader session }
         ensures table { result.table ≡ no_rows }
         ensures messages { result.messages ≡ 0 }
         ensures eors { result.eors ≡ 0 }
     {
         Checker {
-            reader: Reader::new(alloc, add_path, extended),
+            reader: Reader::of(alloc, session),
             table: Table::new(alloc),
             messages: 0,
             eors: 0,
@@ -51,11 +50,10 @@ impl Checker {
         ensures ok { OnOk result ((stream : List ℕ) → HasChecked self.old.reader self.old.table self.old.messages self.old.eors stream →
             IsSettled self.new.reader self.new.table self.new.messages self.new.eors (stream ++ piece.now)) }
         ensures stopped { IfErr result (λ stop. (stream : List ℕ) → HasChecked self.old.reader self.old.table self.old.messages self.old.eors stream →
-            IsPieceCause stop self.old.reader.add_path self.old.reader.extended (stream ++ piece.now)) }
+            IsPieceCause stop self.old.reader.session (stream ++ piece.now)) }
         ensures live { OnOk result (self.new.reader.stopped ≡ false) }
         ensures size { OnOk result (self.new.reader.taken + length self.new.reader.left ≡ self.old.reader.taken + length self.old.reader.left + length piece.now) }
-        ensures add_path { OnOk result (self.new.reader.add_path ≡ self.old.reader.add_path) }
-        ensures extended { OnOk result (self.new.reader.extended ≡ self.old.reader.extended) }
+        ensures session { OnOk result (self.new.reader.session ≡ self.old.reader.session) }
     {
         match self.reader.feed(piece) {
             Ok(()) => {}
@@ -76,17 +74,16 @@ impl Checker {
         ensures ok { OnOk result ((stream : List ℕ) → HasChecked self.old.reader self.old.table self.old.messages self.old.eors stream →
             HasChecked self.new.reader self.new.table self.new.messages self.new.eors stream) }
         ensures more { IfOk result (λ more. more ≡ true → length self.new.reader.left < length self.old.reader.left) }
-        ensures last { IfOk result (λ more. more ≡ false → IsUnfinished self.new.reader.extended self.new.reader.left) }
+        ensures last { IfOk result (λ more. more ≡ false → IsUnfinished self.new.reader.session self.new.reader.left) }
         ensures stopped { IfErr result (λ stop. (stream : List ℕ) → HasChecked self.old.reader self.old.table self.old.messages self.old.eors stream →
-            IsPieceCause stop self.old.reader.add_path self.old.reader.extended stream) }
+            IsPieceCause stop self.old.reader.session stream) }
         ensures live { OnOk result (self.new.reader.stopped ≡ false) }
         ensures size { OnOk result (self.new.reader.taken + length self.new.reader.left ≡ self.old.reader.taken + length self.old.reader.left) }
-        ensures add_path { OnOk result (self.new.reader.add_path ≡ self.old.reader.add_path) }
-        ensures extended { OnOk result (self.new.reader.extended ≡ self.old.reader.extended) }
+        ensures session { OnOk result (self.new.reader.session ≡ self.old.reader.session) }
     {
         match next_item(&mut self.reader) {
             Ok(None) => Ok(false),
-            Ok(Some((item, size))) => match self.take_item(&item, size) {
+            Ok(Some(item)) => match self.take_item(&item) {
                 Ok(()) => Ok(true),
                 Err(stop) => Err(stop),
             },
@@ -94,55 +91,43 @@ impl Checker {
         }
     }
 
-    /// Takes a message of that size.
-    fn take_item(&mut self, item: &Item, size: usize) -> Result<(), Stop>
-        requires room { self.old.messages < self.old.reader.taken }
-        requires fits { self.old.reader.taken < 2 ^ 64 }
+    /// Takes the message that the reader gave last.
+    fn take_item(&mut self, item: &Item) -> Result<(), Stop>
+        requires { self.old.messages < self.old.reader.taken }
         ensures reader { self.new.reader ≡ self.old.reader }
         ensures table { OnOk result ((key : route_keys.Key) →
             (reading_of self.new.table).table key ≡ (applied (reading_of self.old.table) (message_of item.now)).table key) }
         ensures stale { OnOk result ((key : route_keys.Key) →
             (reading_of self.new.table).stale key ≡ (applied (reading_of self.old.table) (message_of item.now)).stale key) }
         ensures messages { OnOk result (self.new.messages ≡ self.old.messages + 1) }
-        ensures eors { OnOk result (self.new.eors ≡ self.old.eors + (if is_end_of_rib size (message_of item.now) then 1 else 0)) }
+        ensures eors { OnOk result (self.new.eors ≡ self.old.eors + (if self.old.reader.ended then 1 else 0)) }
         ensures cause { IfErr result (λ stop. stop ≡ Stop.NoMemory) }
     {
         self.table.apply(item)?;
+        let is_end_of_rib = self.reader.was_eor();
         self.messages += 1;
-        if is_end_of_rib(size, item) {
+        if is_end_of_rib {
             self.eors += 1;
         }
         Ok(())
     }
 }
 
-/// The next message and its size, where a whole one is there.
-fn next_item(reader: &mut Reader) -> Result<Option<(Item, usize)>, Stop>
+/// The next message, where a whole one is there.
+fn next_item(reader: &mut Reader) -> Result<Option<Item>, Stop>
     requires { reader.old.stopped ≡ false }
-    ensures some { IfOk result (λ next. IfSome next (λ x. front reader.old ≡ Says (message_of x.0))) }
-    ensures size { IfOk result (λ next. IfSome next (λ x. (x.1 ≡ message_size reader.old.left) × (1 ≤ x.1) × (x.1 ≤ length reader.old.left))) }
-    ensures behind { IfOk result (λ next. IfSome next (λ x. reader.new ≡ behind_message reader.old)) }
-    ensures fits { IfOk result (λ next. IfSome next (λ x. reader.new.taken < 2 ^ 64)) }
+    ensures some { IfOk result (λ next. IfSome next (λ item. front reader.old ≡ Says (message_of item))) }
+    ensures size { IfOk result (λ next. IfSome next (λ _. (1 ≤ message_size reader.old.left) × (message_size reader.old.left ≤ length reader.old.left))) }
+    ensures behind { IfOk result (λ next. IfSome next (λ _. reader.new ≡ behind_message reader.old)) }
     ensures grows { reader.old.taken ≤ reader.new.taken }
     ensures none { IfOk result (λ next. IfNone next ((reader.new ≡ reader.old) × (front reader.old ≡ Awaited))) }
     ensures stopped { IfErr result (λ stop. (stream : List ℕ) → (given : List Message) → HasRead reader.old stream given →
-        IsPieceCause stop reader.old.add_path reader.old.extended stream) }
+        IsPieceCause stop reader.old.session stream) }
 {
-    let before = reader.rest();
     match reader.next() {
         Ok(Next::NeedMore) => Ok(None),
         Ok(Next::Bad { cause, offset }) => Err(Stop::Malformed { cause, offset }),
-        Ok(Next::Message(item)) => {
-            let size = before - reader.rest();
-            Ok(Some((item, size)))
-        }
+        Ok(Next::Message(item)) => Ok(Some(item)),
         Err(NoMemory) => Err(Stop::NoMemory),
     }
-}
-
-/// Whether a message of that size is End-of-RIB: an UPDATE of 23 bytes.
-fn is_end_of_rib(size: usize, item: &Item) -> bool
-    ensures { result ≡ is_end_of_rib size (message_of item.now) }
-{
-    size == 23 && matches!(item, Item::Update(_))
 }

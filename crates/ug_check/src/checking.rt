@@ -10,21 +10,21 @@ use crate::stop::Stop;
 use crate::stream::read_stream;
 use std::alloc::Global;
 use ug_edge::{Sink, Source};
+use ug_types::Capabilities;
 
 /// Reads the bytes of a session from the source to their end and reports what they leave at the receiver: a line for
 /// each row of the table, in key order, and then how many messages, End-of-RIBs, rows and left over bytes there are.
-/// A fault of the stream, and a byte past the 1,073,741,824th, end it with nothing reported. Whether ADD-PATH and
-/// extended messages are in use the bytes don't say.
+/// A fault of the stream, and a byte past the 1,073,741,824th, end it with nothing reported. What the session was opened
+/// with the bytes don't say.
 pub fn check<E: Source, K: Sink>(
     alloc: Global,
-    add_path: bool,
-    extended: bool,
+    session: Capabilities,
     source: &mut E,
     report: &mut K,
 ) -> Result<(), Stop>
-    ensures ok { OnOk result (IsDone add_path extended (E.left source.old) (E.left source.new)
+    ensures ok { OnOk result (IsDone session (E.left source.old) (E.left source.new)
         (λ lines. AppendsPiece (K.held report.old) (K.held report.new) (concat lines))) }
-    ensures stopped { IfErr result (λ stop. HasEnded stop add_path extended (E.left source.old) (E.left source.new) (K.held report.old) (K.held report.new)) }
+    ensures stopped { IfErr result (λ stop. HasEnded stop session (E.left source.old) (E.left source.new) (K.held report.old) (K.held report.new)) }
     ensures unread { IsErrOf result Stop.Read → Rose (E.faults source.old) (E.faults source.new) }
     ensures failed { IsErrOf result Stop.Report → Rose (K.faults report.old) (K.faults report.new) }
     ensures report_faults { K.faults report.old ≤ K.faults report.new }
@@ -34,7 +34,7 @@ pub fn check<E: Source, K: Sink>(
     ensures made { E.made source.new ≡ E.made source.old }
     ensures wire_faults { E.wire_faults source.new ≡ E.wire_faults source.old }
 {
-    let checker = match read_stream(alloc, add_path, extended, source) {
+    let checker = match read_stream(alloc, session, source) {
         Ok(checker) => checker,
         Err(stop) => return Err(stop),
     };

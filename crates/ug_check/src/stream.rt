@@ -9,6 +9,7 @@ use crate::checker::Checker;
 use crate::stop::Stop;
 use std::alloc::Global;
 use ug_edge::{Failed, Source};
+use ug_types::Capabilities;
 
 /// The most bytes of a stream.
 const MOST_BYTES: usize = 1 << 30;
@@ -19,14 +20,12 @@ const PIECE: usize = 1 << 16;
 /// Reads the whole stream, and never holds more of it than a piece and a message.
 pub fn read_stream<E: Source>(
     alloc: Global,
-    add_path: bool,
-    extended: bool,
+    session: Capabilities,
     source: &mut E,
 ) -> Result<Checker, Stop>
     ensures ok { IfOk result (λ checker. HasReadAll (E.left source.old) (E.left source.new) checker.reader checker.table checker.messages checker.eors) }
-    ensures add_path { IfOk result (λ checker. checker.reader.add_path ≡ add_path) }
-    ensures extended { IfOk result (λ checker. checker.reader.extended ≡ extended) }
-    ensures stopped { IfErr result (λ stop. HasStopped stop add_path extended (E.left source.old) (E.left source.new)) }
+    ensures session { IfOk result (λ checker. checker.reader.session ≡ session) }
+    ensures stopped { IfErr result (λ stop. HasStopped stop session (E.left source.old) (E.left source.new)) }
     ensures unread { IsErrOf result Stop.Read → Rose (E.faults source.old) (E.faults source.new) }
     ensures no_report { IsErrOf result Stop.Report → ⊥ }
     ensures faults { E.faults source.old ≤ E.faults source.new }
@@ -39,7 +38,7 @@ pub fn read_stream<E: Source>(
         Ok(buffer) => buffer,
         Err(_) => return Err(Stop::NoMemory),
     };
-    let mut checker = Checker::new(alloc, add_path, extended);
+    let mut checker = Checker::new(alloc, session);
     let mut total: usize = 0;
     loop {
         let count = match source.read(buffer.as_mut_slice()) {

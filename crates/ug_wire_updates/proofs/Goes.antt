@@ -5,7 +5,6 @@ use Rattle.std.proofs.lemmas.List.{take-append-drop, append-nil, length-take-le}
 use Rattle.ug_types.specs.declared.memory.NoMemory.{NoMemory}
 use Rattle.ug_types.specs.declared.message.Next.{Next}
 use Rattle.ug_types.specs.declared.message.Next.TheVariants as nexts
-use Rattle.ug_types.specs.declared.capabilities.Capabilities.{Capabilities}
 use Rattle.ug_types.specs.Messages.{Message, message_of}
 use Rattle.ug_wire.specs.Reading.{message_size}
 use Rattle.ug_wire.specs.Received.{Front, Says, Faulty, Awaited}

@@ -1,5 +1,5 @@
 -- A route that can't be read is the fault of all.
-use Rattle.std.proofs.Common.{◌≡◌, ℕ, ◌+◌, ◌<◌, ◌≤◌, Bool, true, false, nat_lt, List, length, take, drop, Result, Err, refl, sym, ap, ◌∙◌, arith}
+use Rattle.std.proofs.Common.{◌≡◌, ℕ, ◌+◌, ◌<◌, ◌≤◌, Bool, true, false, nat_lt, List, length, drop, Result, Err, refl, sym, ap, ◌∙◌, arith}
 use Rattle.ug_types.specs.declared.key.Key.{Key}
 use Rattle.ug_types.specs.declared.family.Family.{Family}
 use Rattle.ug_wire.specs.Walking.{Fault, walk, with_one}

@@ -16,7 +16,7 @@ use Rattle.ug_wire.specs.Texts.{framed, withdrawal, announcement, written}
 use Rattle.ug_wire.specs.Texts as texts
 use Rattle.ug_wire.proofs.Formed.{both, and}
 use Rattle.ug_wire.proofs.OneText.{some_within}
-use Rattle.ug_wire_updates.specs.Updates.{AreAlike, have_identifiers, lack_identifiers, withdrawing, announcing, weight_of_all, withdrawal_size, announcement_size, own_routes, header, IsSessionOf, is_own}
+use Rattle.ug_wire_updates.specs.Updates.{AreAlike, have_identifiers, lack_identifiers, withdrawing, announcing, own_routes, header, IsSessionOf, is_own}
 
 -- ---- routes that are alike are spelled alike
 

@@ -5,7 +5,6 @@ use Rattle.ug_types.specs.declared.message.Next.TheVariants as nexts
 use Rattle.ug_types.specs.declared.family.Family.{Family}
 use Rattle.ug_types.specs.declared.capabilities.Capabilities.{Capabilities}
 use Rattle.ug_types.specs.Messages.{Message, message_of}
-use Rattle.ug_wire.specs.Walking.{Fault}
 use Rattle.ug_wire_updates.specs.declared.fault.Fault as found
 use Rattle.ug_wire_updates.specs.declared.ahead.Ahead.{Ahead}
 use Rattle.ug_wire_updates.specs.declared.ahead.Ahead.TheVariants as ahead

@@ -144,7 +144,8 @@ impl Reader {
 
     /// Whether a message was given and the last one that was given is End-of-RIB.
     pub fn was_eor(&self) -> bool
-        ensures { result ≡ self.now.ended }
+        ensures ended { result ≡ self.now.ended }
+        ensures fits { self.now.taken + length self.now.left < 2 ^ 64 }
     {
         self.ended
     }

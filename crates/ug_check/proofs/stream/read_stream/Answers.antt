@@ -1,5 +1,5 @@
 use Rattle.std.proofs.Common.{◌≡◌, ℕ, ◌+◌, ◌-◌, List, length, take, refl, ap, ◌∙◌, arith, rules}
-use Rattle.ug_update.specs.Readers.{ReaderState}
+use Rattle.ug_wire_updates.specs.Readers.{ReaderState}
 use Rattle.ug_pieces.specs.ReadingLaws.{Rose-later, taken_none, piece_within, buffer_back}
 use Rattle.ug_check.specs.Checks.{most_bytes}
 use Rattle.ug_check.proofs.Streams.{begins, goes_on, stops_at, passes_limit, not_read, reads_all, reads_no, reports_no}
@@ -7,11 +7,10 @@ use Rattle.ug_check.proofs.stream.read_stream.Goals as goal
 
 pub loop-count-init : goal.loop-count-init
 loop-count-init g c = record {
-  behind = begins (g.E.Source.left c.args.source.now) c.args.add_path c.args.extended _ _ _ _ c.new-checker.ensures.reader c.new-checker.ensures.table c.new-checker.ensures.messages c.new-checker.ensures.eors;
+  behind = begins (g.E.Source.left c.args.source.now) c.args.session _ _ _ _ c.new-checker.ensures.reader c.new-checker.ensures.table c.new-checker.ensures.messages c.new-checker.ensures.eors;
   live = ap (λ (r : ReaderState). r.stopped) c.new-checker.ensures.reader;
   size = ap (λ (r : ReaderState). r.taken + length r.left) c.new-checker.ensures.reader;
-  add_path = ap (λ (r : ReaderState). r.add_path) c.new-checker.ensures.reader;
-  extended = ap (λ (r : ReaderState). r.extended) c.new-checker.ensures.reader;
+  session = ap (λ (r : ReaderState). r.session) c.new-checker.ensures.reader;
   within = omega arith;
   room = c.in-Ok.ensures.len;
   faults = omega arith;
@@ -22,8 +21,9 @@ loop-count-init g c = record {
 }
 
 pub returns-in-Err-read-clause-stopped : goal.returns-in-Err-read-clause-stopped
+unfolding most_bytes
 returns-in-Err-read-clause-stopped g c =
-    not_read c.loop-count.total (g.E.Source.left c.args.source.now) (g.E.Source.left c.loop-count.source) (g.E.Source.left c.read.new.self) c.args.add_path c.args.extended _ _ _ _ c.in-Err-read.ensures.err c.loop-count.invariant.behind
+    not_read c.loop-count.total (g.E.Source.left c.args.source.now) (g.E.Source.left c.loop-count.source) (g.E.Source.left c.read.new.self) c.args.session _ _ _ _ c.loop-count.invariant.within c.loop-count.invariant.session c.in-Err-read.ensures.err c.loop-count.invariant.behind
 
 pub returns-in-Err-read-clause-unread : goal.returns-in-Err-read-clause-unread
 returns-in-Err-read-clause-unread g c = λ e. Rose-later _ _ _ c.loop-count.invariant.faults c.in-Err-read.ensures.faults c.in-Err-read.ensures.failed
@@ -41,24 +41,24 @@ pub returns-in-Err-take_piece-clause-stopped : goal.returns-in-Err-take_piece-cl
 unfolding most_bytes
 returns-in-Err-take_piece-clause-stopped g c =
     let piece = piece_within c.in-Ok-read.count (most_bytes - c.loop-count.total) c.read.new.buf c.split_at.result.0.now (c.split_at.ensures.front ∙ ap (λ (bs : List ℕ). take c.min-within.result bs) (c.as_slice.ensures.value ∙ buffer_back _ _ _ (search rules)) ∙ ap (λ (k : ℕ). take k c.read.new.buf) c.min-within.ensures) in
-    stops_at c.in-Err-take_piece.stop c.loop-count.total c.in-Ok-read.count c.read.new.buf c.split_at.result.0.now (g.E.Source.left c.args.source.now) (g.E.Source.left c.loop-count.source) (g.E.Source.left c.read.new.self) c.args.add_path c.args.extended _ _ _ _
-    c.loop-count.invariant.within piece c.in-Ok-read.ensures.taken c.loop-count.invariant.add_path c.loop-count.invariant.extended c.in-Err-take_piece.ensures.stopped c.loop-count.invariant.behind
+    stops_at c.in-Err-take_piece.stop c.loop-count.total c.in-Ok-read.count c.read.new.buf c.split_at.result.0.now (g.E.Source.left c.args.source.now) (g.E.Source.left c.loop-count.source) (g.E.Source.left c.read.new.self) c.args.session _ _ _ _
+    c.loop-count.invariant.within piece c.in-Ok-read.ensures.taken c.loop-count.invariant.session c.in-Err-take_piece.ensures.stopped c.loop-count.invariant.behind
 
 pub returns-in-Err-take_piece-clause-unread : goal.returns-in-Err-take_piece-clause-unread
 returns-in-Err-take_piece-clause-unread g c = λ e.
-    absurd (reads_no c.in-Err-take_piece.stop _ _ _ (c.in-Err-take_piece.ensures.stopped c.loop-count.invariant.behind.stream c.loop-count.invariant.behind.settled.checked) cc)
+    absurd (reads_no c.in-Err-take_piece.stop _ _ (c.in-Err-take_piece.ensures.stopped c.loop-count.invariant.behind.stream c.loop-count.invariant.behind.settled.checked) cc)
 
 pub returns-in-Err-take_piece-clause-no_report : goal.returns-in-Err-take_piece-clause-no_report
 returns-in-Err-take_piece-clause-no_report g c = λ e.
-    reports_no c.in-Err-take_piece.stop _ _ _ (c.in-Err-take_piece.ensures.stopped c.loop-count.invariant.behind.stream c.loop-count.invariant.behind.settled.checked) cc
+    reports_no c.in-Err-take_piece.stop _ _ (c.in-Err-take_piece.ensures.stopped c.loop-count.invariant.behind.stream c.loop-count.invariant.behind.settled.checked) cc
 
 pub returns-then-within-count-clause-stopped : goal.returns-then-within-count-clause-stopped
 unfolding most_bytes
 returns-then-within-count-clause-stopped g c =
     let piece = piece_within c.in-Ok-read.count (most_bytes - c.loop-count.total) c.read.new.buf c.split_at.result.0.now (c.split_at.ensures.front ∙ ap (λ (bs : List ℕ). take c.min-within.result bs) (c.as_slice.ensures.value ∙ buffer_back _ _ _ (search rules)) ∙ ap (λ (k : ℕ). take k c.read.new.buf) c.min-within.ensures) in
-    passes_limit c.loop-count.total c.in-Ok-read.count c.read.new.buf c.split_at.result.0.now (g.E.Source.left c.args.source.now) (g.E.Source.left c.loop-count.source) (g.E.Source.left c.read.new.self) c.args.add_path c.args.extended _ _ _ _ _ _ _ _
+    passes_limit c.loop-count.total c.in-Ok-read.count c.read.new.buf c.split_at.result.0.now (g.E.Source.left c.args.source.now) (g.E.Source.left c.loop-count.source) (g.E.Source.left c.read.new.self) c.args.session _ _ _ _ _ _ _ _
     c.loop-count.invariant.within (search rules) (omega (arith, c.min-within.ensures, c.if-within-count.true)) piece c.in-Ok-read.ensures.taken
-    (c.in-Ok-take_piece.ensures.add_path ∙ c.loop-count.invariant.add_path) (c.in-Ok-take_piece.ensures.extended ∙ c.loop-count.invariant.extended) c.in-Ok-take_piece.ensures.ok c.loop-count.invariant.behind
+    (c.in-Ok-take_piece.ensures.session ∙ c.loop-count.invariant.session) c.in-Ok-take_piece.ensures.ok c.loop-count.invariant.behind
 
 pub loop-count-preserved : goal.loop-count-preserved
 unfolding most_bytes
@@ -71,8 +71,7 @@ loop-count-preserved g c =
           (search rules) (omega (arith, c.min-within.ensures, c.if-within-count.false)) piece c.in-Ok-read.ensures.taken c.in-Ok-take_piece.ensures.ok c.loop-count.invariant.behind;
       live = c.in-Ok-take_piece.ensures.live;
       size = omega (arith, c.in-Ok-take_piece.ensures.size, c.loop-count.invariant.size, all, len);
-      add_path = c.in-Ok-take_piece.ensures.add_path ∙ c.loop-count.invariant.add_path;
-      extended = c.in-Ok-take_piece.ensures.extended ∙ c.loop-count.invariant.extended;
+      session = c.in-Ok-take_piece.ensures.session ∙ c.loop-count.invariant.session;
       within = omega (arith, c.loop-count.invariant.within, c.min-within.ensures, c.if-within-count.false);
       room = c.loop-count.invariant.room;
       faults = omega (arith, c.loop-count.invariant.faults, c.in-Ok-read.ensures.faults);

@@ -8,8 +8,7 @@ invariant-loop-count g l = record {
   behind : IsBehind l.total (g.E.Source.left l.fn.source) (g.E.Source.left l.source) l.checker.reader l.checker.table l.checker.messages l.checker.eors;
   live : l.checker.reader.stopped ≡ false;
   size : l.checker.reader.taken + length l.checker.reader.left ≡ l.total;
-  add_path : l.checker.reader.add_path ≡ l.add_path;
-  extended : l.checker.reader.extended ≡ l.extended;
+  session : l.checker.reader.session ≡ l.fn.session;
   within : l.total ≤ 1073741824;
   room : vec_len l.buffer ≡ 65536;
   faults : g.E.Source.faults l.fn.source ≤ g.E.Source.faults l.source;

@@ -1,4 +1,4 @@
-use Rattle.std.proofs.Common.{◌≤◌, ℕ, List, [], length, ap, ◌∙◌, arith}
+use Rattle.std.proofs.Common.{◌≤◌, [], length, ap, ◌∙◌, arith}
 use Rattle.std.proofs.lemmas.Grind.{common_steps}
 use Rattle.ug_types.specs.declared.family.Family.{Family}
 use Rattle.ug_types.specs.Sessions.{message_limit}

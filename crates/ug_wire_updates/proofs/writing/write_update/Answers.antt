@@ -1,9 +1,8 @@
-use Rattle.std.proofs.Common.{◌≡◌, ◌≤◌, ℕ, length, true, arith, sym, ap, subst, ◌∙◌}
+use Rattle.std.proofs.Common.{◌≡◌, ◌≤◌, length, true, arith, subst}
 use Rattle.std.proofs.lemmas.Grind.{common_steps}
 use Rattle.ug_types.specs.declared.family.Family.{Family}
 use Rattle.ug_types.specs.declared.family.Family.TheVariants.{V4}
 use Rattle.ug_types.specs.Sessions.{message_limit}
-use Rattle.ug_types.specs.Ip.{IpAddress}
 use Rattle.ug_wire.specs.Spellable.{can_be_spelled}
 use Rattle.ug_wire.proofs.Formed.{family_is}
 use Rattle.ug_wire.proofs.ShortValues.{short_values}

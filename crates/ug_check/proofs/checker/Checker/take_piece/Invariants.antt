@@ -7,8 +7,7 @@ invariant-loop-stop l = record {
   so_far : (stream : List ℕ) → HasChecked l.fn.self.reader l.fn.self.table l.fn.self.messages l.fn.self.eors stream → HasChecked l.self.reader l.self.table l.self.messages l.self.eors (stream ++ l.piece);
   live : l.self.reader.stopped ≡ false;
   size : l.self.reader.taken + length l.self.reader.left ≡ l.fn.self.reader.taken + length l.fn.self.reader.left + length l.piece;
-  add_path : l.self.reader.add_path ≡ l.fn.self.reader.add_path;
-  extended : l.self.reader.extended ≡ l.fn.self.reader.extended;
+  session : l.self.reader.session ≡ l.fn.self.reader.session;
 }
 
 abbrev pub decreases-loop-stop : goal.decreases-loop-stop
