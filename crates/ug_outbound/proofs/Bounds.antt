@@ -9,7 +9,7 @@ use Rattle.ug_types.specs.declared.family.Family.{Family}
 use Rattle.ug_types.specs.declared.family.Family.TheVariants.{V4, V6}
 use Rattle.ug_types.specs.Ip.{IpAddress, IpPrefix}
 use Rattle.ug_types.specs.Attributes.{Attributes, numbers_in, is_well_formed, refusal_of}
-use Rattle.ug_types.specs.Spelling.{attributes}
+use Rattle.ug_wire.specs.Spelling.{attributes, attributes_but_next_hop}
 use Rattle.ug_types.specs.declared.route.Learned.{Learned}
 use Rattle.ug_types.specs.declared.route.Learned.TheVariants as learned
 use Rattle.ug_types.specs.declared.route.Path.{Path}
@@ -29,7 +29,7 @@ use Rattle.ug_outbound.specs.Outbound.{reflected, mapped_by_map, mapped, heeded,
 use Rattle.ug_outbound.specs.Bounds.{FewSets, SetsFew}
 use Rattle.ug_outbound.proofs.Mapping.{out_is_after, reflect}
 use Rattle.ug_outbound.proofs.Paths.{behind, behind_at_most, behind_more, all_numbers, all_behind, out_numbers, out_length}
-use Rattle.ug_outbound.proofs.Bytes.{few_bytes}
+use Rattle.ug_outbound.proofs.Bytes.{few_bytes, length_but_next_hop}
 
 -- attributes from within, with k numbers put in front and c communities set or added since
 pub record Grown (k c : ℕ) (a : Attributes) : Type 0 where
@@ -234,3 +234,8 @@ out_bytes key tables local p path o e refused few =
     subst (λ (x : OutAttrs). length (attributes x.attrs) ≤ 2067) from.out
     (finished_bytes key local path.learned (heeded key.family path.attrs.next_hop from.m)
     (heeded_grows key.family path.attrs.next_hop from.m (mapped_grows tables key.map path.attrs p from.m few (not_grown path.attrs refused) from.is)))
+
+pub out_bytes_but_next_hop : (key : GroupKey) (tables : Tables) (local : Local) (p : IpPrefix) (path : Path) (o : OutAttrs)
+    → out key tables local p path ≡ Some o → refusal_of path.attrs ≡ None → SetsFew tables.maps key.map → length (attributes_but_next_hop o.attrs) ≤ 2060
+out_bytes_but_next_hop key tables local p path o e refused few =
+    omega (arith, out_bytes key tables local p path o e refused few, length_but_next_hop o.attrs)

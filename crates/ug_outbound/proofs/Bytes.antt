@@ -1,5 +1,5 @@
 -- How many bytes attributes take that have few numbers.
-use Rattle.std.proofs.Common.{◌≡◌, ℕ, ◌+◌, ◌*◌, ◌≤◌, Bool, true, false, nat_lt, List, [], ◌∷◌, ◌++◌, length, Option, Some, None, refl, arith, length-append}
+use Rattle.std.proofs.Common.{◌≡◌, ℕ, ◌+◌, ◌*◌, ◌≤◌, Bool, true, false, nat_lt, List, [], ◌∷◌, ◌++◌, length, Option, Some, None, refl, ap, arith, length-append}
 use Rattle.std.specs.Prelude.{if◌then◌else◌}
 use Rattle.std.specs.Int.{w16, w32, to_be_bytes}
 use Rattle.std.proofs.lemmas.Bool.{le-ltb}
@@ -7,7 +7,9 @@ use Rattle.std.proofs.lemmas.List.Sums.{sum_by-cons}
 use Rattle.ug_types.specs.Ip.{IpAddress}
 use Rattle.ug_types.specs.declared.attrs.Aggregator.{Aggregator}
 use Rattle.ug_types.specs.Attributes.{PathSegment, Attributes, numbers_in}
-use Rattle.ug_types.specs.Spelling.{attribute, well_known, optional, optional_transitive, where_present, where_some, numbers, four_bytes, segments, origin, as_path, next_hop, multi_exit_disc, local_pref, atomic_aggregate, aggregator, communities, originator_id, cluster_list, before_next_hop, after_next_hop, attributes}
+use Rattle.ug_wire.specs.Spelling.{attribute, well_known, optional, optional_transitive, where_present, where_some, numbers, four_bytes, segments, origin, as_path, multi_exit_disc, local_pref, atomic_aggregate, aggregator, communities, originator_id, cluster_list, before_next_hop, after_next_hop, attributes, attributes_but_next_hop}
+use Rattle.ug_wire.proofs.Heads.{length_numbers}
+use Rattle.ug_wire.proofs.AttributeParts.{length_attributes, length_next_hop, but_next_hop_are}
 
 headed : (long : Bool) (flags type len : ℕ) (value : List ℕ)
     → length (if long then (flags + 16) ∷ type ∷ (to_be_bytes w16 len ++ value) else flags ∷ type ∷ len ∷ value) ≤ length value + 4
@@ -21,10 +23,6 @@ at_most flags type value = headed (nat_lt 255 (length value)) flags type (length
 short : (flags type : ℕ) (value : List ℕ) → length value ≤ 255 → length (attribute flags type value) ≡ length value + 3
 unfolding attribute
 short flags type value le = rw (le-ltb 255 (length value) le) (omega arith)
-
-length_numbers : (ns : List ℕ) → length (numbers ns) ≡ 4 * length ns
-length_numbers [] = refl
-length_numbers (n ∷ ns) = omega (arith, length_numbers ns)
 
 length_segments : (path : List PathSegment) → length (segments path) ≡ 2 * length path + 4 * numbers_in path
 length_segments [] = refl
@@ -68,21 +66,22 @@ length_after a =
     let five = four ++ communities a in
     omega (arith, length-append (five ++ originator_id a) (cluster_list a), length-append five (originator_id a), length-append four (communities a), length-append three (aggregator a), length-append two (atomic_aggregate a), length-append (multi_exit_disc a) (local_pref a))
 
-length_whole : (a : Attributes) → length (attributes a) ≡ length (origin a) + length (as_path a) + length (next_hop a) + length (after_next_hop a)
-unfolding attributes
-length_whole a = omega (arith, length-append (before_next_hop a ++ next_hop a) (after_next_hop a), length-append (before_next_hop a) (next_hop a), length-append (origin a) (as_path a))
+-- NEXT_HOP has seven bytes
+pub length_but_next_hop : (a : Attributes) → length (attributes a) ≡ length (attributes_but_next_hop a) + 7
+length_but_next_hop a =
+    omega (arith, length_attributes a, length_next_hop a, ap (λ (x : List ℕ). length x) (but_next_hop_are a), length-append (before_next_hop a) (after_next_hop a))
 
 pub few_bytes : (a : Attributes) → numbers_in a.path ≤ 317 → length a.path ≤ 17 → length a.communities ≤ 144 → length a.clusters ≤ 33 → length (attributes a) ≤ 2067
 few_bytes a numbers_few segments_few communities_few clusters_few =
     omega (
       arith,
-      length_whole a,
+      length_attributes a,
+      length-append (origin a) (as_path a),
+      length_next_hop a,
       length_after a,
       short well_known 1 (a.origin ∷ []) (omega arith),
       at_most well_known 2 (segments a.path),
       length_segments a.path,
-      short well_known 3 (four_bytes a.next_hop) (omega (arith, length_four a.next_hop)),
-      length_four a.next_hop,
       word_at_most optional 4 a.med,
       word_at_most well_known 5 a.local_pref,
       atomic_at_most a.atomic,

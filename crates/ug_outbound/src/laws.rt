@@ -3,7 +3,7 @@
 ghost use Rattle.std.specs.Prelude.{◌≡◌, ◌≤◌, ℕ, true, false, [], length, Some, None};
 ghost use Rattle.ug_types.specs.Ip.{IpPrefix, IpAddress};
 ghost use Rattle.ug_types.specs.Attributes.{refusal_of};
-ghost use Rattle.ug_types.specs.Spelling.{attributes};
+ghost use Rattle.ug_wire.specs.Spelling.{attributes, attributes_but_next_hop};
 ghost use Rattle.ug_types.specs.declared.route.Learned.TheVariants as learned;
 ghost use Rattle.ug_types.specs.declared.route.Path.{Path};
 ghost use Rattle.ug_types.specs.declared.route.OutAttrs.{OutAttrs};
@@ -15,13 +15,16 @@ ghost use Rattle.ug_outbound.specs.Tables.{Tables};
 ghost use Rattle.ug_outbound.specs.Outbound.{out};
 ghost use Rattle.ug_outbound.specs.Bounds.{SetsFew, first_number};
 
-/// What holds of all that goes out, whatever the policy: `short` bounds the bytes of its attributes; `no_advertise`,
+/// What holds of all that goes out, whatever the policy: `short` bounds the bytes of its attributes, and
+/// `short_but_next_hop` those of an IPv6 route, whose next hop stands with the routes; `no_advertise`,
 /// `no_export` and `no_export_subconfed` say what the well-known communities keep back; `external` says what no
 /// external peer is told, and `first` that the local AS stands first in what one is told; `reflection` keeps routes
 /// of internal peers that are no clients from one another.
 pub fn outbound_laws()
     ensures short { (key : GroupKey) (tables : Tables) (local : Local) (p : IpPrefix) (path : Path) (o : OutAttrs) →
         out key tables local p path ≡ Some o → refusal_of path.attrs ≡ None → SetsFew tables.maps key.map → length (attributes o.attrs) ≤ 2067 }
+    ensures short_but_next_hop { (key : GroupKey) (tables : Tables) (local : Local) (p : IpPrefix) (path : Path) (o : OutAttrs) →
+        out key tables local p path ≡ Some o → refusal_of path.attrs ≡ None → SetsFew tables.maps key.map → length (attributes_but_next_hop o.attrs) ≤ 2060 }
     ensures no_advertise { (key : GroupKey) (tables : Tables) (local : Local) (p : IpPrefix) (path : Path) →
         holds 4294967042 path.attrs.communities ≡ true → out key tables local p path ≡ None }
     ensures no_export { (key : GroupKey) (tables : Tables) (local : Local) (p : IpPrefix) (path : Path) →

@@ -3,7 +3,7 @@
 ghost use Rattle.std.specs.Prelude.{◌≡◌, ◌+◌, ◌≤◌, None, length, IfOk, IfSome};
 ghost use Rattle.std.specs.Option.{option_map};
 ghost use Rattle.ug_types.specs.Attributes.{attributes_of, refusal_of};
-ghost use Rattle.ug_types.specs.Spelling.{attributes};
+ghost use Rattle.ug_wire.specs.Spelling.{attributes, attributes_but_next_hop};
 ghost use Rattle.ug_outbound.specs.Outbound.{is_let_out, mapped, heeded, reflected, attributes_out, finished, out};
 ghost use Rattle.ug_outbound.specs.Bounds.{SetsFew};
 
@@ -35,8 +35,10 @@ pub fn outbound<L: Ledger>(
     steps: &mut Steps<L>,
 ) -> Result<Option<OutAttrs>, NoMemory>
     ensures exact { IfOk result (λ o. o ≡ out key.now policies.now local.now prefix.now path.now) }
-    // attributes that nothing refuses from within still fit a message with one route
+    // attributes that nothing refuses from within still fit a message with one route; towards an IPv6 peer NEXT_HOP is
+    // not among them
     ensures short { refusal_of path.now.attrs ≡ None → IfOk result (λ o. IfSome o (λ o. length (attributes o.attrs) ≤ 2067)) }
+    ensures short_but_next_hop { refusal_of path.now.attrs ≡ None → IfOk result (λ o. IfSome o (λ o. length (attributes_but_next_hop o.attrs) ≤ 2060)) }
     ensures step { steps.new ≡ steps.old + 1 }
 {
     steps.tick();

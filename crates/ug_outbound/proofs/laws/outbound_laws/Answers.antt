@@ -1,9 +1,12 @@
-use Rattle.ug_outbound.proofs.Bounds.{out_bytes}
+use Rattle.ug_outbound.proofs.Bounds.{out_bytes, out_bytes_but_next_hop}
 use Rattle.ug_outbound.proofs.Consequences.{no_advertise, no_export, no_export_subconfed, external, first, reflection}
 use Rattle.ug_outbound.proofs.laws.outbound_laws.Goals as goal
 
 pub returns-clause-short : goal.returns-clause-short
 returns-clause-short c = out_bytes
+
+pub returns-clause-short_but_next_hop : goal.returns-clause-short_but_next_hop
+returns-clause-short_but_next_hop c = out_bytes_but_next_hop
 
 pub returns-clause-no_advertise : goal.returns-clause-no_advertise
 returns-clause-no_advertise c = no_advertise

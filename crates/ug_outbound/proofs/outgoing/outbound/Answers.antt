@@ -3,7 +3,7 @@ use Rattle.ug_types.specs.declared.route.OutAttrs.{OutAttrs}
 use Rattle.ug_routemap.specs.declared.mapped.Mapped.{Mapped}
 use Rattle.ug_outbound.specs.Outbound.{heeded, finished}
 use Rattle.ug_outbound.proofs.Mapping.{out_is_after, reflect}
-use Rattle.ug_outbound.proofs.Bounds.{kept_back, not_mapped, let_out, out_bytes}
+use Rattle.ug_outbound.proofs.Bounds.{kept_back, not_mapped, let_out, out_bytes, out_bytes_but_next_hop}
 use Rattle.ug_outbound.proofs.outgoing.outbound.Goals as goal
 
 pub returns-then-not-is_let_out-clause-exact : goal.returns-then-not-is_let_out-clause-exact
@@ -25,3 +25,7 @@ returns-clause-exact g c =
 pub returns-clause-short : goal.returns-clause-short
 returns-clause-short g c =
     λ refused. out_bytes c.args.key.now c.args.policies.now c.args.local.now c.args.prefix.now c.args.path.now c.in_ok-finished.field-0 (sym (returns-clause-exact g c)) refused c.in_ok-mapped.ensures.few
+
+pub returns-clause-short_but_next_hop : goal.returns-clause-short_but_next_hop
+returns-clause-short_but_next_hop g c =
+    λ refused. out_bytes_but_next_hop c.args.key.now c.args.policies.now c.args.local.now c.args.prefix.now c.args.path.now c.in_ok-finished.field-0 (sym (returns-clause-exact g c)) refused c.in_ok-mapped.ensures.few
