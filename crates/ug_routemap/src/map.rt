@@ -66,6 +66,13 @@ impl RouteMap {
         })
     }
 
+    /// The entries in ascending order of their sequence numbers.
+    pub fn entries(&self) -> &[MapEntry]
+        ensures { map rule_of result.now ≡ self.now }
+    {
+        self.entries.as_slice()
+    }
+
     /// What the map makes of a path's attributes to a prefix; None exactly where it gives none. A list that isn't in
     /// the table permits nothing.
     pub fn apply(

@@ -1,6 +1,6 @@
 -- How many prefixes and paths there are after a change of one prefix.
-use Rattle.std.proofs.Common.{◌≡◌, ℕ, zero, suc, ◌+◌, ◌-◌, ◌≤◌, List, [], ◌∷◌, length, Bool, Option, Some, None, refl, ap, sym, ◌∙◌, arith}
-use Rattle.std.specs.Prelude.{unwrap_or, is_some, nat_lt, ◌||◌, if◌then◌else◌, sum_by}
+use Rattle.std.proofs.Common.{◌≡◌, ℕ, ◌+◌, ◌-◌, ◌≤◌, List, [], ◌∷◌, length, Bool, Option, Some, None, refl, ap, sym, ◌∙◌, arith}
+use Rattle.std.specs.Prelude.{unwrap_or, is_some, if◌then◌else◌, sum_by}
 use Rattle.std.specs.Option.{option_map}
 use Rattle.std.specs.Map.{lookup, remove_entry, keys_of, values_of}
 use Rattle.std.specs.BTreeMap.{insert_entry, is_at}
@@ -11,7 +11,7 @@ use Rattle.ug_types.specs.Ip.{IpPrefix}
 use Rattle.ug_types.specs.Keys.{prefix_cmp, prefix_cmp_total, same_prefix}
 use Rattle.ug_types.specs.declared.route.Path.{Path}
 use Rattle.ug_world.specs.World.{Routes, paths_to}
-use Rattle.ug_world.specs.Verdicts.{path_count, is_overfull}
+use Rattle.ug_world.specs.Verdicts.{path_count}
 use Rattle.ug_world.proofs.Lookups.{tied}
 
 abbrev one_each : List Path → ℕ

@@ -1,5 +1,5 @@
 -- How many entries a filter has as it is changed.
-use Rattle.std.proofs.Common.{◌≡◌, ℕ, zero, suc, ◌+◌, ◌-◌, ◌<◌, ◌≤◌, Bool, true, false, ◌&&◌, ◌||◌, not, nat_lt, List, [], ◌∷◌, ◌++◌, length, filter, take, get_or, Option, Some, None, refl, ap, sym, ◌∙◌, arith, add-one}
+use Rattle.std.proofs.Common.{◌≡◌, ℕ, suc, ◌+◌, ◌<◌, ◌≤◌, Bool, true, false, ◌&&◌, ◌||◌, not, nat_lt, List, [], ◌∷◌, ◌++◌, length, take, get_or, Option, Some, None, refl, ap, sym, ◌∙◌, arith, add-one}
 use Rattle.std.proofs.Math.Seq.{take-suc}
 use Rattle.std.specs.Prelude.{◌==◌, if◌then◌else◌}
 use Rattle.std.proofs.lemmas.Bool.Decides.{nat_tests}
@@ -11,7 +11,7 @@ use Rattle.ug_orf.specs.declared.action.Action.TheVariants.{Add, Remove, RemoveA
 use Rattle.ug_orf.specs.Changes.{OrfChange}
 use Rattle.ug_orf.specs.Applying.{with_entry, without_sequence, changed_by, applied}
 use Rattle.ug_orf.proofs.Changed.{rises_with, rises_without}
-use Rattle.ug_world.specs.Filtered.{has_seq, has_then, has_seq_then, count_then}
+use Rattle.ug_world.specs.Filtered.{has_seq, has_then, count_then}
 use Rattle.ug_world.proofs.Relisting.{neither}
 
 first_of : (a b : Bool) → (a && b) ≡ true → a ≡ true

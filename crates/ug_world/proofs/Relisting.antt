@@ -1,5 +1,5 @@
 -- What another list in place of one that nobody asks changes: nothing.
-use Rattle.std.proofs.Common.{◌≡◌, ℕ, Bool, true, false, ◌&&◌, ◌||◌, not, nat_lt, List, [], ◌∷◌, map, Option, Some, None, refl, ap, sym, ◌∙◌}
+use Rattle.std.proofs.Common.{◌≡◌, ℕ, Bool, true, false, ◌&&◌, ◌||◌, not, nat_lt, List, [], ◌∷◌, map, Option, Some, None, refl, ap, ◌∙◌}
 use Rattle.std.specs.Prelude.{if◌then◌else◌}
 use Rattle.std.specs.List.{list_any}
 use Rattle.std.specs.Option.{option_map}
@@ -7,17 +7,15 @@ use Rattle.std.specs.Cmp.Lexicographic.{nat_list_eq_equiv}
 use Rattle.ug_types.specs.Ip.{IpPrefix}
 use Rattle.ug_types.specs.Attributes.{Attributes}
 use Rattle.ug_types.specs.declared.route.Path.{Path}
-use Rattle.ug_types.specs.declared.route.OutAttrs.{OutAttrs}
 use Rattle.ug_prefixlist.specs.declared.entry.ListEntry.{ListEntry}
 use Rattle.ug_prefixlist.specs.Named.{NamedList, same_name, value_named, list_permits, is_permitted}
-use Rattle.ug_prefixlist.specs.Filters.{filter_permits}
 use Rattle.ug_routemap.specs.declared.mapped.Mapped.{Mapped}
 use Rattle.ug_routemap.specs.Rules.{MapRule}
-use Rattle.ug_routemap.specs.Maps.{is_met, is_met_by, mapped_by, so_far, goes_to, goes_on, map_walk, map_result}
+use Rattle.ug_routemap.specs.Maps.{is_met, is_met_by, mapped_by, so_far, goes_to, goes_on, map_walk}
 use Rattle.ug_outbound.specs.Tables.{Tables}
 use Rattle.ug_outbound.specs.declared.settings.Local.{Local}
 use Rattle.ug_outbound.specs.declared.key.GroupKey.{GroupKey}
-use Rattle.ug_outbound.specs.Outbound.{communities_allow, reflection_allows, reflected, mapped_by_map, mapped, heeded, finished, is_let_out, out}
+use Rattle.ug_outbound.specs.Outbound.{reflected, mapped_by_map, mapped, heeded, finished, is_let_out, out}
 use Rattle.ug_world.specs.After.{relisted}
 use Rattle.ug_world.specs.Touches.{is_called, asks, is_asked_by, is_asked_in, decides_for}
 

@@ -1,5 +1,5 @@
 -- What a world keeps, it keeps.
-use Rattle.std.proofs.Common.{◌≡◌, ℕ, ◌+◌, ◌<◌, ◌≤◌, Bool, true, false, ◌&&◌, List, [], ◌∷◌, map, refl, ap, sym, ◌∙◌, subst, arith}
+use Rattle.std.proofs.Common.{◌≡◌, ℕ, ◌+◌, ◌≤◌, Bool, true, false, ◌&&◌, List, [], ◌∷◌, map, refl, ap, ◌∙◌, arith}
 use Rattle.std.specs.Prelude.{nat_le, if◌then◌else◌}
 use Rattle.std.proofs.lemmas.Bool.Decides.{nat_tests}
 use Rattle.ug_prefixlist.specs.Named.{NamedList, same_name}
@@ -7,7 +7,7 @@ use Rattle.ug_outbound.specs.declared.policy.Policy.{Policy}
 use Rattle.ug_world.specs.declared.peer_state.PeerState.{PeerState}
 use Rattle.ug_world.specs.After.{changed_peer}
 use Rattle.ug_world.specs.Names.{are_distinct}
-use Rattle.ug_world.specs.Kept.{name_of, has_sessions_within, are_sessions_within, is_no_policy, IsWorld}
+use Rattle.ug_world.specs.Kept.{name_of, are_sessions_within, is_no_policy, IsWorld}
 
 first_of : (a b : Bool) → (a && b) ≡ true → a ≡ true
 first_of true b e = refl

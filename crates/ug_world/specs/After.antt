@@ -1,13 +1,11 @@
 -- What an event makes of the world that accepts it.
-use Rattle.std.specs.Prelude.{ℕ, ◌+◌, Bool, true, false, List, [], map, Option, if◌then◌else◌}
+use Rattle.std.specs.Prelude.{ℕ, ◌+◌, true, false, List, [], map, Option, if◌then◌else◌}
 use Rattle.std.specs.Map.{remove_entry}
-use Rattle.ug_types.specs.Ip.{IpPrefix}
 use Rattle.ug_types.specs.Keys.{same_prefix}
 use Rattle.ug_prefixlist.specs.Order.{ascending}
 use Rattle.ug_prefixlist.specs.Lists.{seq_of}
 use Rattle.ug_prefixlist.specs.Named.{NamedList, same_name}
 use Rattle.ug_prefixlist.specs.declared.entry.ListEntry.{ListEntry}
-use Rattle.ug_outbound.specs.Tables.{Tables}
 use Rattle.ug_orf.specs.Changes.{OrfRequest}
 use Rattle.ug_orf.specs.Applying.{applied}
 use Rattle.ug_events.specs.Events.{Happening, ComesUp, GoesDown, HasPaths, HasNone, HasPolicy, HasEntries, AsksAgain, SendsRequest, SendsList}

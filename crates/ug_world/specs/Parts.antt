@@ -1,5 +1,5 @@
 -- What a world is made of.
-use Rattle.std.specs.Prelude.{◌≡◌, ℕ, nat_le, Bool, true, false, ◌&&◌, ◌||◌, not, List, [], length, map, codes, Option, Some, None}
+use Rattle.std.specs.Prelude.{◌≡◌, ℕ, nat_le, Bool, true, false, ◌&&◌, not, List, [], length, map, codes, Option, Some, None}
 use Rattle.std.specs.List.{list_all}
 use Rattle.ug_types.specs.Ip.{IpAddress, same_family}
 use Rattle.ug_types.specs.declared.family.Family.{Family}

@@ -4,6 +4,7 @@
 mod best;
 mod copies;
 mod fresh;
+mod good;
 mod judge;
 mod laws;
 mod lists;

@@ -1,4 +1,4 @@
-use Rattle.std.proofs.Common.{◌≡◌, true, ap, sym, ◌∙◌}
+use Rattle.std.proofs.Common.{ap, sym, ◌∙◌}
 use Rattle.ug_prefixlist.specs.Named.{NamedList, same_name}
 use Rattle.ug_world.proofs.Changing.{index_any}
 use Rattle.ug_world.proofs.lists.place_of.Goals as goal

@@ -1,4 +1,4 @@
-use Rattle.std.proofs.Common.{◌≡◌, false, true, List, map, refl, ap, sym, subst, ◌∙◌}
+use Rattle.std.proofs.Common.{◌≡◌, false, true, List, map, refl, sym, subst}
 use Rattle.std.specs.Prelude.{slice_index_or}
 use Rattle.ug_prefixlist.specs.Named.{NamedList, same_name}
 use Rattle.ug_world.specs.Names.{is_name_among}

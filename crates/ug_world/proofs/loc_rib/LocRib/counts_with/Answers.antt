@@ -1,12 +1,8 @@
-use Rattle.std.proofs.Common.{◌≡◌, ℕ, ◌+◌, Bool, List, length, ap, sym, subst, ◌∙◌, arith}
+use Rattle.std.proofs.Common.{◌≡◌, Bool, length, ap, ◌∙◌, arith}
 use Rattle.std.specs.Prelude.{is_some, if◌then◌else◌}
-use Rattle.std.specs.Map.{lookup, keys_of}
-use Rattle.std.specs.List.Sorted.{IsStrictlySortedBy}
-use Rattle.std.specs.declared.cmp.Ordering.{Ordering}
-use Rattle.ug_types.specs.Ip.{IpPrefix}
-use Rattle.ug_types.specs.Keys.{prefix_cmp, same_prefix}
-use Rattle.ug_types.specs.declared.route.Path.{Path}
-use Rattle.ug_world.specs.World.{Routes, paths_to}
+use Rattle.std.specs.Map.{lookup}
+use Rattle.ug_types.specs.Keys.{same_prefix}
+use Rattle.ug_world.specs.World.{paths_to}
 use Rattle.ug_world.specs.Verdicts.{path_count}
 use Rattle.ug_world.proofs.PrefixOrder.{in_order}
 use Rattle.ug_world.proofs.Counting.{few_paths, inserted_paths, inserted_prefixes, less, one_less}

@@ -1,4 +1,4 @@
-use Rattle.std.proofs.Common.{◌≡◌, ◌+◌, length, ap, sym, ◌∙◌, arith}
+use Rattle.std.proofs.Common.{◌≡◌, length, ap, ◌∙◌, arith}
 use Rattle.ug_types.specs.Keys.{same_prefix}
 use Rattle.std.specs.Map.{remove_entry}
 use Rattle.ug_world.specs.World.{Routes, paths_to}

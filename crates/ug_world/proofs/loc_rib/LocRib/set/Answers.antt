@@ -1,4 +1,4 @@
-use Rattle.std.proofs.Common.{◌≡◌, length, ap, sym, ◌∙◌}
+use Rattle.std.proofs.Common.{length, ap, sym, ◌∙◌}
 use Rattle.ug_world.specs.Verdicts.{path_count}
 use Rattle.ug_world.proofs.PrefixOrder.{inserted_same}
 use Rattle.ug_world.proofs.loc_rib.LocRib.set.Goals as goal

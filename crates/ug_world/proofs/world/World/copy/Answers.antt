@@ -1,4 +1,4 @@
-use Rattle.std.proofs.Common.{◌≡◌, ◌∙◌, List, ap, sym, subst}
+use Rattle.std.proofs.Common.{◌≡◌, ◌∙◌, List, sym, subst}
 use Rattle.ug_outbound.specs.Tables.{Tables}
 use Rattle.ug_outbound.specs.declared.policy.Policy.{Policy}
 use Rattle.ug_world.specs.declared.peer_state.PeerState.{PeerState}

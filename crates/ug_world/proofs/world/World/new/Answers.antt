@@ -1,5 +1,4 @@
-use Rattle.std.proofs.Common.{◌≡◌, Bool, true, ◌&&◌, map, ap, ◌∙◌}
-use Rattle.ug_prefixlist.specs.Named.{NamedList}
+use Rattle.std.proofs.Common.{Bool, ◌&&◌, map, ap, ◌∙◌}
 use Rattle.ug_world.specs.Names.{are_distinct}
 use Rattle.ug_world.specs.Kept.{name_of, are_sessions_within}
 use Rattle.ug_world.specs.Parts.{fresh}
