@@ -21,3 +21,6 @@ pub use outgoing::outbound;
 pub use peer::{Peer, PeerTable};
 pub use policy::{NamedPolicy, Policies, Policy, PolicyTable};
 pub use settings::Local;
+
+#[cfg(test)]
+mod tests;
