@@ -1,0 +1,289 @@
+//! Messages whose bytes were worked out by hand.
+
+ghost use Rattle.std.specs.Prelude.{◌≡◌, true, ◌+◌, ◌≤◌, ◌||◌, IsTrue, IfOk};
+ghost use Rattle.ug_types.specs.declared.family.Family.TheVariants.{V6};
+ghost use Rattle.ug_wire.specs.Spellable.{is_ipv4, has_ipv4_addresses, are_of_family};
+ghost use Rattle.ug_wire.specs.Lengths.{HasShortValues};
+ghost use Rattle.ug_wire_updates.specs.Updates.{have_identifiers, lack_identifiers, weight_of_all};
+
+use super::*;
+use std::alloc::Global;
+use std::process::Abort;
+use ug_types::{
+    Addr, Aggregator, AttrParts, Attrs, Family, Key, NoMemory, Prefix, Segment, Sequence, Written,
+};
+use ug_wire::values_are_short;
+use ug_wire_attributes::size_but_next_hop;
+
+/// Whether the bytes are the marker and then those that the text spells in hexadecimal; other signs are passed over.
+fn are_marked(bytes: &[u8], text: &str) -> bool {
+    if bytes.len() < 16 || bytes[..16] != [255; 16] {
+        return false;
+    }
+    let mut place: usize = 16;
+    let mut high: Option<u8> = None;
+    for sign in text.as_bytes() {
+        let digit = match *sign {
+            b'0'..=b'9' => *sign - b'0',
+            b'A'..=b'F' => *sign - b'A' + 10,
+            _ => continue,
+        };
+        high = match high {
+            None => Some(digit),
+            Some(first) => {
+                if bytes.get(place).copied() != Some((first << 4) | digit) {
+                    return false;
+                }
+                place = place.wrapping_add(1);
+                None
+            }
+        };
+    }
+    place == bytes.len() && high.is_none()
+}
+
+/// The prefix whose first 64 bits are these.
+pub fn key(bits: u64, len: u8, id: u32) -> Key
+    requires { len ≤ 128 }
+{
+    let prefix = Prefix::new(Family::V6, (bits as u128) << 64, len).unwrap();
+    Key { prefix, id }
+}
+
+/// ORIGIN IGP, an AS_PATH of 65001, and the next hop 2001:db8::1.
+pub fn plain(alloc: Global) -> Result<AttrParts, NoMemory> {
+    let mut path = Sequence::new(alloc);
+    let numbers = Sequence::from_vec(Vec::from_slice(alloc, &[65001])?);
+    let Ok(()) = path.push(Segment {
+        is_set: false,
+        numbers,
+    }) else {
+        return Err(NoMemory);
+    };
+    let next_hop = Addr {
+        family: Family::V6,
+        bits: 0x20010DB8000000000000000000000001,
+    };
+    Ok(AttrParts::plain(alloc, 0, path, next_hop))
+}
+
+fn attrs(rt: &impl Abort, parts: AttrParts) -> Attrs
+    ensures { HasShortValues result }
+{
+    values_are_short();
+    match Attrs::new(parts) {
+        Ok(attrs) => attrs,
+        Err(e) => panic!(rt; "refused: {}", e.number),
+    }
+}
+
+fn have_identifiers(keys: &[Key]) -> bool
+    ensures { result ≡ have_identifiers keys.now }
+{
+    keys.iter().all(|key| key.id != 0)
+}
+
+fn lack_identifiers(keys: &[Key]) -> bool
+    ensures { result ≡ lack_identifiers keys.now }
+{
+    keys.iter().all(|key| key.id == 0)
+}
+
+fn are_alike(keys: &[Key]) -> bool
+    ensures { result ≡ (have_identifiers keys.now || lack_identifiers keys.now) }
+{
+    have_identifiers(keys) || lack_identifiers(keys)
+}
+
+fn are_ipv6(keys: &[Key]) -> bool
+    ensures { result ≡ are_of_family V6 keys.now }
+{
+    keys.iter().all(|key| key.prefix.family == Family::V6)
+}
+
+fn is_ipv4(addr: &Addr) -> bool
+    ensures { result ≡ is_ipv4 addr.now }
+{
+    addr.family == Family::V4
+}
+
+fn is_ipv6(addr: &Addr) -> bool
+    ensures { IsTrue result → addr.now.family ≡ V6 }
+{
+    addr.family == Family::V6
+}
+
+/// Whether the next hop is of IPv6 and all other addresses are of IPv4.
+#[tactic(auto, unfolding(ug_wire::specs::Spellable::has_ipv4_addresses))]
+fn has_families(attrs: &Attrs) -> bool
+    ensures hop { IsTrue result → attrs.now.next_hop.family ≡ V6 }
+    ensures others { IsTrue result → has_ipv4_addresses attrs.now ≡ true }
+{
+    let parts = attrs.parts();
+    if let Some(aggregator) = parts.aggregator {
+        if !is_ipv4(&aggregator.addr) {
+            return false;
+        }
+    }
+    if let Some(originator) = parts.originator {
+        if !is_ipv4(&originator) {
+            return false;
+        }
+    }
+    is_ipv6(&parts.next_hop)
+}
+
+fn fit(keys: &[Key], room: usize) -> bool
+    ensures { IsTrue result → weight_of_all keys.now ≤ room }
+{
+    let mut left = room;
+    for key in keys {
+        let size = key.weight();
+        if left < size {
+            return false;
+        }
+        left -= size;
+    }
+    true
+}
+
+/// The message that announces the keys.
+fn announced(
+    rt: &impl Abort,
+    alloc: Global,
+    attrs: &Attrs,
+    keys: &[Key],
+) -> Result<Written, NoMemory>
+    requires { HasShortValues attrs.now }
+{
+    assert!(rt; !keys.is_empty() && are_alike(keys) && fit(keys, 5000));
+    assert!(rt; are_ipv6(keys) && has_families(attrs));
+    let size = size_but_next_hop(attrs);
+    assert!(rt; size < 60000);
+    write_update6(alloc, attrs, keys)
+}
+
+/// The message that announces the keys spells so, and its next hop stands at that place.
+fn announces(
+    rt: &impl Abort,
+    alloc: Global,
+    attrs: &Attrs,
+    keys: &[Key],
+    text: &str,
+    place: usize,
+) -> Result<(), NoMemory>
+    requires { HasShortValues attrs.now }
+{
+    let message = announced(rt, alloc, attrs, keys)?;
+    assert!(rt; are_marked(message.bytes.as_slice(), text));
+    assert_eq!(rt; message.place, place);
+    Ok(())
+}
+
+/// The message that withdraws the keys spells so.
+fn withdraws(rt: &impl Abort, alloc: Global, keys: &[Key], text: &str) -> Result<(), NoMemory> {
+    assert!(rt; !keys.is_empty() && are_alike(keys) && fit(keys, 5000) && are_ipv6(keys));
+    let message = write_withdraw6(alloc, keys)?;
+    assert!(rt; are_marked(message.as_slice(), text));
+    Ok(())
+}
+
+/// End-of-RIB, and a route that is announced and withdrawn, without and with an identifier.
+#[test]
+fn one_route(rt: HostRuntime) -> Result<(), NoMemory> {
+    let alloc = rt.alloc();
+    let end = write_eor6(alloc)?;
+    assert!(rt; are_marked(end.as_slice(), "001D 02 0000 0006 800F03000201"));
+    let attrs = attrs(&rt, plain(alloc)?);
+    let keys = [key(0x20010DB8000A0000, 48, 0)];
+    announces(
+        &rt,
+        alloc,
+        &attrs,
+        &keys,
+        "0043 02 0000 002C 40010100 40020602010000FDE9 800E1C 0002 01 10 20010DB8000000000000000000000001 00 3020010DB8000A",
+        43,
+    )?;
+    withdraws(
+        &rt,
+        alloc,
+        &keys,
+        "0024 02 0000 000D 800F0A 0002 01 3020010DB8000A",
+    )?;
+    let keys = [key(0x20010DB8000A0000, 48, 7), key(0, 0, 4294967295)];
+    announces(
+        &rt,
+        alloc,
+        &attrs,
+        &keys,
+        "004C 02 0000 0035 40010100 40020602010000FDE9 800E25 0002 01 10 20010DB8000000000000000000000001 00 000000073020010DB8000A FFFFFFFF00",
+        43,
+    )?;
+    withdraws(
+        &rt,
+        alloc,
+        &keys,
+        "002D 02 0000 0016 800F13 0002 01 000000073020010DB8000A FFFFFFFF00",
+    )
+}
+
+/// All attributes that routes of IPv6 have, without NEXT_HOP, and prefixes of many lengths.
+#[test]
+fn everything(rt: HostRuntime) -> Result<(), NoMemory> {
+    let alloc = rt.alloc();
+    let mut parts = plain(alloc)?;
+    parts.origin = 2;
+    parts.med = Some(5);
+    parts.local_pref = Some(200);
+    parts.atomic = true;
+    parts.aggregator = Some(Aggregator {
+        asn: 64512,
+        addr: Addr::v4(0x0A000002),
+    });
+    parts.communities = Sequence::from_vec(Vec::from_slice(alloc, &[0xFDE80001, 0xFFFFFF01])?);
+    parts.originator = Some(Addr::v4(0x0A000001));
+    parts.clusters = Sequence::from_vec(Vec::from_slice(alloc, &[0x0A000003])?);
+    let attrs = attrs(&rt, parts);
+    let ones = 0xFFFFFFFFFFFFFFFF;
+    let keys = [
+        key(ones, 0, 0),
+        key(ones, 1, 0),
+        key(ones, 8, 0),
+        key(ones, 9, 0),
+        key(ones, 63, 0),
+        key(ones, 64, 0),
+        key(ones, 65, 0),
+        key(ones, 128, 0),
+    ];
+    announces(
+        &rt,
+        alloc,
+        &attrs,
+        &keys,
+        "00A6 02 0000 008F 40010102 40020602010000FDE9 80040400000005 400504000000C8 400600 C007080000FC000A000002 C00808FDE80001FFFFFF01 8009040A000001 800A040A000003 \
+        800E4A 0002 01 10 20010DB8000000000000000000000001 00 00 0180 08FF 09FF80 3FFFFFFFFFFFFFFFFE 40FFFFFFFFFFFFFFFF 41FFFFFFFFFFFFFFFF00 80FFFFFFFFFFFFFFFF0000000000000000",
+        96,
+    )
+}
+
+/// So many routes of 48 bits.
+fn many(alloc: Global, count: u64) -> Result<Vec<Key>, NoMemory> {
+    let mut keys = Vec::new(alloc);
+    for i in 0..count {
+        keys.push(key(0x20010DB800000000 | (i % 65536) << 16, 48, 0))?;
+    }
+    Ok(keys)
+}
+
+/// Of 577 routes that are alike 576 fit 4,096 bytes, and the length of their attribute has two bytes.
+#[test]
+fn full_message(rt: HostRuntime) -> Result<(), NoMemory> {
+    let alloc = rt.alloc();
+    let attrs = attrs(&rt, plain(alloc)?);
+    for (count, size, place) in [(1, 67, 43), (576, 4093, 44), (577, 4100, 44)] {
+        let keys = many(alloc, count)?;
+        let message = announced(&rt, alloc, &attrs, keys.as_slice())?;
+        assert_eq!(rt; (message.bytes.len(), message.place), (size, place));
+    }
+    Ok(())
+}

@@ -1,0 +1,77 @@
+ghost use Rattle.std.specs.Prelude.{◌≡◌, ◌+◌, ◌<◌, ◌≤◌, true, [], Some, length, IfOk};
+ghost use Rattle.ug_types.specs.declared.capabilities.Capabilities as sessions;
+ghost use Rattle.ug_types.specs.declared.family.Family.TheVariants.{V6};
+ghost use Rattle.ug_types.specs.Messages.{Updates};
+ghost use Rattle.ug_types.specs.Sessions.{message_limit};
+ghost use Rattle.ug_wire.specs.Spellable.{has_ipv4_addresses, are_of_family};
+ghost use Rattle.ug_wire.specs.Texts.{written};
+ghost use Rattle.ug_wire_updates.specs.Updates.{AreAlike, IsSessionOf, withdrawing, announcing, IsMessageSize};
+ghost use Rattle.ug_mp.specs.Sizes.{withdrawal_size, announcement_size, next_hop_place};
+
+use std::alloc::Global;
+use ug_types::{Attrs, ByteList, Key, NoMemory, Written};
+use ug_wire_attributes::{
+    size_around, size_but_next_hop, write_but_next_hop, write_reach, write_unreach,
+};
+use ug_wire_updates::{routes_size, start, write_routes, write_size};
+
+/// The UPDATE that announces these IPv6 routes with these attributes, and where the value of the next hop stands in it.
+/// Routes and next hop stand in MP_REACH_NLRI, and there is no NEXT_HOP (RFC 4760 section 3).
+#[tactic(auto, using(crate::proofs::Texts::least_around))]
+pub fn write_update6(alloc: Global, attrs: &Attrs, keys: &[Key]) -> Result<Written, NoMemory>
+    requires some { 0 < length keys.now }
+    requires alike { AreAlike keys.now }
+    requires short { IsMessageSize (announcement_size attrs.now keys.now) }
+    requires family { are_of_family V6 keys.now ≡ true }
+    requires next_hop { attrs.now.next_hop.family ≡ V6 }
+    requires addresses { has_ipv4_addresses attrs.now ≡ true }
+    // In each session that has such routes, and a limit that it is within, it is the text.
+    ensures text { IfOk result (λ w. (c : sessions.Capabilities) → IsSessionOf V6 keys.now c → announcement_size attrs.now keys.now ≤ message_limit c →
+        written c (Updates (announcing attrs.now keys.now)) ≡ Some w.bytes.items) }
+    ensures size { IfOk result (λ w. length w.bytes.items ≡ announcement_size attrs.now keys.now) }
+    ensures place { IfOk result (λ w. w.place ≡ next_hop_place attrs.now keys.now) }
+{
+    let routes = routes_size(keys);
+    let size = size_but_next_hop(attrs) + size_around(21 + routes);
+    let mut bytes = start(alloc, 23 + size)?;
+    write_size(&mut bytes, 0)?; // no route in the field of withdrawn ones
+    write_size(&mut bytes, size)?;
+    write_but_next_hop(&mut bytes, attrs)?;
+    let place = write_reach(&mut bytes, &attrs.parts().next_hop, routes)?;
+    write_routes(&mut bytes, keys)?;
+    Ok(Written { bytes, place })
+}
+
+/// The UPDATE that withdraws these IPv6 routes, which stand in MP_UNREACH_NLRI (RFC 4760 section 4).
+#[tactic(auto, using(crate::proofs::Texts::least_around))]
+pub fn write_withdraw6(alloc: Global, keys: &[Key]) -> Result<ByteList, NoMemory>
+    requires some { 0 < length keys.now }
+    requires alike { AreAlike keys.now }
+    requires short { IsMessageSize (withdrawal_size keys.now) }
+    requires family { are_of_family V6 keys.now ≡ true }
+    ensures text { IfOk result (λ bytes. (c : sessions.Capabilities) → IsSessionOf V6 keys.now c → withdrawal_size keys.now ≤ message_limit c →
+        written c (Updates (withdrawing keys.now)) ≡ Some bytes.items) }
+    ensures size { IfOk result (λ bytes. length bytes.items ≡ withdrawal_size keys.now) }
+{
+    let routes = routes_size(keys);
+    let size = size_around(3 + routes);
+    let mut bytes = start(alloc, 23 + size)?;
+    write_size(&mut bytes, 0)?; // no route in the field of withdrawn ones
+    write_size(&mut bytes, size)?;
+    write_unreach(&mut bytes, routes)?;
+    write_routes(&mut bytes, keys)?;
+    Ok(bytes)
+}
+
+/// End-of-RIB for IPv6 unicast: an UPDATE whose one attribute is an empty MP_UNREACH_NLRI (RFC 4724 section 2).
+pub fn write_eor6(alloc: Global) -> Result<ByteList, NoMemory>
+    ensures text { IfOk result (λ bytes. (c : sessions.Capabilities) → c.family ≡ V6 →
+        written c (Updates (withdrawing [])) ≡ Some bytes.items) }
+    ensures size { IfOk result (λ bytes. length bytes.items ≡ 29) }
+{
+    let mut bytes = start(alloc, 29)?;
+    write_size(&mut bytes, 0)?;
+    write_size(&mut bytes, 6)?;
+    write_unreach(&mut bytes, 0)?;
+    Ok(bytes)
+}
