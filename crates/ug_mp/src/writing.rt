@@ -1,11 +1,12 @@
-ghost use Rattle.std.specs.Prelude.{◌≡◌, ◌+◌, ◌<◌, ◌≤◌, true, [], Some, length, IfOk};
+ghost use Rattle.std.specs.Prelude.{◌≡◌, ◌+◌, ◌<◌, ◌≤◌, ◌++◌, true, [], Some, length, IfOk};
+ghost use Rattle.std.specs.Int.{w16, to_be_bytes};
 ghost use Rattle.ug_types.specs.declared.capabilities.Capabilities as sessions;
 ghost use Rattle.ug_types.specs.declared.family.Family.TheVariants.{V6};
 ghost use Rattle.ug_types.specs.Messages.{Updates};
 ghost use Rattle.ug_types.specs.Sessions.{message_limit};
 ghost use Rattle.ug_wire.specs.Spellable.{has_ipv4_addresses, are_of_family};
 ghost use Rattle.ug_wire.specs.Texts.{written};
-ghost use Rattle.ug_wire_updates.specs.Updates.{AreAlike, IsSessionOf, withdrawing, announcing, IsMessageSize};
+ghost use Rattle.ug_wire_updates.specs.Updates.{AreAlike, IsSessionOf, withdrawing, announcing, IsMessageSize, header};
 ghost use Rattle.ug_mp.specs.Sizes.{withdrawal_size, announcement_size, next_hop_place};
 
 use std::alloc::Global;
@@ -33,9 +34,7 @@ pub fn write_update6(alloc: Global, attrs: &Attrs, keys: &[Key]) -> Result<Writt
 {
     let routes = routes_size(keys);
     let size = size_but_next_hop(attrs) + size_around(21 + routes);
-    let mut bytes = start(alloc, 23 + size)?;
-    write_size(&mut bytes, 0)?; // no route in the field of withdrawn ones
-    write_size(&mut bytes, size)?;
+    let mut bytes = start_attributes(alloc, size)?;
     write_but_next_hop(&mut bytes, attrs)?;
     let place = write_reach(&mut bytes, &attrs.parts().next_hop, routes)?;
     write_routes(&mut bytes, keys)?;
@@ -55,9 +54,7 @@ pub fn write_withdraw6(alloc: Global, keys: &[Key]) -> Result<ByteList, NoMemory
 {
     let routes = routes_size(keys);
     let size = size_around(3 + routes);
-    let mut bytes = start(alloc, 23 + size)?;
-    write_size(&mut bytes, 0)?; // no route in the field of withdrawn ones
-    write_size(&mut bytes, size)?;
+    let mut bytes = start_attributes(alloc, size)?;
     write_unreach(&mut bytes, routes)?;
     write_routes(&mut bytes, keys)?;
     Ok(bytes)
@@ -69,9 +66,19 @@ pub fn write_eor6(alloc: Global) -> Result<ByteList, NoMemory>
         written c (Updates (withdrawing [])) ≡ Some bytes.items) }
     ensures size { IfOk result (λ bytes. length bytes.items ≡ 29) }
 {
-    let mut bytes = start(alloc, 29)?;
-    write_size(&mut bytes, 0)?;
-    write_size(&mut bytes, 6)?;
+    let mut bytes = start_attributes(alloc, 6)?;
     write_unreach(&mut bytes, 0)?;
+    Ok(bytes)
+}
+
+/// What stands before the attributes of an UPDATE, which have so many bytes: its header, and that there is nothing in the
+/// field of withdrawn routes. There is room for all of it.
+fn start_attributes(alloc: Global, size: usize) -> Result<ByteList, NoMemory>
+    requires { IsMessageSize (23 + size) }
+    ensures { IfOk result (λ bytes. bytes.items ≡ header (23 + size) ++ to_be_bytes w16 0 ++ to_be_bytes w16 size) }
+{
+    let mut bytes = start(alloc, 23 + size)?;
+    write_size(&mut bytes, 0)?; // no withdrawn routes
+    write_size(&mut bytes, size)?;
     Ok(bytes)
 }
