@@ -3,6 +3,8 @@
 # random order, and prints for each the time, the time a route, the peak memory and how much of it a route takes, and
 # then how the times grow. The longest one is also read through a pipe in small pieces. Last comes a stream of 196 KB
 # whose routes share 32 KB of communities, and so has some 2 GB of rows.
+#
+# With --ipv6 it runs over 1,000,000 routes of each family instead, and prints how many times as long those of IPv6 take.
 set -e
 source "$(dirname "$0")/measure.sh"
 
@@ -22,6 +24,24 @@ stream() {
     }'
 }
 
+# The same of IPv6: routes of another /48 each, in UPDATEs of 130 bytes.
+ipv6_stream() {
+    LC_ALL=C awk -v n="$1" -v order="$2" 'BEGIN {
+        srand(1)
+        for (i = 0; i < n; i++) number[i] = i
+        if (order == "random") for (i = n - 1; i > 0; i--) { k = int(rand() * (i + 1)); t = number[i]; number[i] = number[k]; number[k] = t }
+        for (i = 0; i < 16; i++) marker = marker sprintf("%c", 255)
+        printf "%s%c%c%c%c%c%c%c%c%c%c%c%c%c", marker, 0, 29, 2, 0, 0, 0, 6, 128, 15, 3, 0, 2, 1
+        for (i = 0; i < n; i += 10) {
+            printf "%s%c%c%c%c%c%c%c", marker, 0, 130, 2, 0, 0, 0, 107
+            printf "%c%c%c%c%c%c%c%c%c%c%c%c%c", 64, 1, 1, 0, 64, 2, 6, 2, 1, 0, 0, 253, 233
+            printf "%c%c%c%c%c%c%c", 128, 14, 91, 0, 2, 1, 16
+            printf "%c%c%c%c%c%c%c%c%c%c%c%c%c%c%c%c%c", 32, 1, 13, 184, 0, 0, 0, 0, 0, 0, 0, 0, 0, 0, 0, 1, 0
+            for (j = i; j < i + 10; j++) printf "%c%c%c%c%c%c%c", 48, 32, 1, 13, 1 + int(number[j] / 65536), int(number[j] / 256) % 256, number[j] % 256
+        }
+    }'
+}
+
 # Three UPDATEs of 6,500 routes each, with 8,000 communities.
 shared() {
     LC_ALL=C awk 'BEGIN {
@@ -35,6 +55,20 @@ shared() {
         }
     }'
 }
+
+if [ "$1" = --ipv6 ]; then
+    for order in sorted random; do
+        stream 1000000 "$order" > "$work/ipv4"
+        ipv6_stream 1000000 "$order" > "$work/ipv6"
+        ipv4=$(measure 5 check "$work/ipv4")
+        ipv6=$(measure 5 check --ipv6 "$work/ipv6")
+        kib=$(peak check --ipv6 "$work/ipv6")
+        awk -v o="$order" -v a="$ipv4" -v b="$ipv6" -v k="$kib" 'BEGIN {
+            printf "1000000 routes in %s order: IPv4 %.3f s, IPv6 %.3f s, %.2f times, peak %d KiB, %.0f bytes a route\n", o, a, b, b / a, k, k * 1024 / 1000000 }'
+        tail -n 1 "$work/report"
+    done
+    exit
+fi
 
 for order in sorted random; do
     declare -A seconds
