@@ -1,6 +1,7 @@
 -- The bytes of an UPDATE of IPv6 routes, written piece by piece, are its text.
-use Rattle.std.proofs.Common.{◌≡◌, ℕ, ◌+◌, ◌≤◌, Bool, true, false, nat_lt, List, ◌∷◌, ◌++◌, length, refl, sym, ap, ◌∙◌, arith, length-append, append_assoc, lit≤}
+use Rattle.std.proofs.Common.{◌≡◌, ℕ, ◌+◌, ◌≤◌, Bool, true, false, nat_lt, List, [], ◌∷◌, ◌++◌, length, take, drop, refl, sym, ap, ◌∙◌, arith, length-append, append_assoc, lit≤}
 use Rattle.std.specs.Prelude.{if◌then◌else◌}
+use Rattle.std.proofs.lemmas.List.{take_at, drop_at}
 use Rattle.std.specs.Int.{w16, to_be_bytes}
 use Rattle.ug_types.specs.declared.family.Family.TheVariants.{V6}
 use Rattle.ug_types.specs.declared.capabilities.Capabilities.{Capabilities}
@@ -8,7 +9,7 @@ use Rattle.ug_types.specs.Ip.{IpAddress}
 use Rattle.ug_types.specs.Attributes.{Attributes}
 use Rattle.ug_types.specs.Sessions.{message_limit}
 use Rattle.ug_wire.specs.Spelling.{optional, ipv6_unicast, sixteen_bytes, mp_reach_nlri, mp_unreach_nlri, attributes_but_next_hop}
-use Rattle.ug_wire.specs.Heads.{size_around, reach_head, unreach_head}
+use Rattle.ug_wire.specs.Heads.{head, size_around, reach_place, reach_head, unreach_head}
 use Rattle.ug_wire.specs.Texts.{framed}
 use Rattle.ug_wire.specs.Texts as texts
 use Rattle.ug_wire.proofs.Heads.{length_attribute, reach_is, unreach_is}
@@ -75,6 +76,32 @@ ipv6_announcement attrs routes items pieces =
     ∙ sym (append_assoc front own (head ++ routes))
     ∙ sym (append_assoc (front ++ own) head routes)
     ∙ sym pieces
+
+-- ---- where the next hop stands
+
+pub regrouped : (front own top family len hop zero routes : List ℕ)
+    → (front ++ own ++ (top ++ family ++ len ++ hop ++ zero)) ++ routes ≡ front ++ own ++ (top ++ family ++ len) ++ (hop ++ (zero ++ routes))
+regrouped front own top family len hop zero routes = simp (append_assoc)
+
+pub next_hop_there : (attrs : Attributes) (routes items : List ℕ)
+    → items
+    ≡ header (23 + (length (attributes_but_next_hop attrs) + size_around (21 + length routes))) ++ to_be_bytes w16 0 ++ to_be_bytes w16 (length (attributes_but_next_hop attrs) + size_around (21 + length routes))
+    ++ attributes_but_next_hop attrs ++ reach_head attrs.next_hop (length routes) ++ routes
+    → take 16 (drop (23 + (length (attributes_but_next_hop attrs) + reach_place (length routes))) items) ≡ sixteen_bytes attrs.next_hop
+unfolding reach_head
+next_hop_there attrs routes items pieces =
+    let own = attributes_but_next_hop attrs in
+    let size = length own + size_around (21 + length routes) in
+    let front = header (23 + size) ++ to_be_bytes w16 0 ++ to_be_bytes w16 size in
+    let top = head optional 14 (21 + length routes) in
+    let hop = sixteen_bytes attrs.next_hop in
+    let before = front ++ own ++ (top ++ ipv6_unicast ++ 16 ∷ []) in
+    let joined = regrouped front own top ipv6_unicast (16 ∷ []) hop (0 ∷ []) routes in
+    let there : length before ≡ 23 + (length own + reach_place (length routes)) =
+    omega (arith, length-append (front ++ own) (top ++ ipv6_unicast ++ 16 ∷ []), length-append front own, length-append (top ++ ipv6_unicast) (16 ∷ []), length-append top ipv6_unicast) in
+    ap (λ (xs : List ℕ). take 16 (drop (23 + (length own + reach_place (length routes))) xs)) (pieces ∙ joined)
+    ∙ ap (λ (xs : List ℕ). take 16 xs) (drop_at before (hop ++ 0 ∷ routes) (23 + (length own + reach_place (length routes))) there)
+    ∙ take_at hop (0 ∷ routes) 16 refl
 
 -- ---- how long they are
 

@@ -1,9 +1,10 @@
-ghost use Rattle.std.specs.Prelude.{◌≡◌, ◌+◌, ◌<◌, ◌≤◌, ◌++◌, true, [], Some, length, IfOk};
+ghost use Rattle.std.specs.Prelude.{◌≡◌, ◌+◌, ◌<◌, ◌≤◌, ◌++◌, true, [], Some, length, take, drop, IfOk};
 ghost use Rattle.std.specs.Int.{w16, to_be_bytes};
 ghost use Rattle.ug_types.specs.declared.capabilities.Capabilities as sessions;
 ghost use Rattle.ug_types.specs.declared.family.Family.TheVariants.{V6};
 ghost use Rattle.ug_types.specs.Messages.{Updates};
 ghost use Rattle.ug_types.specs.Sessions.{message_limit};
+ghost use Rattle.ug_wire.specs.Spelling.{sixteen_bytes};
 ghost use Rattle.ug_wire.specs.Spellable.{has_ipv4_addresses, are_of_family};
 ghost use Rattle.ug_wire.specs.Texts.{written};
 ghost use Rattle.ug_wire_updates.specs.Updates.{AreAlike, IsSessionOf, withdrawing, announcing, IsMessageSize, header};
@@ -31,6 +32,7 @@ pub fn write_update6(alloc: Global, attrs: &Attrs, keys: &[Key]) -> Result<Writt
         written c (Updates (announcing attrs.now keys.now)) ≡ Some w.bytes.items) }
     ensures size { IfOk result (λ w. length w.bytes.items ≡ announcement_size attrs.now keys.now) }
     ensures place { IfOk result (λ w. w.place ≡ next_hop_place attrs.now keys.now) }
+    ensures next_hop { IfOk result (λ w. take 16 (drop w.place w.bytes.items) ≡ sixteen_bytes attrs.now.next_hop) }
 {
     let routes = routes_size(keys);
     let size = size_but_next_hop(attrs) + size_around(21 + routes);

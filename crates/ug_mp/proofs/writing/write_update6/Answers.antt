@@ -1,15 +1,15 @@
-use Rattle.std.proofs.Common.{◌≡◌, ◌≤◌, ◌+◌, ℕ, length, true, arith, sym, ap, subst, ◌∙◌}
+use Rattle.std.proofs.Common.{◌≡◌, ◌≤◌, ◌+◌, ℕ, length, take, drop, true, arith, sym, ap, subst, ◌∙◌}
 use Rattle.std.proofs.lemmas.Grind.{common_steps}
 use Rattle.ug_types.specs.declared.family.Family.{Family}
 use Rattle.ug_types.specs.declared.family.Family.TheVariants.{V6}
 use Rattle.ug_types.specs.Sessions.{message_limit}
 use Rattle.ug_wire.specs.Spelling.{attributes_but_next_hop}
-use Rattle.ug_wire.specs.Heads.{size_around}
+use Rattle.ug_wire.specs.Heads.{size_around, reach_place}
 use Rattle.ug_wire.specs.Spellable.{can_be_spelled}
 use Rattle.ug_wire.proofs.ShortValues.{short_but_next_hop}
 use Rattle.ug_wire_updates.specs.Updates.{own_routes}
 use Rattle.ug_wire_updates.proofs.Texts.{written_announcing}
-use Rattle.ug_mp.proofs.Texts.{ipv6_announcement, announcement_length}
+use Rattle.ug_mp.proofs.Texts.{ipv6_announcement, announcement_length, next_hop_there}
 use Rattle.ug_mp.proofs.writing.write_update6.Goals as goal
 
 pub size_but_next_hop-requires : goal.size_but_next_hop-requires
@@ -38,3 +38,13 @@ returns-clause-text c = λ session is_session le.
     let size = announcement_length attrs routes items is ∙ ap (λ (n : ℕ). 23 + (length (attributes_but_next_hop attrs) + size_around (21 + n))) weighed in
     written_announcing V6 attrs c.args.keys.now items c.requires.some c.requires.alike c.requires.family c.in_ok-write_routes.ensures.formed spelled is session is_session
     (subst (λ (n : ℕ). n ≤ message_limit session) (sym size) le)
+
+pub returns-clause-next_hop : goal.returns-clause-next_hop
+returns-clause-next_hop c =
+    let attrs = c.args.attrs.now in
+    let routes = own_routes c.args.keys.now in
+    let items = c.write_routes.new.out.items in
+    let weighed = sym c.routes_size-routes.ensures.length ∙ c.routes_size-routes.ensures.weight in
+    let place : ℕ = 23 + (length (attributes_but_next_hop attrs) + reach_place (length routes)) in
+    let placed : c.in_ok-place.place ≡ place = grind (arith, common_steps, weighed) in
+    ap (λ (n : ℕ). take 16 (drop n items)) placed ∙ next_hop_there attrs routes items (grind (arith, common_steps))
