@@ -1,1 +1,2 @@
 pub mod NextHops
+pub mod Packets

@@ -2,8 +2,10 @@
 #![tactic(auto)]
 
 mod hops;
+mod packet;
 
 pub use hops::next_hop;
+pub use packet::{Packet, patch};
 
 #[cfg(test)]
 mod tests;
