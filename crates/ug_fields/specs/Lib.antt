@@ -1,0 +1,6 @@
+pub mod Reads
+pub mod Gives
+pub mod Kinds
+pub mod Tables
+pub mod Looks
+pub mod Views
