@@ -1,0 +1,4 @@
+pub mod Speech
+pub mod Told
+pub mod Right
+pub mod Owes

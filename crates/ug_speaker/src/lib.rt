@@ -1,0 +1,7 @@
+//! What a machine that speaks to peers owes, whatever it keeps and shares: the world is what the events make of it, and
+//! each session is told what its peer should know, right after every message and whole when everything is told.
+#![tactic(auto)]
+
+mod speaker;
+
+pub use speaker::Speaker;
