@@ -6,6 +6,7 @@ use Rattle.ug_event.specs.Events.{Event, Withdraw, Line, Blank, Happened, Refuse
 use Rattle.ug_event.specs.Grammar.{local_paths}
 use Rattle.ug_event.specs.Origins.{origin_number}
 use Rattle.ug_event.specs.declared.event.LocalPaths.{LocalPaths}
+use Rattle.ug_event.specs.declared.event.Withdrawal.{Withdrawal}
 use Rattle.ug_event.specs.declared.event.Event.{Event as CodeEvent}
 use Rattle.ug_event.specs.declared.event.Event.TheVariants as events
 use Rattle.ug_event.specs.declared.event.Line.{Line as CodeLine}
@@ -20,9 +21,12 @@ seen_parts parts = option_map (λ (x : Bor (List ℕ) × Bor (List ℕ)). (x.0.n
 abbrev pub paths_seen : LocalPaths → Event
 paths_seen p = local_paths p.prefix p.id p.next_hop (origin_number p.origin)
 
+abbrev pub withdrawal_seen : Withdrawal → Event
+withdrawal_seen w = Withdraw w.prefix
+
 abbrev pub event_seen : CodeEvent → Event
 event_seen (events.Paths p) = paths_seen p
-event_seen (events.Withdraw prefix) = Withdraw prefix
+event_seen (events.Withdraw w) = withdrawal_seen w
 
 abbrev pub line_seen : CodeLine → Line
 line_seen code.Blank = Blank

@@ -5,6 +5,6 @@ mod event;
 mod line;
 mod text;
 
-pub use event::{Event, Line, LocalPaths, Origin};
+pub use event::{Event, Line, LocalPaths, Origin, Withdrawal};
 pub use line::read_line;
 pub use text::cut_at;

@@ -3,13 +3,11 @@
 ghost use Rattle.std.specs.Prelude.{◌≡◌, ◌≢◌, ◌<◌, ◌≤◌, ◌++◌, [], ◌∷◌, length, take, drop, slice_index, MatchOption};
 ghost use Rattle.std.specs.Option.{option_map};
 ghost use Rattle.ug_event.specs.Bytes.{where_some_bytes};
-ghost use Rattle.ug_event.specs.Events.{Withdraw};
 ghost use Rattle.ug_event.specs.Grammar.{words, without_return, line_of_words, event_of, paths_of, paths_event, withdraw_event, line_of};
-ghost use Rattle.ug_event.specs.Views.{line_seen, event_seen, paths_seen};
+ghost use Rattle.ug_event.specs.Views.{line_seen, event_seen, paths_seen, withdrawal_seen};
 
-use crate::event::{Event, Line, LocalPaths};
+use crate::event::{Event, Line, LocalPaths, Withdrawal};
 use crate::text::{path_id, path_next_hop, path_origin, prefix};
-use ug_types::Prefix;
 
 /// Reads a line, without its newline.
 #[tactic(auto, unfolding(crate::specs::Grammar::line_of))]
@@ -56,8 +54,8 @@ fn event_of(verb: &[u8], rest: &[u8]) -> Option<Event>
         return Some(Event::Paths(paths));
     }
     if verb == b"withdraw".as_slice() {
-        let prefix = withdraw_line(rest)?;
-        return Some(Event::Withdraw { prefix });
+        let withdrawal = withdraw_line(rest)?;
+        return Some(Event::Withdraw(withdrawal));
     }
     None
 }
@@ -174,12 +172,13 @@ fn paths_of(words: &PathsWords<'_>) -> Option<LocalPaths>
 
 /// What stands behind `withdraw`: a prefix alone.
 #[tactic(auto, using(crate::proofs::Texts::not_one), unfolding(crate::specs::Grammar::withdraw_event))]
-fn withdraw_line(rest: &[u8]) -> Option<Prefix>
-    ensures { option_map Withdraw result ≡ withdraw_event (words rest.now) }
+fn withdraw_line(rest: &[u8]) -> Option<Withdrawal>
+    ensures { option_map withdrawal_seen result ≡ withdraw_event (words rest.now) }
 {
     let (word, rest) = next_word(rest)?;
     if next_word(rest).is_some() {
         return None;
     }
-    prefix(word)
+    let prefix = prefix(word)?;
+    Some(Withdrawal { prefix })
 }

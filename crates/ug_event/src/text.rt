@@ -1,6 +1,7 @@
 //! Numbers, addresses and prefixes as text.
 
-ghost use Rattle.std.specs.Prelude.{◌≡◌, ◌≤◌, length};
+ghost use Rattle.std.specs.Prelude.{◌≡◌, ◌≤◌, length, IfSome};
+ghost use Rattle.ug_types.specs.declared.family.Family.TheVariants.{V4};
 ghost use Rattle.ug_event.specs.Grammar.{number, digits_from, at_most, cut_at, behind, address_number, prefix, path_id, path_next_hop, path_origin};
 ghost use Rattle.std.specs.Option.{option_map};
 ghost use Rattle.ug_event.specs.Origins.{origin_number};
@@ -93,7 +94,8 @@ pub fn address_number(text: &[u8]) -> Option<u32>
 /// The prefix of an IPv4 prefix text.
 #[tactic(auto, unfolding(crate::specs::Grammar::prefix))]
 pub fn prefix(text: &[u8]) -> Option<Prefix>
-    ensures { result ≡ prefix text.now }
+    ensures is { result ≡ prefix text.now }
+    ensures is_ipv4 { IfSome result (λ p. p.family ≡ V4) }
 {
     let (address, len) = cut_at(b'/', text)?;
     let address = address_number(address)?;
