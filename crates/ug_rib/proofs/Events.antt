@@ -25,7 +25,7 @@ paths_after es prefix = get (last_world (one_world empty) (happened es)).rib pre
 
 abbrev pub route_change : Routes → Event → Routes
 route_change rib (events.Paths p) = insert rib p.prefix (paths_given p)
-route_change rib (events.Withdraw prefix) = without rib prefix
+route_change rib (events.Withdraw w) = without rib w.prefix
 
 -- the routes after events, from those before
 abbrev pub routes_after : Routes → List Event → Routes
@@ -34,7 +34,7 @@ routes_after rib (e ∷ es) = routes_after (route_change rib e) es
 
 changed : (rib : Routes) (e : Event) → world_after (one_world rib) (outcome (one_world rib) (Happened (event_seen e))) ≡ one_world (route_change rib e)
 changed rib (events.Paths p) = refl
-changed rib (events.Withdraw prefix) = withdrawn rib prefix
+changed rib (events.Withdraw w) = withdrawn rib w.prefix
 
 -- events change nothing but the routes
 pub world_is : (rib : Routes) (es : List Event) → last_world (one_world rib) (happened es) ≡ one_world (routes_after rib es)
@@ -47,7 +47,7 @@ routes_after-push rib (d ∷ es) e = routes_after-push (route_change rib d) es e
 
 pub get_change : (rib : Routes) (e : Event) (q : IpPrefix) → get (route_change rib e) q ≡ cond (same_prefix q (prefix_of e)) (given e) (get rib q)
 get_change rib (events.Paths p) q = get_set rib p.prefix (paths_given p) q
-get_change rib (events.Withdraw prefix) q = get_without rib prefix q
+get_change rib (events.Withdraw w) q = get_without rib w.prefix q
 
 -- what one more event makes of a prefix's paths
 pub paths_after-push : (es : List Event) (e : Event) (q : IpPrefix) → paths_after (es ++ e ∷ []) q ≡ cond (same_prefix q (prefix_of e)) (given e) (paths_after es q)

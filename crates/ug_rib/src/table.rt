@@ -1,15 +1,15 @@
 //! The private table of p1 after some events.
 
-ghost use Rattle.std.specs.Prelude.{◌≡◌, ◌≤◌, [], ◌∷◌, length, map, unwrap_or, true, IfOk, IfSome};
+ghost use Rattle.std.specs.Prelude.{◌≡◌, [], map, unwrap_or, true, IfOk, IfSome};
 ghost use Rattle.std.specs.Option.{option_map};
 ghost use Rattle.std.specs.FinMap.{get, empty};
 ghost use Rattle.ug_types.specs.Attributes.{attributes_of};
-ghost use Rattle.ug_types.specs.Spelling.{attributes};
+ghost use Rattle.ug_types.specs.declared.family.Family.TheVariants.{V4};
 ghost use Rattle.ug_event.specs.Events.{Happened};
 ghost use Rattle.ug_rib.specs.Worlds.{last_world};
 ghost use Rattle.ug_rib.specs.Outbound.{path_at, route_to, private_table};
 ghost use Rattle.ug_rib.specs.One.{one_world, local_path};
-ghost use Rattle.ug_rib.specs.Given.{paths_given, prefix_of, given};
+ghost use Rattle.ug_rib.specs.Given.{paths_given, prefix_of, given, IsOwn};
 ghost use Rattle.ug_event.specs.Origins.{origin_number};
 ghost use Rattle.ug_event.specs.Views.{event_seen};
 
@@ -23,7 +23,7 @@ use ug_types::{Addr, AttrParts, Attrs, Key, Learned, NoMemory, Path, Prefix, Seq
 pub fn told(alloc: Global, events: &[Event], key: &Key) -> Result<Option<AttrParts>, NoMemory>
     ensures table { IfOk result (λ told. option_map attributes_of told
         ≡ private_table 0 (last_world (one_world empty) (map (λ e. Happened (event_seen e)) events.now)) key.now) }
-    ensures short { IfOk result (λ told. IfSome told (λ parts. length (attributes (attributes_of parts)) ≤ 20)) }
+    ensures own { IfOk result (λ told. IfSome told (λ parts. IsOwn (attributes_of parts))) }
 {
     let paths = paths_of(alloc, events, &key.prefix)?;
     route_at(
@@ -105,11 +105,12 @@ fn given_last(events: &[Event], prefix: &Prefix) -> Option<LocalPaths>
 
 /// The prefix that an event speaks of.
 pub fn prefix_of(event: &Event) -> Prefix
-    ensures { result ≡ prefix_of event.now }
+    ensures is { result ≡ prefix_of event.now }
+    ensures is_ipv4 { result.family ≡ V4 }
 {
     match *event {
         Event::Paths(paths) => paths.prefix,
-        Event::Withdraw { prefix } => prefix,
+        Event::Withdraw(withdrawal) => withdrawal.prefix,
     }
 }
 
@@ -119,7 +120,7 @@ fn given(event: &Event) -> Option<LocalPaths>
 {
     match *event {
         Event::Paths(paths) => Some(paths),
-        Event::Withdraw { .. } => None,
+        Event::Withdraw(_) => None,
     }
 }
 

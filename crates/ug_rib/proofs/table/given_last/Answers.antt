@@ -14,7 +14,7 @@ returns-then-eq c =
     let e = get_or es (c.loop-n.n - 1) c.index-events-n.result in
     let is : e ≡ c.index-events-n.result = sym c.index-events-n.is in
     let again : e ≡ c.index-events-n-then-eq.result = get_or_default es (c.loop-n.n - 1) c.index-events-n.result c.index-events-n-then-eq.result (omega arith) ∙ sym c.index-events-n-then-eq.is in
-    let test = ap (λ (x : Event). same_prefix q (prefix_of x)) is ∙ ap (same_prefix q) (sym c.prefix_of.ensures) ∙ sym (equal_same c.prefix_of.result q) ∙ sym c.eq.ensures ∙ c.if-eq.true in
+    let test = ap (λ (x : Event). same_prefix q (prefix_of x)) is ∙ ap (same_prefix q) (sym c.prefix_of.ensures.is) ∙ sym (equal_same c.prefix_of.result q) ∙ sym c.eq.ensures ∙ c.if-eq.true in
     c.given.ensures ∙ ap given (sym again)
     ∙ sym (paths_after-take es c.loop-n.n q c.index-events-n.result c.loop-n-test.true c.loop-n.invariant.within
     ∙ ap (λ (b : Bool). cond b (given e) (paths_after (take (c.loop-n.n - 1) es) q)) test)
@@ -26,7 +26,7 @@ loop-n-preserved c =
     let q = c.args.prefix.now in
     let e = get_or es (c.loop-n.n - 1) c.index-events-n.result in
     let is : e ≡ c.index-events-n.result = sym c.index-events-n.is in
-    let test = ap (λ (x : Event). same_prefix q (prefix_of x)) is ∙ ap (same_prefix q) (sym c.prefix_of.ensures) ∙ sym (equal_same c.prefix_of.result q) ∙ sym c.eq.ensures ∙ c.if-eq.false in
+    let test = ap (λ (x : Event). same_prefix q (prefix_of x)) is ∙ ap (same_prefix q) (sym c.prefix_of.ensures.is) ∙ sym (equal_same c.prefix_of.result q) ∙ sym c.eq.ensures ∙ c.if-eq.false in
     record {
       within = omega arith;
       same = sym (paths_after-take es c.loop-n.n q c.index-events-n.result c.loop-n-test.true c.loop-n.invariant.within
