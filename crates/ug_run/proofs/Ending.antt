@@ -2,7 +2,7 @@
 use Rattle.std.proofs.Common.{◌≡◌, ℕ, zero, suc, ◌+◌, ◌≤◌, inl, inr, Bool, true, false, ◌&&◌, not, cond, List, [], ◌∷◌, ◌++◌, map, length, Option, Some, None, refl, sym, ap, subst, ◌∙◌, arith, codes}
 use Rattle.std.specs.Prelude.{filter, slice_get, take}
 use Rattle.std.specs.Fmt.{digits}
-use Rattle.std.specs.List.{flat_map, AllByRecursion}
+use Rattle.std.specs.List.{flat_map}
 use Rattle.std.specs.FinMap.{FinMap}
 use Rattle.std.proofs.lemmas.List.{append-nil}
 use Rattle.ug_types.specs.Ip.{IpPrefix}
@@ -10,7 +10,7 @@ use Rattle.ug_types.specs.Keys.{prefix_cmp}
 use Rattle.ug_types.specs.Messages.{Message}
 use Rattle.ug_types.specs.declared.key.Key.{Key}
 use Rattle.ug_types.specs.declared.route.Path.{Path}
-use Rattle.ug_message.specs.Streams.{IsSentForm, IsUpdate, says_nothing}
+use Rattle.ug_wire.specs.Streams.{IsSentForm, IsUpdate, says_nothing}
 use Rattle.ug_tables.specs.Tables.{tables_after, table_of}
 use Rattle.ug_tables.specs.Climbing.{NeverBack, Follows}
 use Rattle.ug_tables.specs.ClimbingLaws.{NeverBack-from}
@@ -24,13 +24,13 @@ use Rattle.ug_rib.specs.Outbound.{private_table}
 use Rattle.ug_event.specs.Grammar.{line_of}
 use Rattle.ug_rib.specs.One.{configured_world, one_world, up_p1}
 use Rattle.ug_run.specs.Course.{opened, run_worlds, run_world, session_past, IsCourse, IsOpening}
-use Rattle.ug_run.specs.Sessions.{HasSent}
+use Rattle.ug_run.specs.Sessions.{plain_ipv4, HasSent}
 use Rattle.ug_run.specs.Report.{Loss, line_texts, loss_text, counts_text, losses_status, completed_text, report_text, accepted_count, refused_count}
 use Rattle.ug_pieces.specs.Reporting.{AppendsFront}
 use Rattle.ug_run.specs.Limits.{IsPastLimits}
 use Rattle.ug_run.specs.Intake.{lines_text, IsRun, IsReading, IsReportedUntil, HasReadAll, HasStopped}
 use Rattle.ug_run.specs.Statuses.{status_text, status_of, is_complete, is_read_fault, made_wires, ends_unread}
-use Rattle.ug_run.specs.Promise.{ends_of_rib, IsPrivate, HaveEndOfRib, AreOpened, IsPartOf, AgreesWithSite, AreUnharmed, HasMade, is_empty, lines_counted, WireTold, Content, EachFrom, EachSession, HaveSessions, HaveMessages, AreNeverBack, HaveEnd, HaveLosses, has_rest, times_up, name_of, is_lost, AppendsThenStatus, HasReport, IsFirstLoss, IsLimited, IsPromised}
+use Rattle.ug_run.specs.Promise.{ends_of_rib, IsPrivate, HaveEndOfRib, AreOpened, IsPartOf, AgreesWithSite, HasMade, is_empty, lines_counted, WireTold, Content, EachFrom, EachSession, HaveSessions, HaveMessages, AreNeverBack, HaveEnd, HaveLosses, has_rest, times_up, name_of, is_lost, AppendsThenStatus, HasReport, IsFirstLoss, IsLimited, IsPromised}
 use Rattle.ug_run.specs.Ending.{lost_text, losses_where, IsConcluded, IsOutcome, IsUnbegun, IsUnmade}
 use Rattle.ug_run.specs.declared.status.Status.{Status}
 use Rattle.ug_run.specs.declared.status.Status.TheVariants as statuses
@@ -61,8 +61,8 @@ few_rests messages (b ∷ rest) true faults whole blamed = blamed refl
 few_rests messages (b ∷ rest) false faults whole blamed = let e = whole refl in absurd cc
 
 one_wire : (lines : List Line) (messages : List Message) (sessions : Option (List (List ℕ))) (faults : ℕ) (lost : Bool)
-    → (lost ≡ true → 1 ≤ faults) → HasSent sessions lost messages → AllByRecursion IsUpdate messages → IsOpening lost messages → Follows (session_past lines) (tables_after messages) → OneWire lines sessions faults lost messages
-one_wire lines messages None faults lost blamed sent updates opening follows = record {
+    → (lost ≡ true → 1 ≤ faults) → HasSent sessions lost messages → IsOpening lost messages → Follows (session_past lines) (tables_after messages) → OneWire lines sessions faults lost messages
+one_wire lines messages None faults lost blamed sent opening follows = record {
   content = record { messages = messages; rest = [] };
   messages = (tt, omega arith);
   never_back = tt;
@@ -70,11 +70,11 @@ one_wire lines messages None faults lost blamed sent updates opening follows = r
   whole = λ e. refl;
   same = refl;
 }
-one_wire lines messages (Some sessions) faults lost blamed sent updates opening follows =
+one_wire lines messages (Some sessions) faults lost blamed sent opening follows =
     let c : Content = record { messages = messages; rest = sent.1 } in
     record {
       content = c;
-      messages = (subst (λ (ss : List (List ℕ)). EachFrom (λ n bytes c. IsSentForm false false bytes c.messages c.rest × AllByRecursion IsUpdate c.messages) 1 ss (c ∷ [])) (sym sent.2) ((sent.3, updates), tt), few_rests messages sent.1 lost faults sent.4 blamed);
+      messages = (subst (λ (ss : List (List ℕ)). EachFrom (λ n bytes c. IsSentForm plain_ipv4 IsUpdate bytes c.messages c.rest) 1 ss (c ∷ [])) (sym sent.2) (sent.3, tt), few_rests messages sent.1 lost faults sent.4 blamed);
       never_back = subst (λ (ss : List (List ℕ)). EachFrom (λ n bytes c. NeverBack (past 0 n (run_worlds lines)) (tables_after c.messages)) 1 ss (c ∷ [])) (sym sent.2) (NeverBack-from (session_past lines) (tables_after messages) follows, tt);
       end_of_rib = subst (λ (ss : List (List ℕ)). EachFrom (λ n bytes c. (ends_of_rib c.messages ≤ 1)
           × ((i : ℕ) (m : Message) → slice_get c.messages i ≡ Some m → says_nothing m ≡ true → IsPrivate 0 n (run_worlds lines) (table_of (take (i + 1) c.messages)))) 1 ss (c ∷ [])) (sym sent.2)
@@ -322,7 +322,7 @@ promised_stopped stop files name before left now mid held sessions faults lost i
     let t = taken_lines stop before left now mid sessions lost h in
     let k = h.kept in
     let follows : Follows (session_past counted) (tables_after k.messages) = subst (λ (ls : List Line). Follows (session_past ls) (tables_after k.messages)) (sym t.parts) (Follows-more h.lines t.more (tables_after k.messages) k.follows) in
-    let wire = one_wire counted k.messages sessions faults lost blamed k.sent k.updates k.opening follows in
+    let wire = one_wire counted k.messages sessions faults lost blamed k.sent k.opening follows in
     record {
       read = h.read;
       rest = rest_of now;
@@ -446,7 +446,7 @@ promised_read status files name before left now mid last held sessions faults lo
     ap (λ (bs : List ℕ). map line_of (lines_read (is_empty bs && not (is_read_fault status)) h.read)) (no_rest now h.ended) ∙ ap (λ (f : Bool). map line_of (lines_read (true && not f) h.read)) (all_read status lost a r mid last done concluded) in
     let run : IsRun before counted sessions lost origins c a r mid = subst (λ (ls : List Line). IsRun before ls sessions lost origins c a r mid) (sym whole) h.run in
     let k = run.course.kept in
-    let wire = one_wire counted k.messages sessions faults lost blamed k.sent k.updates k.opening k.follows in
+    let wire = one_wire counted k.messages sessions faults lost blamed k.sent k.opening k.follows in
     let world = run.course.routes.world in
     record {
       read = h.read;

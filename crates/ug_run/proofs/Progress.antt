@@ -34,7 +34,7 @@ use Rattle.ug_event.specs.Grammar.{local_paths}
 use Rattle.ug_rib.specs.One.{configured_world, one_local, p1, one_world, local_path, announced}
 use Rattle.ug_run.specs.Course.{run_lines, run_world, session_past, HasOrigin, HasOrigins, IsCourse, IsOpening, told_of, tells, end_of_rib}
 use Rattle.ug_run.specs.Sessions.{HasSent, sent_messages}
-use Rattle.ug_message.specs.Streams.{IsUpdate, says_nothing}
+use Rattle.ug_wire.specs.Streams.{says_nothing}
 use Rattle.std.specs.List.{AllByRecursion}
 
 accepted_worlds-append : (w : World) (a b : List Line) → accepted_worlds w (a ++ b) ≡ accepted_worlds w a ++ accepted_worlds (last_world w a) b
@@ -172,14 +172,10 @@ private_opened key = told_by_origin empty key None (get empty key.prefix) (get-e
 pub IsCourse-quiet : (lines : List Line) (line : Line) (sessions : Option (List (List ℕ))) (lost : Bool) (old new : IpPrefix → Option ℕ)
     → HasOrigins (lines ++ line ∷ []) new → ((key : Key) → told_of (new key.prefix) key.id ≡ told_of (old key.prefix) key.id) → IsCourse lines sessions lost old → IsCourse (lines ++ line ∷ []) sessions lost new
 IsCourse-quiet lines line sessions lost old new routes same h = record {
-  kept = record { messages = h.kept.messages; sent = h.kept.sent; updates = h.kept.updates; opening = h.kept.opening; follows = Follows-more lines (line ∷ []) (tables_after h.kept.messages) h.kept.follows };
+  kept = record { messages = h.kept.messages; sent = h.kept.sent; opening = h.kept.opening; follows = Follows-more lines (line ∷ []) (tables_after h.kept.messages) h.kept.follows };
   current = λ live key. h.current live key ∙ private_told lines old h.routes key ∙ sym (same key) ∙ sym (private_told (lines ++ line ∷ []) new routes key);
   routes = routes;
 }
-
-updates_push : (ms : List Message) (m : Message) → AllByRecursion IsUpdate ms → IsUpdate m → AllByRecursion IsUpdate (ms ++ m ∷ [])
-updates_push [] m h k = (k, tt)
-updates_push (n ∷ ms) m h k = (h.0, updates_push ms m h.1 k)
 
 -- a line that was accepted adds the private table of its world to the past
 session_past-accepted : (lines : List Line) (line : Line) (next : World) → outcome (run_world lines) line ≡ Accepts next → in_session 0 1 next ≡ true → session_past (lines ++ line ∷ []) ≡ session_past lines ++ private_table 0 next ∷ []
@@ -221,10 +217,6 @@ told_after prefix None old r key e = by_tests (same_prefix key.prefix prefix) (e
     by_tests false true e = e
     by_tests false false e = e
 
-tells_update : (prefix : IpPrefix) (change : Option ℕ) → IsUpdate (tells prefix change)
-tells_update prefix (Some origin) = tt
-tells_update prefix None = tt
-
 tells_something : (prefix : IpPrefix) (change : Option ℕ) → says_nothing (tells prefix change) ≡ false
 tells_something prefix (Some origin) = refl
 tells_something prefix None = refl
@@ -251,7 +243,6 @@ IsCourse-sent lines line prefix change before after was true old new k stays sen
   kept = record {
     messages = h.kept.messages;
     sent = sends h.kept.messages h.kept.sent;
-    updates = h.kept.updates;
     opening = IsOpening-lost h.kept.messages was h.kept.opening;
     follows = Follows-more lines (line ∷ []) (tables_after h.kept.messages) h.kept.follows;
   };
@@ -274,7 +265,6 @@ IsCourse-sent lines line prefix change before after false false old new k stays 
       kept = record {
         messages = ms ++ m ∷ [];
         sent = sends ms h.kept.sent;
-        updates = updates_push ms m h.kept.updates (tells_update prefix change);
         opening = IsOpening-push ms m h.kept.opening (tells_something prefix change);
         follows = Follows-sent lines line (one_world k.rib) ms m k.accepts refl (λ key. newest key ∙ ap (λ (w : World). private_table 0 w key) world_is) h.kept.follows;
       };
@@ -299,12 +289,12 @@ IsCourse-opened sessions lost origins none sent =
   where
     by_loss : (lost : Bool) → HasSent sessions lost (sent_messages lost [] end_of_rib) → HasOrigins [] origins → IsCourse [] sessions lost origins
     by_loss true sent routes = record {
-      kept = record { messages = []; sent = sent; updates = tt; opening = refl; follows = λ key. tt };
+      kept = record { messages = []; sent = sent; opening = refl; follows = λ key. tt };
       current = λ live. absurd cc;
       routes = routes;
     }
     by_loss false sent routes = record {
-      kept = record { messages = end_of_rib ∷ []; sent = sent; updates = (tt, tt); opening = (refl, tt); follows = λ key. (0, refl, tt) };
+      kept = record { messages = end_of_rib ∷ []; sent = sent; opening = (refl, tt); follows = λ key. (0, refl, tt) };
       current = λ live key. sym (private_opened key);
       routes = routes;
     }

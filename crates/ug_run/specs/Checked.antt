@@ -26,8 +26,8 @@ pub record IsWhole (command : CheckCommand) (file : FileTold) (reported : List (
   pub messages : List Message
   pub rest : List ℕ
   pub rows : List (Key × Attributes)
-  pub decoded : IsDecoded command.add_path command.extended read texts messages rest rows
-  pub report : reported (check_lines texts messages rest rows)
+  pub decoded : IsDecoded command.session read texts messages rest rows
+  pub report : reported (check_lines command.session.family texts messages rest rows)
 
 -- This much of the file was read, and the rest is left; that is why no more was.
 pub record IsCutShort (command : CheckCommand) (file : FileTold) (is_picked : Bool) (left : Option (List ℕ)) (stop : Stop) : Type 0 where
@@ -35,7 +35,7 @@ pub record IsCutShort (command : CheckCommand) (file : FileTold) (is_picked : Bo
   pub rest : List ℕ
   pub is_part : IsPartOf file read rest
   pub agrees : AgreesWithSite is_picked left read rest
-  pub cause : IsCause stop command.add_path command.extended read
+  pub cause : IsCause stop command.session read
 
 -- Some of the lines, from the front and each whole, and then the status line.
 abbrev pub AppendsLinesThenStatus : Option (List ℕ) → Option (List ℕ) → Type 0 → List ℕ → List (List ℕ) → Type 0

@@ -9,7 +9,7 @@ use Rattle.ug_types.specs.Attributes.{Attributes}
 use Rattle.ug_types.specs.Messages.{Message, Updates}
 use Rattle.ug_types.specs.declared.key.Key.{Key}
 use Rattle.ug_types.specs.declared.route.Path.{Path}
-use Rattle.ug_message.specs.Streams.{IsUpdate, says_nothing}
+use Rattle.ug_wire.specs.Streams.{says_nothing}
 use Rattle.ug_tables.specs.Tables.{Table, table_of, tables_after}
 use Rattle.ug_tables.specs.Climbing.{Follows}
 use Rattle.ug_rib.specs.World.{World}
@@ -73,7 +73,6 @@ IsOpening lost (m ∷ ms) = (m ≡ end_of_rib) × AllByRecursion (λ n. says_not
 pub record IsKept (lines : List Line) (sessions : Option (List (List ℕ))) (lost : Bool) : Type 0 where
   pub messages : List Message
   pub sent : HasSent sessions lost messages
-  pub updates : AllByRecursion IsUpdate messages
   pub opening : IsOpening lost messages
   pub follows : Follows (session_past lines) (tables_after messages)
 

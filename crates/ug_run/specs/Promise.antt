@@ -1,9 +1,11 @@
 -- What a run promises, for any number of peers and sessions.
 use Rattle.std.specs.Prelude.{◌≡◌, ℕ, ◌+◌, ◌≤◌, ◌⊎◌, ◌==◌, Bool, true, false, ◌&&◌, not, List, [], ◌∷◌, ◌++◌, length, map, filter, take, slice_get, Option, Some, None, if◌then◌else◌}
-use Rattle.std.specs.List.{concat, list_any, AllByRecursion}
+use Rattle.std.specs.List.{concat, list_any}
+use Rattle.ug_types.specs.declared.capabilities.Capabilities.{Capabilities}
+use Rattle.ug_types.specs.declared.family.Family.TheVariants.{V4}
 use Rattle.ug_types.specs.declared.key.Key.{Key}
 use Rattle.ug_types.specs.Messages.{Message}
-use Rattle.ug_message.specs.Streams.{IsSentForm, IsUpdate, says_nothing}
+use Rattle.ug_wire.specs.Streams.{IsSentForm, IsUpdate, says_nothing}
 use Rattle.ug_tables.specs.Tables.{Table, tables_after, table_of}
 use Rattle.ug_tables.specs.Climbing.{NeverBack}
 use Rattle.ug_edge.specs.Told.{AppendsPiece, FileTold, Untold, Missing, Bytes, WiresMade, AppendsNames}
@@ -87,6 +89,10 @@ abbrev pub is_extended : Option PeerState → Bool
 is_extended None = false
 is_extended (Some s) = s.peer.extended
 
+-- what a peer's sessions are opened with: IPv4 routes, and what the peer has beside them
+abbrev pub session_of : Option PeerState → Capabilities
+session_of s = record { family = V4; add_path = uses_add_path s; extended = is_extended s }
+
 -- how often a peer has come up
 abbrev pub times_up : Option PeerState → ℕ
 times_up None = 0
@@ -123,10 +129,11 @@ pub record HaveSessions (status : Status) (w : World) (wires : List WireTold) : 
   pub each : (p : ℕ) (wire : WireTold) (sessions : List (List ℕ)) → slice_get wires p ≡ Some wire → wire.sessions ≡ Some sessions → length sessions ≤ times_up (slice_get w.peers p)
   pub each_all : is_complete status ≡ true → (p : ℕ) (wire : WireTold) (sessions : List (List ℕ)) → slice_get wires p ≡ Some wire → wire.sessions ≡ Some sessions → length sessions ≡ times_up (slice_get w.peers p)
 
--- `messages`: each session is UPDATE messages as written, cut short only by a fault of its wire.
+-- `messages`: each session is UPDATE messages as written, and then at most a front of one more, which only a fault of
+-- its wire leaves.
 abbrev pub HaveMessages : World → ℕ → WireTold → List Content → Type 0
 HaveMessages w p wire contents =
-    EachSession (λ n bytes c. IsSentForm (uses_add_path (slice_get w.peers p)) (is_extended (slice_get w.peers p)) bytes c.messages c.rest × AllByRecursion IsUpdate c.messages) wire.sessions contents
+    EachSession (λ n bytes c. IsSentForm (session_of (slice_get w.peers p)) IsUpdate bytes c.messages c.rest) wire.sessions contents
     × (length (filter has_rest contents) ≤ wire.faults)
 
 -- `never_back`: after each message every route stands as the private table held it at some version of the session,

@@ -13,7 +13,7 @@ abbrev pub one_seen : OneWords → OneCommand
 one_seen c = record { events = c.events.now; dir = c.dir.now }
 
 abbrev pub check_seen : code.CheckWords → CheckCommand
-check_seen c = record { add_path = c.add_path; extended = c.extended; stream = c.stream.now }
+check_seen c = record { session = c.session; stream = c.stream.now }
 
 abbrev pub seen : commands.Command → Command
 seen (command.One c) = One (one_seen c)
@@ -23,4 +23,4 @@ abbrev pub command_seen : Option commands.Command → Option Command
 command_seen c = option_map seen c
 
 abbrev pub so_far_seen : CheckSoFar → CheckWords
-so_far_seen c = record { may_be_option = c.may_be_option; add_path = c.add_path; extended = c.extended; stream = option_map (λ (w : Bor (List ℕ)). w.now) c.stream }
+so_far_seen c = record { may_be_option = c.may_be_option; add_path = c.add_path; extended = c.extended; ipv6 = c.ipv6; stream = option_map (λ (w : Bor (List ℕ)). w.now) c.stream }

@@ -1,6 +1,8 @@
 -- Which words are a command.
 use Rattle.std.specs.Prelude.{ℕ, nat_lt, Bool, true, false, not, ◌&&◌, List, [], ◌∷◌, length, Option, Some, None, is_some, option_and_then, codes, if◌then◌else◌}
 use Rattle.std.specs.Option.{option_map}
+use Rattle.ug_types.specs.declared.capabilities.Capabilities.{Capabilities}
+use Rattle.ug_types.specs.declared.family.Family.TheVariants.{V4, V6}
 use Rattle.ug_event.specs.Bytes.{same_bytes, begins_with}
 
 -- a word of two bytes or more that begins with `-`
@@ -22,10 +24,9 @@ abbrev pub events_and_dir : List (List ℕ) → Option OneCommand
 events_and_dir (events ∷ dir ∷ []) = Some (record { events = events; dir = dir })
 events_and_dir _ = None
 
--- `check [--add-path] [--extended] STREAM`
+-- `check [--add-path] [--extended] [--ipv6] STREAM`: what the session was opened with, and the name of its file
 pub record CheckCommand : Type 0 where
-  pub add_path : Bool
-  pub extended : Bool
+  pub session : Capabilities
   pub stream : List ℕ
 
 -- What the words of `check` have said so far. Options may stand anywhere before a word `--`.
@@ -33,10 +34,11 @@ pub record CheckWords : Type 0 where
   pub may_be_option : Bool
   pub add_path : Bool
   pub extended : Bool
+  pub ipv6 : Bool
   pub stream : Option (List ℕ)
 
 abbrev pub no_words : CheckWords
-no_words = record { may_be_option = true; add_path = false; extended = false; stream = None }
+no_words = record { may_be_option = true; add_path = false; extended = false; ipv6 = false; stream = None }
 
 -- one stream, and no further word
 abbrev pub with_stream : List ℕ → CheckWords → Option CheckWords
@@ -46,7 +48,8 @@ with_stream word c = if is_some c.stream then None else Some (record c { stream 
 abbrev pub with_option : List ℕ → CheckWords → Option CheckWords
 with_option word c =
     if same_bytes word (codes "--add-path") then (if c.add_path then None else Some (record c { add_path = true }))
-    else (if same_bytes word (codes "--extended") then (if c.extended then None else Some (record c { extended = true })) else None)
+    else (if same_bytes word (codes "--extended") then (if c.extended then None else Some (record c { extended = true }))
+    else (if same_bytes word (codes "--ipv6") then (if c.ipv6 then None else Some (record c { ipv6 = true })) else None))
 
 abbrev pub with_word : List ℕ → CheckWords → Option CheckWords
 with_word word c =
@@ -57,8 +60,12 @@ unfoldable pub with_words : List (List ℕ) → CheckWords → Option CheckWords
 with_words [] c = Some c
 with_words (word ∷ words) c = option_and_then (with_words words) (with_word word c)
 
+-- the session that the options speak of
+abbrev pub session_said : CheckWords → Capabilities
+session_said c = record { family = if c.ipv6 then V6 else V4; add_path = c.add_path; extended = c.extended }
+
 abbrev pub check_command : CheckWords → Option CheckCommand
-check_command c = option_map (λ stream. record { add_path = c.add_path; extended = c.extended; stream = stream }) c.stream
+check_command c = option_map (λ stream. record { session = session_said c; stream = stream }) c.stream
 
 pub data Command : Type 0 where
   One : OneCommand → Command

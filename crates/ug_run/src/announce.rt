@@ -1,18 +1,19 @@
 //! What the speaker of `one` says of its own routes: three sets of attributes, one for each origin, withdrawals, and
 //! End-of-RIB.
 
-ghost use Rattle.std.specs.Prelude.{◌≡◌, ◌≤◌, false, Some, IfOk};
+ghost use Rattle.std.specs.Prelude.{◌≡◌, ◌≤◌, Some, IfOk};
 ghost use Rattle.std.specs.Coded.{Coded-set};
-ghost use Rattle.ug_message.specs.Texts.{written};
+ghost use Rattle.ug_types.specs.declared.family.Family.TheVariants.{V4};
+ghost use Rattle.ug_wire.specs.Texts.{written};
 ghost use Rattle.ug_rib.specs.One.{announced};
 ghost use Rattle.ug_run.specs.Course.{announces, withdraws, end_of_rib};
+ghost use Rattle.ug_run.specs.Sessions.{plain_ipv4};
 ghost use Rattle.ug_event.specs.Origins.{origin_number};
 
 use std::alloc::Global;
 use ug_event::Origin;
-use ug_message::written_within_limits;
 use ug_types::{Addr, AttrParts, Attrs, ByteList, Key, NoMemory, Prefix, Segment, Sequence};
-use ug_update::{write_eor, write_update, write_withdraw};
+use ug_wire_updates::{write_eor, write_update, write_withdraw};
 
 /// The attributes with which the peer is told of routes, by their origin.
 #[derive(Drop)]
@@ -52,37 +53,37 @@ impl Announcements {
         }
     }
 
-    /// The UPDATE that announces a prefix.
+    /// The UPDATE that announces an IPv4 prefix.
     pub fn message(
         &self,
         alloc: Global,
         prefix: Prefix,
         origin: Origin,
     ) -> Result<ByteList, NoMemory>
-        ensures { IfOk result (λ bytes. written false false (announces prefix (origin_number origin)) ≡ Some bytes.items) }
+        requires { prefix.family ≡ V4 }
+        ensures { IfOk result (λ bytes. written plain_ipv4 (announces prefix (origin_number origin)) ≡ Some bytes.items) }
     {
         let _len = prefix.len;
         let key = Key { prefix, id: 0 };
         let written = write_update(alloc, self.of(origin), &[key])?;
-        written_within_limits();
         Ok(written.bytes)
     }
 }
 
-/// The UPDATE that withdraws a prefix.
+/// The UPDATE that withdraws an IPv4 prefix.
 pub fn withdrawal(alloc: Global, prefix: Prefix) -> Result<ByteList, NoMemory>
-    ensures { IfOk result (λ bytes. written false false (withdraws prefix) ≡ Some bytes.items) }
+    requires { prefix.family ≡ V4 }
+    ensures { IfOk result (λ bytes. written plain_ipv4 (withdraws prefix) ≡ Some bytes.items) }
 {
     let _len = prefix.len;
     let key = Key { prefix, id: 0 };
     let bytes = write_withdraw(alloc, &[key])?;
-    written_within_limits();
     Ok(bytes)
 }
 
 /// End-of-RIB.
 pub fn end_of_rib(alloc: Global) -> Result<ByteList, NoMemory>
-    ensures { IfOk result (λ bytes. written false false end_of_rib ≡ Some bytes.items) }
+    ensures { IfOk result (λ bytes. written plain_ipv4 end_of_rib ≡ Some bytes.items) }
 {
     write_eor(alloc)
 }

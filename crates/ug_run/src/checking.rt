@@ -36,7 +36,7 @@ pub fn check<E: Site, K: Sink>(
         Ok(()) => {}
         Err(status) => return end(report, status),
     }
-    match ug_check::check(alloc, words.add_path, words.extended, site, report) {
+    match ug_check::check(alloc, words.session, site, report) {
         Ok(()) => end(report, Status::Ok),
         Err(Stop::Read) => end(report, Status::ReadFault),
         Err(Stop::Report) => end(report, Status::ReportFault),

@@ -108,7 +108,8 @@ impl<W: Wire> Run<W> {
                 self.tally.accept();
                 Ok(())
             }
-            Event::Withdraw { prefix } => {
+            Event::Withdraw(withdrawal) => {
+                let prefix = withdrawal.prefix;
                 if !self.speaker.has_paths(&prefix) {
                     return self.refuse(4, report);
                 }

@@ -42,8 +42,8 @@ pub struct Done<W: Wire> {
 /// Runs the command that the words are, the first of them its name.
 ///
 /// `one EVENTS DIR` reads the file EVENTS of the site, sends the session of its one peer into a wire that the site
-/// makes for DIR, and writes the report. `check [--add-path] [--extended] STREAM` reads the bytes of a session and
-/// reports what they leave at the receiver. Words that are no command are `Usage`, and leave the site unread.
+/// makes for DIR, and writes the report. `check [--add-path] [--extended] [--ipv6] STREAM` reads the bytes of a
+/// session and reports what they leave at the receiver. Words that are no command are `Usage`, and leave the site unread.
 /// `ReadFault`, `ReportFault` and `SiteFault` come only where that count of faults rose, `TooLong` only past a limit of
 /// the file, `Lost` only where the wire failed, and `Malformed` exactly where the stream's first fault is that one;
 /// want of memory can end a run at any point. The steps count nothing yet.

@@ -2,9 +2,10 @@
 
 ghost use Rattle.std.specs.Prelude.{◌≡◌, ◌+◌, ◌<◌, ◌≤◌, List, [], ◌∷◌, ◌++◌, take, drop, Some, Bool, true, false, OnOk, OnErr};
 ghost use Rattle.ug_types.specs.Messages.{Message};
-ghost use Rattle.ug_message.specs.Texts.{written};
+ghost use Rattle.ug_wire.specs.Streams.{IsUpdate};
+ghost use Rattle.ug_wire.specs.Texts.{written};
 ghost use Rattle.ug_edge.specs.Told.{Rose, SendsPiece, IsFresh};
-ghost use Rattle.ug_run.specs.Sessions.{HasSent, SendsFront, sent_messages};
+ghost use Rattle.ug_run.specs.Sessions.{plain_ipv4, HasSent, SendsFront, sent_messages};
 
 use ug_edge::{Failed, Wire};
 
@@ -34,10 +35,10 @@ impl<W: Wire> Session<W> {
         Session { wire, lost }
     }
 
-    /// Sends a message, unless the session is lost.
+    /// Sends an UPDATE, unless the session is lost.
     pub fn send(&mut self, message: &[u8])
         ensures stays_lost { self.old.lost ≡ true → self.new.lost ≡ true }
-        ensures sent { (messages : List Message) (m : Message) → written false false m ≡ Some message.now →
+        ensures sent { (messages : List Message) (m : Message) → IsUpdate m → written plain_ipv4 m ≡ Some message.now →
             HasSent (W.sessions self.old.wire) self.old.lost messages →
             HasSent (W.sessions self.new.wire) self.new.lost (sent_messages self.new.lost messages m) }
     {

@@ -1,12 +1,13 @@
 //! The speaker of `one`: its one peer's session, and the routes that it has.
 
 ghost use Rattle.std.specs.Prelude.{◌≡◌, ◌++◌, [], ◌∷◌, List, OnOk, OnErr, IfOk, Some, is_some, true, false};
-ghost use Rattle.ug_message.specs.Texts.{written};
+ghost use Rattle.ug_wire.specs.Texts.{written};
 ghost use Rattle.ug_edge.specs.Told.{IsFresh};
 ghost use Rattle.ug_types.specs.Messages.{Message};
+ghost use Rattle.ug_types.specs.declared.family.Family.TheVariants.{V4};
 ghost use Rattle.ug_event.specs.Events.{Line, Happened, Withdraw};
 ghost use Rattle.ug_event.specs.Origins.{origin_number};
-ghost use Rattle.ug_run.specs.Sessions.{HasSent, sent_messages};
+ghost use Rattle.ug_run.specs.Sessions.{plain_ipv4, HasSent, sent_messages};
 ghost use Rattle.ug_event.specs.Views.{paths_seen};
 ghost use Rattle.ug_run.specs.Course.{IsCourse, withdraws, told_once, end_of_rib as end_of_rib_message};
 ghost use Rattle.ug_run.specs.OriginMap.{origins_in};
@@ -24,7 +25,7 @@ use ug_types::{ByteList, NoMemory, Prefix};
 pub struct Prepared {
     announcements: Announcements,
     end_of_rib: ByteList,
-    ghost is_end_of_rib: { written false false end_of_rib_message ≡ Some end_of_rib.items },
+    ghost is_end_of_rib: { written plain_ipv4 end_of_rib_message ≡ Some end_of_rib.items },
 }
 
 /// A peer that is up, and the origin with which it was told of each prefix.
@@ -39,7 +40,7 @@ pub struct Speaker<W: Wire> {
 impl Prepared {
     /// Makes what the session needs.
     pub fn new(alloc: Global) -> Result<Prepared, NoMemory>
-        ensures { IfOk result (λ made. written false false end_of_rib_message ≡ Some made.end_of_rib.items) }
+        ensures { IfOk result (λ made. written plain_ipv4 end_of_rib_message ≡ Some made.end_of_rib.items) }
     {
         let announcements = Announcements::new(alloc)?;
         let end_of_rib = end_of_rib(alloc)?;
@@ -99,7 +100,8 @@ impl<W: Wire> Speaker<W> {
 
     /// The prefix has no path any more. The peer is told, unless its session is lost.
     pub fn withdraw(&mut self, prefix: Prefix) -> Result<(), NoMemory>
-        requires { is_some (origins_in ⟦<Prefix as Ord>⟧.cmp self.old.origins prefix) ≡ true }
+        requires known { is_some (origins_in ⟦<Prefix as Ord>⟧.cmp self.old.origins prefix) ≡ true }
+        requires is_ipv4 { prefix.family ≡ V4 }
         ensures ok { OnOk result ((lines : List Line) →
             IsCourse lines (W.sessions self.old.session.wire) self.old.session.lost (origins_in ⟦<Prefix as Ord>⟧.cmp self.old.origins) →
             IsCourse (lines ++ Happened (Withdraw prefix) ∷ []) (W.sessions self.new.session.wire) self.new.session.lost (origins_in ⟦<Prefix as Ord>⟧.cmp self.new.origins)) }

@@ -4,8 +4,10 @@ ghost use Rattle.std.specs.Prelude.{◌≡◌, [], ◌∷◌, map, option_and_th
 ghost use Rattle.std.specs.String.{string_bytes};
 ghost use Rattle.ug_event.specs.Bytes.{same_bytes};
 ghost use Rattle.std.specs.Option.{option_map};
-ghost use Rattle.ug_run.specs.Words.{is_option, command_of, check_of, events_and_dir, positional, with_word, with_option, with_stream};
+ghost use Rattle.ug_run.specs.Words.{is_option, command_of, check_of, events_and_dir, positional, with_word, with_option, with_stream, session_said};
 ghost use Rattle.ug_run.specs.WordViews.{command_seen, one_seen, check_seen, so_far_seen};
+
+use ug_types::{Capabilities, Family};
 
 /// `one EVENTS DIR`: the name of the events' file, and that of the folder for the wires.
 #[derive(Drop)]
@@ -14,11 +16,10 @@ pub struct OneWords<'a> {
     pub dir: &'a str,
 }
 
-/// `check [--add-path] [--extended] STREAM`: which options the session's messages have, and the name of its file.
+/// `check [--add-path] [--extended] [--ipv6] STREAM`: what the session was opened with, and the name of its file.
 #[derive(Drop)]
 pub struct CheckWords<'a> {
-    pub add_path: bool,
-    pub extended: bool,
+    pub session: Capabilities,
     pub stream: &'a str,
 }
 
@@ -53,6 +54,7 @@ struct CheckSoFar<'a> {
     may_be_option: bool,
     add_path: bool,
     extended: bool,
+    ipv6: bool,
     stream: Option<&'a str>,
 }
 
@@ -65,6 +67,7 @@ fn check_words(words: &[String]) -> Option<CheckWords<'_>>
         may_be_option: true,
         add_path: false,
         extended: false,
+        ipv6: false,
         stream: None,
     };
     for word in words {
@@ -72,13 +75,23 @@ fn check_words(words: &[String]) -> Option<CheckWords<'_>>
     }
     let stream = so_far.stream?;
     Some(CheckWords {
-        add_path: so_far.add_path,
-        extended: so_far.extended,
+        session: so_far.session(),
         stream,
     })
 }
 
 impl<'a> CheckSoFar<'a> {
+    /// The session that the options speak of.
+    fn session(self) -> Capabilities
+        ensures { result ≡ session_said (so_far_seen self.entry) }
+    {
+        Capabilities {
+            family: if self.ipv6 { Family::V6 } else { Family::V4 },
+            add_path: self.add_path,
+            extended: self.extended,
+        }
+    }
+
     fn with_word(self, word: &'a str) -> Option<CheckSoFar<'a>>
         ensures { option_map so_far_seen result ≡ with_word word.now (so_far_seen self.entry) }
     {
@@ -111,6 +124,9 @@ impl<'a> CheckSoFar<'a> {
                 extended: true,
                 ..self
             });
+        }
+        if word == "--ipv6" && !self.ipv6 {
+            return Some(CheckSoFar { ipv6: true, ..self });
         }
         None
     }

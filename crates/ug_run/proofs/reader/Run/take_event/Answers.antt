@@ -11,13 +11,13 @@ use Rattle.ug_run.proofs.reader.Run.take_event.Goals as goal
 pub returns-then-not-has_paths-clause-ok : goal.returns-then-not-has_paths-clause-ok
 returns-then-not-has_paths-clause-ok g c =
     OnOk-then c.refuse.result (λ f before lines h.
-    rw c.in-Withdraw.is (f before lines (Happened (Withdraw c.in-Withdraw.prefix)) (refuses_withdrawal lines c.in-Withdraw.prefix (origins_in prefix_ord.ghosts.cmp c.args.self.now.speaker.origins) (search rules) h.course.routes) h))
+    rw c.in-Withdraw.is (f before lines (Happened (Withdraw c.in-Withdraw.withdrawal.prefix)) (refuses_withdrawal lines c.in-Withdraw.withdrawal.prefix (origins_in prefix_ord.ghosts.cmp c.args.self.now.speaker.origins) (search rules) h.course.routes) h))
     c.refuse.ensures.ok
 
 pub returns-then-not-has_paths-clause-stopped : goal.returns-then-not-has_paths-clause-stopped
 returns-then-not-has_paths-clause-stopped g c =
     IfErr-then c.refuse.result (λ stop f before lines h.
-    rw c.in-Withdraw.is (f before lines (Happened (Withdraw c.in-Withdraw.prefix)) (refuses_withdrawal lines c.in-Withdraw.prefix (origins_in prefix_ord.ghosts.cmp c.args.self.now.speaker.origins) (search rules) h.course.routes) h))
+    rw c.in-Withdraw.is (f before lines (Happened (Withdraw c.in-Withdraw.withdrawal.prefix)) (refuses_withdrawal lines c.in-Withdraw.withdrawal.prefix (origins_in prefix_ord.ghosts.cmp c.args.self.now.speaker.origins) (search rules) h.course.routes) h))
     c.refuse.ensures.stopped
 
 pub returns-in_ok-take_paths-in-Paths-clause-ok : goal.returns-in_ok-take_paths-in-Paths-clause-ok
@@ -31,4 +31,4 @@ pub returns-in_ok-withdraw-in-Withdraw-clause-ok : goal.returns-in_ok-withdraw-i
 returns-in_ok-withdraw-in-Withdraw-clause-ok g c = λ before lines h.
     let origins = origins_in prefix_ord.ghosts.cmp c.args.self.now.speaker.origins in
     rw (c.in-Withdraw.is, c.accept-in-Withdraw.ensures.lines, c.accept-in-Withdraw.ensures.accepted, c.accept-in-Withdraw.ensures.refused)
-    (IsRun-accepted before lines (Happened (Withdraw c.in-Withdraw.prefix)) _ _ _ _ _ _ _ _ _ _ _ (accepts_withdrawal lines c.in-Withdraw.prefix origins (search rules) h.course.routes) h (c.in_ok-withdraw-in-Withdraw.ensures.ok lines h.course))
+    (IsRun-accepted before lines (Happened (Withdraw c.in-Withdraw.withdrawal.prefix)) _ _ _ _ _ _ _ _ _ _ _ (accepts_withdrawal lines c.in-Withdraw.withdrawal.prefix origins (search rules) h.course.routes) h (c.in_ok-withdraw-in-Withdraw.ensures.ok lines h.course))

@@ -29,4 +29,4 @@ returns-clause-ok g c = λ lines h.
     let step = origins_step c.args.self.now.origins c.insert.new.self p.prefix (Some p.origin) c.in_ok-before.ensures.updates.0 in
     IsCourse-sent lines (Happened (paths_seen p)) p.prefix (Some (origin_number p.origin)) _ _ _ _ old new
     (IsChange-paths lines p.prefix p.id p.next_hop (origin_number p.origin) old new step h.routes) c.send.ensures.stays_lost
-    (λ ms. c.send.ensures.sent ms (announces p.prefix (origin_number p.origin)) (rw c.as_slice.ensures c.in_ok-message.ensures)) h
+    (λ ms. c.send.ensures.sent ms (announces p.prefix (origin_number p.origin)) tt (rw c.as_slice.ensures c.in_ok-message.ensures)) h

@@ -13,5 +13,5 @@ returns-clause-ok g c = λ lines h.
     let new = origins_in prefix_ord.ghosts.cmp c.remove.new.self in
     let step = origins_step c.args.self.now.origins c.remove.new.self prefix None c.remove.ensures.updates.0 in
     IsCourse-sent lines (Happened (Withdraw prefix)) prefix None _ _ _ _ old new
-    (IsChange-withdraw lines prefix old new step c.requires h.routes) c.send.ensures.stays_lost
-    (λ ms. c.send.ensures.sent ms (withdraws prefix) (rw c.as_slice.ensures c.in_ok-message.ensures)) h
+    (IsChange-withdraw lines prefix old new step c.requires.known h.routes) c.send.ensures.stays_lost
+    (λ ms. c.send.ensures.sent ms (withdraws prefix) tt (rw c.as_slice.ensures c.in_ok-message.ensures)) h
