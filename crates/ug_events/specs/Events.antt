@@ -1,7 +1,8 @@
 -- Events, and the lines of a file that say them, as plain data.
 use Rattle.std.specs.Prelude.{◌≡◌, ℕ, ◌<◌, nat_lt, Bool, true, false, ◌&&◌, List, [], ◌∷◌, Option, Some, None, is_none}
 use Rattle.std.specs.List.{list_all}
-use Rattle.ug_types.specs.Ip.{IpPrefix}
+use Rattle.ug_types.specs.declared.family.Family.{Family}
+use Rattle.ug_types.specs.Ip.{IpPrefix, same_family}
 use Rattle.ug_types.specs.Attributes.{Attributes, refusal_of}
 use Rattle.ug_prefixlist.specs.declared.entry.ListEntry.{ListEntry}
 use Rattle.ug_prefixlist.specs.Lists.{list_refusal}
@@ -45,10 +46,18 @@ abbrev pub is_some_path : List GivenPath → Bool
 is_some_path [] = false
 is_some_path (g ∷ given) = true
 
--- What each event keeps: a prefix that has paths has at least one, and each is as above; the entries of a list are
+-- the next hop of each path is of that family
+abbrev pub has_next_hop_in : Family → GivenPath → Bool
+has_next_hop_in family g = same_family g.attrs.next_hop.family family
+
+abbrev pub have_next_hops_in : Family → List GivenPath → Bool
+have_next_hops_in family given = list_all (has_next_hop_in family) given
+
+-- What each event keeps: a prefix that has paths has at least one, each as above and with a next hop of the prefix's
+-- family; the entries of a list are
 -- ones that a prefix list is made of; each entry that a peer adds to its own list is good.
 abbrev pub IsEvent : Happening → Type 0
-IsEvent (HasPaths prefix paths) = (is_some_path paths ≡ true) × AreGiven paths
+IsEvent (HasPaths prefix paths) = (is_some_path paths ≡ true) × (AreGiven paths × (have_next_hops_in prefix.family paths ≡ true))
 IsEvent (HasEntries name entries) = list_refusal entries ≡ None
 IsEvent (SendsList peer request) = list_all (λ c. is_change c.action c.entry) request.entries ≡ true
 IsEvent (ComesUp peer) = Unit {0}

@@ -37,7 +37,8 @@ pub enum Event {
     Up { peer: Name },
     /// It goes down.
     Down { peer: Name },
-    /// The prefix has these paths, best first, in place of those before; there is at least one.
+    /// The prefix has these paths, best first, in place of those before; there is at least one, and their next hops are
+    /// of the prefix's family.
     Paths { prefix: Prefix, paths: GivenList },
     /// The prefix has no path any more.
     Withdraw { prefix: Prefix },

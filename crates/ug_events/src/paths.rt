@@ -1,7 +1,7 @@
 //! The paths of a `paths` line.
 
 ghost use Rattle.std.specs.Prelude.{◌≡◌, ◌<◌, true, length, IfOk, IfSome};
-ghost use Rattle.ug_events.specs.Events.{IsGiven, AreGiven, is_some_path};
+ghost use Rattle.ug_events.specs.Events.{IsGiven, AreGiven, is_some_path, have_next_hops_in};
 ghost use Rattle.ug_events.specs.Words.{words};
 ghost use Rattle.ug_events.specs.Paths.{runs, first_of, others_of, fields_of, path_of, paths_of};
 ghost use Rattle.ug_events.specs.Views.{Gives, fields_seen};
@@ -20,6 +20,7 @@ pub fn read_paths(alloc: Global, family: Family, rest: &[u8]) -> Result<GivenLis
     ensures read { Gives (λ list. list.items) result (paths_of family (words rest.now)) }
     ensures given { IfOk result (λ list. AreGiven list.items) }
     ensures some { IfOk result (λ list. is_some_path list.items ≡ true) }
+    ensures family { IfOk result (λ list. have_next_hops_in family list.items ≡ true) }
 {
     let (first, behind) = read_path(alloc, family, rest)?;
     let mut paths = Vec::new(alloc);
