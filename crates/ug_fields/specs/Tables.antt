@@ -8,10 +8,9 @@ use Rattle.std.specs.Str.{is_utf8}
 use Rattle.ug_types.specs.declared.family.Family.{Family}
 use Rattle.ug_types.specs.declared.family.Family.TheVariants.{V4, V6}
 use Rattle.ug_text.specs.Cutting.{same_bytes}
-use Rattle.ug_fields.specs.declared.kind.Kind.{Kind}
 use Rattle.ug_fields.specs.declared.kind.Need.{Need}
 use Rattle.ug_fields.specs.declared.kind.Need.TheVariants as needs
-use Rattle.ug_fields.specs.declared.kind.Row.{Row}
+use Rattle.ug_fields.specs.Rows.{FieldRow}
 use Rattle.ug_fields.specs.declared.given.Given.{Given}
 use Rattle.ug_fields.specs.declared.given.Given.TheVariants as givens
 use Rattle.ug_fields.specs.Reads.{Reads, Refusal, ◌>>=◌, refused, or_refused, each_read, no_document, missing, malformed, unknown_field}
@@ -30,9 +29,6 @@ pub record Entry : Type 0 where
   pub name : List ℕ
   pub given : Given
 
-abbrev pub name_of : Row → List ℕ
-name_of r = r.name.now
-
 -- what stands for a field that isn't there
 abbrev pub default_of : Need → Option Given
 default_of needs.Required = None
@@ -42,24 +38,24 @@ default_of needs.False = Some (givens.Flag false)
 default_of needs.Ipv4 = Some (givens.Family V4)
 
 -- a required field that is missing, and then a value that is of another kind
-abbrev pub given : Family → List ℕ → Row → Option Data → Reads Given
-given family way r None = or_refused missing (way ++ name_of r) (default_of r.need)
-given family way r (Some d) = or_refused malformed (way ++ name_of r) (value_as family r.kind d)
+abbrev pub given : Family → List ℕ → FieldRow → Option Data → Reads Given
+given family way r None = or_refused missing (way ++ r.name) (default_of r.need)
+given family way r (Some d) = or_refused malformed (way ++ r.name) (value_as family r.kind d)
 
-unfoldable pub entry : Family → List ℕ → Data → Row → Reads Entry
+unfoldable pub entry : Family → List ℕ → Data → FieldRow → Reads Entry
 entry family way d r = do
-  g ← given family way r (get (name_of r) d)
-  Ok (record { name = name_of r; given = g })
+  g ← given family way r (get (r.name) d)
+  Ok (record { name = r.name; given = g })
 
-abbrev pub is_row : List Row → List ℕ → Bool
-is_row rows name = list_any (λ r. same_bytes (name_of r) name) rows
+abbrev pub is_row : List FieldRow → List ℕ → Bool
+is_row rows name = list_any (λ (r : FieldRow). same_bytes r.name name) rows
 
 -- the first field, in the order of their bytes, that no row has
-abbrev pub unknown_in : List Row → Members → Option (List ℕ)
+abbrev pub unknown_in : List FieldRow → Members → Option (List ℕ)
 unknown_in rows no_members = None
 unknown_in rows (member name d members) = if is_row rows name then unknown_in rows members else Some name
 
-abbrev pub unknown : List Row → Option Members → Option (List ℕ)
+abbrev pub unknown : List FieldRow → Option Members → Option (List ℕ)
 unknown rows None = None
 unknown rows (Some members) = unknown_in rows members
 
@@ -68,7 +64,7 @@ where_known way entries None = Ok entries
 where_known way entries (Some name) = refused unknown_field (way ++ name)
 
 -- The fields in the order of the rows, and then those that no row has. The way leads to the table and ends in a point.
-abbrev pub fields : Family → List ℕ → List Row → Data → Reads (List Entry)
+unfoldable pub fields : Family → List ℕ → List FieldRow → Data → Reads (List Entry)
 fields family way rows d = do
   entries ← each_read (entry family way d) rows
   where_known way entries (unknown rows (as_table d))

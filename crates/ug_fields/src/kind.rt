@@ -1,5 +1,7 @@
 //! Which fields a table has.
 
+use std::marker::Model;
+
 /// What the value of a field has to be.
 #[derive(Clone, Copy, Debug, PartialEq, Eq)]
 pub enum Kind {
@@ -58,9 +60,17 @@ pub enum Need {
 }
 
 /// A field that a table may have.
-#[derive(Clone, Copy, Debug)]
+#[derive(Debug)]
 pub struct Row {
     pub name: &'static str,
     pub kind: Kind,
     pub need: Need,
+}
+
+impl Model for Row {
+    ghost use Rattle.ug_fields.specs.Rows.{FieldRow};
+
+    ghost Value = { FieldRow };
+
+    ghost view = { λ r. record { name = r.name.now; kind = r.kind; need = r.need } };
 }

@@ -17,6 +17,7 @@ use std::alloc::Global;
 use toml::{Table, Value};
 use ug_types::Family;
 
+#[tactic(auto, unfolding(crate::specs::Tables::fields))]
 /// The fields of a table in the order of the rows: 2 a required one is missing, 3 one is of another kind, out of range
 /// or malformed; and then 4 there is one that no row has. The way leads to the table and ends in a point.
 pub fn read_table(

@@ -1,0 +1,81 @@
+//! Entries of prefix lists.
+
+ghost use Rattle.std.specs.Prelude.{◌≡◌};
+ghost use Rattle.toml.specs.View.{view};
+ghost use Rattle.ug_prefixlist.specs.Lists.{is_bound, are_ordered, is_good};
+ghost use Rattle.ug_fields.specs.Gives.{Gives};
+ghost use Rattle.ug_config.specs.Readings.{list_entry, list_entry_of, where_good, last_bound};
+
+use crate::local::{flag, number, prefix};
+use crate::rows::list_entry_fields;
+use std::alloc::Global;
+use toml::Value;
+use ug_fields::{ConfigRefusal, Field, TableReader, octet_at, refusal};
+use ug_prefixlist::ListEntry;
+use ug_types::Family;
+
+/// The entries of a prefix list.
+pub struct ListEntries;
+
+impl TableReader for ListEntries {
+    type Item = ListEntry;
+
+    ghost reading = { list_entry };
+
+    #[tactic(auto, unfolding(crate::specs::Readings::list_entry))]
+    fn read(alloc: Global, way: &str, table: &Value) -> Result<ListEntry, ConfigRefusal> {
+        let fields = list_entry_fields(alloc, way, table)?;
+        where_good(alloc, way, list_entry_of(fields.as_slice()))
+    }
+}
+
+fn list_entry_of(fields: &[Field]) -> ListEntry
+    ensures { result ≡ list_entry_of fields.now }
+{
+    ListEntry {
+        seq: number(fields, "seq"),
+        permit: flag(fields, "action"),
+        prefix: prefix(fields, "prefix"),
+        ge: octet_at(fields, "ge"),
+        le: octet_at(fields, "le"),
+    }
+}
+
+/// An entry that is good: 3 at its last bound where it isn't.
+fn where_good(alloc: Global, way: &str, entry: ListEntry) -> Result<ListEntry, ConfigRefusal>
+    ensures { Gives result (where_good way.now entry) }
+{
+    if is_good(&entry) {
+        return Ok(entry);
+    }
+    let name = if entry.le.is_some() { "le" } else { "ge" };
+    Err(refusal(alloc, 3, way, name))
+}
+
+fn is_good(entry: &ListEntry) -> bool
+    ensures { result ≡ is_good entry.now }
+{
+    let len = entry.prefix.len;
+    entry.prefix.family == Family::V4
+        && is_bound(len, entry.ge)
+        && is_bound(len, entry.le)
+        && are_ordered(entry.ge, entry.le)
+}
+
+fn is_bound(len: u8, bound: Option<u8>) -> bool
+    ensures { result ≡ is_bound len bound }
+{
+    match bound {
+        None => true,
+        Some(bound) => len <= bound && bound <= 32,
+    }
+}
+
+fn are_ordered(ge: Option<u8>, le: Option<u8>) -> bool
+    ensures { result ≡ are_ordered ge le }
+{
+    match (ge, le) {
+        (Some(ge), Some(le)) => ge <= le,
+        _ => true,
+    }
+}

@@ -1,0 +1,57 @@
+//! Peers.
+
+ghost use Rattle.std.specs.Prelude.{◌≡◌, IfOk};
+ghost use Rattle.toml.specs.View.{view};
+ghost use Rattle.ug_fields.specs.Gives.{Gives};
+ghost use Rattle.ug_config.specs.Readings.{peer, peer_of};
+
+use crate::local::{address, flag, number, prefix};
+use crate::named::own_name;
+use crate::rows::peer_fields;
+use std::alloc::Global;
+use toml::Value;
+use ug_fields::{ConfigRefusal, Field, TableReader, family_at, name_at};
+use ug_outbound::Peer;
+use ug_types::{Family, Name, NoMemory};
+
+/// The peers.
+pub struct Peers;
+
+impl TableReader for Peers {
+    type Item = Peer;
+
+    ghost reading = { peer };
+
+    #[tactic(auto, unfolding(crate::specs::Readings::peer))]
+    fn read(alloc: Global, way: &str, table: &Value) -> Result<Peer, ConfigRefusal> {
+        let family = family_at(table);
+        let fields = peer_fields(alloc, family, way, table)?;
+        let name = own_name(alloc, way, fields.as_slice())?;
+        let peer = peer_of(alloc, family, fields.as_slice(), name)?;
+        Ok(peer)
+    }
+}
+
+fn peer_of(alloc: Global, family: Family, fields: &[Field], name: Name) -> Result<Peer, NoMemory>
+    ensures { IfOk result (λ peer. peer ≡ peer_of family fields.now name) }
+{
+    Ok(Peer {
+        name,
+        asn: number(fields, "as"),
+        router_id: address(fields, "router_id"),
+        family,
+        address: address(fields, "address"),
+        local_address: address(fields, "local_address"),
+        subnet: prefix(fields, "subnet"),
+        policy: name_at(alloc, fields, "policy")?,
+        client: flag(fields, "client"),
+        next_hop_self: flag(fields, "next_hop_self"),
+        as_override: flag(fields, "as_override"),
+        remove_private_as: flag(fields, "remove_private_as"),
+        send_community: flag(fields, "send_community"),
+        add_path: flag(fields, "add_path"),
+        extended: flag(fields, "extended"),
+        enhanced_refresh: flag(fields, "enhanced_refresh"),
+        orf: flag(fields, "orf"),
+    })
+}
