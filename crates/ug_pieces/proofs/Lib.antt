@@ -1,1 +1,3 @@
+pub mod LineCuts
+pub mod LineReads
 pub mod PieceSteps
