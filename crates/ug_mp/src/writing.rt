@@ -1,11 +1,13 @@
 ghost use Rattle.std.specs.Prelude.{◌≡◌, ◌+◌, ◌<◌, ◌≤◌, ◌++◌, true, [], Some, length, take, drop, IfOk};
 ghost use Rattle.std.specs.Int.{w16, to_be_bytes};
+ghost use Rattle.std.specs.List.{splice};
+ghost use Rattle.ug_types.specs.Ip.{IpAddress};
 ghost use Rattle.ug_types.specs.declared.capabilities.Capabilities as sessions;
 ghost use Rattle.ug_types.specs.declared.family.Family.TheVariants.{V6};
 ghost use Rattle.ug_types.specs.Messages.{Updates};
 ghost use Rattle.ug_types.specs.Sessions.{message_limit};
 ghost use Rattle.ug_wire.specs.Spelling.{sixteen_bytes};
-ghost use Rattle.ug_wire.specs.Spellable.{has_ipv4_addresses, are_of_family};
+ghost use Rattle.ug_wire.specs.Spellable.{has_ipv4_addresses, are_of_family, is_address};
 ghost use Rattle.ug_wire.specs.Texts.{written};
 ghost use Rattle.ug_wire_updates.specs.Updates.{AreAlike, IsSessionOf, withdrawing, announcing, IsMessageSize, header};
 ghost use Rattle.ug_mp.specs.Sizes.{withdrawal_size, announcement_size, next_hop_place};
@@ -32,6 +34,9 @@ pub fn write_update6(alloc: Global, attrs: &Attrs, keys: &[Key]) -> Result<Writt
         written c (Updates (announcing attrs.now keys.now)) ≡ Some w.bytes.items) }
     ensures size { IfOk result (λ w. length w.bytes.items ≡ announcement_size attrs.now keys.now) }
     ensures place { IfOk result (λ w. w.place ≡ next_hop_place attrs.now keys.now) }
+    // Whatever IPv6 address is put there, it is the text with that next hop.
+    ensures rewritten { IfOk result (λ w. (c : sessions.Capabilities) → (hop : IpAddress) → IsSessionOf V6 keys.now c → announcement_size attrs.now keys.now ≤ message_limit c →
+        is_address V6 hop ≡ true → written c (Updates (announcing (record attrs.now { next_hop = hop }) keys.now)) ≡ Some (splice w.bytes.items w.place (w.place + 16) (sixteen_bytes hop))) }
     ensures next_hop { IfOk result (λ w. take 16 (drop w.place w.bytes.items) ≡ sixteen_bytes attrs.now.next_hop) }
 {
     let routes = routes_size(keys);

@@ -2,3 +2,4 @@ pub mod Texts
 pub mod RouteFaults
 pub mod Goes
 pub mod FromStart
+pub mod NextHops

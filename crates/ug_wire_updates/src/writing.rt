@@ -1,12 +1,13 @@
 ghost use Rattle.std.specs.Prelude.{◌≡◌, ◌+◌, ◌<◌, ◌≤◌, ◌++◌, true, [], Some, length, OnOk, IfOk};
-ghost use Rattle.std.specs.List.{list_all};
+ghost use Rattle.std.specs.List.{list_all, splice};
+ghost use Rattle.ug_types.specs.Ip.{IpAddress};
 ghost use Rattle.std.specs.Int.{w16, to_be_bytes};
 ghost use Rattle.ug_types.specs.declared.capabilities.Capabilities as sessions;
 ghost use Rattle.ug_types.specs.declared.family.Family.TheVariants.{V4};
 ghost use Rattle.ug_types.specs.Messages.{Updates};
 ghost use Rattle.ug_types.specs.Sessions.{message_limit};
-ghost use Rattle.ug_wire.specs.Spelling.{next_hop_place};
-ghost use Rattle.ug_wire.specs.Spellable.{is_ipv4, has_ipv4_addresses, are_of_family};
+ghost use Rattle.ug_wire.specs.Spelling.{next_hop_place, four_bytes};
+ghost use Rattle.ug_wire.specs.Spellable.{is_ipv4, has_ipv4_addresses, are_of_family, is_address};
 ghost use Rattle.ug_wire.specs.Texts.{written, attributes_place};
 ghost use Rattle.ug_wire_updates.specs.Updates.{AreAlike, IsSessionOf, is_own, withdrawing, announcing, weight_of_all, withdrawal_size, announcement_size, IsMessageSize, own_routes, header};
 
@@ -28,6 +29,9 @@ pub fn write_update(alloc: Global, attrs: &Attrs, keys: &[Key]) -> Result<Writte
         written c (Updates (announcing attrs.now keys.now)) ≡ Some w.bytes.items) }
     ensures size { IfOk result (λ w. length w.bytes.items ≡ announcement_size attrs.now keys.now) }
     ensures place { IfOk result (λ w. w.place ≡ attributes_place + next_hop_place attrs.now) }
+    // Whatever IPv4 address is put there, it is the text with that next hop.
+    ensures rewritten { IfOk result (λ w. (c : sessions.Capabilities) → (hop : IpAddress) → IsSessionOf V4 keys.now c → announcement_size attrs.now keys.now ≤ message_limit c →
+        is_address V4 hop ≡ true → written c (Updates (announcing (record attrs.now { next_hop = hop }) keys.now)) ≡ Some (splice w.bytes.items w.place (w.place + 4) (four_bytes hop))) }
 {
     let attrs_size = size_of(attrs);
     let mut bytes = start(alloc, 23 + (attrs_size + routes_size(keys)))?;

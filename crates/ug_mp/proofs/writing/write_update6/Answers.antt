@@ -10,6 +10,7 @@ use Rattle.ug_wire.proofs.ShortValues.{short_but_next_hop}
 use Rattle.ug_wire_updates.specs.Updates.{own_routes}
 use Rattle.ug_wire_updates.proofs.Texts.{written_announcing}
 use Rattle.ug_mp.proofs.Texts.{ipv6_announcement, announcement_length, next_hop_there}
+use Rattle.ug_mp.proofs.NextHops.{rewritten}
 use Rattle.ug_mp.proofs.writing.write_update6.Goals as goal
 
 pub size_but_next_hop-requires : goal.size_but_next_hop-requires
@@ -48,3 +49,17 @@ returns-clause-next_hop c =
     let place : ℕ = 23 + (length (attributes_but_next_hop attrs) + reach_place (length routes)) in
     let placed : c.in_ok-place.place ≡ place = grind (arith, common_steps, weighed) in
     ap (λ (n : ℕ). take 16 (drop n items)) placed ∙ next_hop_there attrs routes items (grind (arith, common_steps))
+
+pub returns-clause-rewritten : goal.returns-clause-rewritten
+returns-clause-rewritten c = λ session hop is_session le is_hop.
+    let attrs = c.args.attrs.now in
+    let spelled = subst (λ (f : Family). can_be_spelled f attrs ≡ true) c.requires.next_hop (c.in_ok-write_but_next_hop.ensures.formed c.requires.addresses) in
+    let routes = own_routes c.args.keys.now in
+    let items = c.write_routes.new.out.items in
+    let weighed = sym c.routes_size-routes.ensures.length ∙ c.routes_size-routes.ensures.weight in
+    let is = ipv6_announcement attrs routes items (grind (arith, common_steps)) in
+    let size = announcement_length attrs routes items is ∙ ap (λ (n : ℕ). 23 + (length (attributes_but_next_hop attrs) + size_around (21 + n))) weighed in
+    let place : ℕ = 23 + (length (attributes_but_next_hop attrs) + reach_place (length routes)) in
+    let placed : c.in_ok-place.place ≡ place = grind (arith, common_steps, weighed) in
+    rewritten attrs c.args.keys.now hop items c.in_ok-place.place c.requires.some c.requires.alike c.requires.family c.in_ok-write_routes.ensures.formed spelled is_hop is placed session is_session
+    (subst (λ (n : ℕ). n ≤ message_limit session) (sym size) le)
