@@ -21,3 +21,6 @@ pub use read::read_setup;
 pub use rule::Rule;
 pub use setup::Setup;
 pub use ug_fields::ConfigRefusal;
+
+#[cfg(test)]
+mod tests;
