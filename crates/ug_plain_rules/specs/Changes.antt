@@ -1,0 +1,71 @@
+-- What a peer is sent: for an event the messages that change its table, and when it comes up the whole table.
+use Rattle.std.specs.Prelude.{ℕ, Bool, true, false, ◌&&◌, List, [], ◌∷◌, ◌++◌, map, filter, Option, is_some, is_none}
+use Rattle.std.specs.List.{flat_map}
+use Rattle.std.proofs.Common.{inl, inr}
+use Rattle.ug_types.specs.Ip.{IpPrefix}
+use Rattle.ug_types.specs.declared.key.Key.{Key}
+use Rattle.ug_types.specs.declared.route.Path.{Path}
+use Rattle.ug_types.specs.Attributes.{Attributes}
+use Rattle.ug_types.specs.Messages.{Message, Begins, Ends}
+use Rattle.ug_tables.specs.Tables.{Table}
+use Rattle.ug_tables.specs.Decisions.{decided_option, decided_attributes}
+use Rattle.ug_outbound.specs.declared.peer.Peer.{Peer}
+use Rattle.ug_events.specs.Events.{Happening, ComesUp, GoesDown, HasPaths, HasNone, HasPolicy, HasEntries, AsksAgain, SendsRequest, SendsList}
+use Rattle.ug_world.specs.declared.peer_state.PeerState.{PeerState}
+use Rattle.ug_world.specs.World.{Routes, World, paths_to}
+use Rattle.ug_world.specs.Private.{private_table}
+use Rattle.ug_world.specs.Touches.{is_about}
+use Rattle.ug_speaker.specs.Speech.{capabilities_of, is_request}
+use Rattle.ug_plain_rules.specs.Packing.{withdrawing, withdrawals, announcements}
+
+-- the keys under which the paths to a prefix can stand: identifier 0, or with ADD-PATH their own (RFC 7911)
+abbrev pub keys_to : Bool → IpPrefix → List Path → List Key
+keys_to false prefix paths = record { prefix = prefix; id = 0 } ∷ []
+keys_to true prefix paths = map (λ (path : Path). record { prefix = prefix; id = path.id }) paths
+
+abbrev pub keys_of : Bool → Routes → List Key
+keys_of add_path routes = flat_map (λ (r : IpPrefix × List Path). keys_to add_path r.0 r.1) routes
+
+-- The keys of a world that an event can change: those of its prefix, and of any other event all.
+abbrev pub keys_at : Happening → Bool → World → List Key
+keys_at (HasPaths prefix paths) add_path w = keys_to add_path prefix (paths_to w.routes prefix)
+keys_at (HasNone prefix) add_path w = keys_to add_path prefix (paths_to w.routes prefix)
+keys_at (ComesUp name) add_path w = keys_of add_path w.routes
+keys_at (GoesDown name) add_path w = keys_of add_path w.routes
+keys_at (HasPolicy name policy) add_path w = keys_of add_path w.routes
+keys_at (HasEntries name entries) add_path w = keys_of add_path w.routes
+keys_at (AsksAgain name) add_path w = keys_of add_path w.routes
+keys_at (SendsRequest name) add_path w = keys_of add_path w.routes
+keys_at (SendsList name request) add_path w = keys_of add_path w.routes
+
+-- The route was there, and is no more.
+abbrev pub is_gone : Table → Table → Key → Bool
+is_gone old new key = is_some (old key) && is_none (new key)
+
+abbrev pub differ : Option Attributes → Option Attributes → Bool
+differ a b = elim (decided_option decided_attributes a b) [ inl same ↦ false | inr other ↦ true ]
+
+-- There is a route, and it was another one or none.
+abbrev pub is_new : Table → Table → Key → Bool
+is_new old new key = is_some (new key) && differ (old key) (new key)
+
+-- between the begin and the end of a refresh, with enhanced refresh (RFC 7313 section 4)
+abbrev pub in_marks : Bool → List Message → List Message
+in_marks true messages = Begins ∷ messages ++ Ends ∷ []
+in_marks false messages = messages
+
+-- Withdrawals first, then what is new; and for a peer that asked, again each route that there is.
+abbrev pub messages_by : Bool → Peer → Table → Table → List Key → List Key → List Message
+messages_by false peer old new before now =
+    withdrawals (capabilities_of peer) (filter (is_gone old new) before) ++ announcements (capabilities_of peer) new (filter (is_new old new) now)
+messages_by true peer old new before now =
+    in_marks peer.enhanced_refresh (withdrawals (capabilities_of peer) (filter (is_gone old new) before) ++ announcements (capabilities_of peer) new now)
+
+-- what the peer at a place is sent for an event that led from one world to the other
+unfoldable pub changes : Happening → ℕ → PeerState → World → World → List Message
+changes e p s old new =
+    messages_by (is_request e && is_about e s) s.peer (private_table p old) (private_table p new) (keys_at e s.peer.add_path old) (keys_at e s.peer.add_path new)
+
+-- what it is sent when it comes up: each route, and then End-of-RIB (RFC 4724 section 2)
+unfoldable pub whole : ℕ → PeerState → World → List Message
+whole p s w = announcements (capabilities_of s.peer) (private_table p w) (keys_of s.peer.add_path w.routes) ++ withdrawing [] ∷ []
