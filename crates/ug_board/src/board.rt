@@ -175,7 +175,8 @@ impl<M: Machine> Board<M> {
         ensures history { result.items ≡ self.history }
         ensures legal { IsLegal M.rules self.opening self.history }
     {
-        self.history
+        let Board { history, .. } = self;
+        history
     }
 }
 
