@@ -1,14 +1,15 @@
 //! What p1 is to be sent over events, message by message.
 
-ghost use Rattle.std.specs.Prelude.{◌≤◌, length};
+ghost use Rattle.std.specs.Prelude.{◌≡◌};
 ghost use Rattle.ug_types.specs.Attributes.{attributes_of};
-ghost use Rattle.ug_types.specs.Spelling.{attributes};
+ghost use Rattle.ug_types.specs.declared.family.Family.TheVariants.{V4};
+ghost use Rattle.ug_rib.specs.Given.{IsOwn};
 
 use std::alloc::Global;
 use ug_event::Event;
 use ug_rib::{prefix_of, told};
 use ug_types::{AttrParts, Attrs, ByteList, Key, NoMemory, Prefix};
-use ug_update::{write_eor, write_update, write_withdraw};
+use ug_wire_updates::{write_eor, write_update, write_withdraw};
 
 /// End-of-RIB, and then for each event a message for each prefix of which the table changes at it.
 pub fn expected_stream(alloc: Global, events: &[Event]) -> Result<ByteList, NoMemory> {
@@ -52,7 +53,9 @@ fn add_change(
     prefix: Prefix,
     before: &[Event],
     after: &[Event],
-) -> Result<(), NoMemory> {
+) -> Result<(), NoMemory>
+    requires { prefix.family ≡ V4 }
+{
     let key = Key { prefix, id: 0 };
     let old = told(alloc, before, &key)?;
     let new = told(alloc, after, &key)?;
@@ -65,14 +68,15 @@ fn add_change(
     }
 }
 
-/// Adds the UPDATE that announces a prefix.
+/// Adds the UPDATE that announces an IPv4 prefix.
 fn add_update(
     alloc: Global,
     bytes: &mut ByteList,
     parts: AttrParts,
     prefix: Prefix,
 ) -> Result<(), NoMemory>
-    requires { length (attributes (attributes_of parts)) ≤ 20 }
+    requires own { IsOwn (attributes_of parts) }
+    requires is_ipv4 { prefix.family ≡ V4 }
 {
     let _len = prefix.len;
     match Attrs::received(parts) {
@@ -84,8 +88,10 @@ fn add_update(
     }
 }
 
-/// Adds the UPDATE that withdraws a prefix.
-fn add_withdrawal(alloc: Global, bytes: &mut ByteList, prefix: Prefix) -> Result<(), NoMemory> {
+/// Adds the UPDATE that withdraws an IPv4 prefix.
+fn add_withdrawal(alloc: Global, bytes: &mut ByteList, prefix: Prefix) -> Result<(), NoMemory>
+    requires { prefix.family ≡ V4 }
+{
     let _len = prefix.len;
     let message = write_withdraw(alloc, &[Key { prefix, id: 0 }])?;
     bytes.extend_from_slice(message.as_slice())

@@ -11,6 +11,8 @@ const ADD_PATH: &[&str] = &["check", "--add-path", "e"];
 
 const EXTENDED: &[&str] = &["check", "e", "--extended"];
 
+const IPV6: &[&str] = &["check", "e", "--ipv6"];
+
 const END_OF_RIB: &[u8] = &[0, 0x17, 2, 0, 0, 0, 0];
 
 /// 10.0.0.0/8, with an AS_PATH of 65001 and the next hop 192.0.2.1.
@@ -35,6 +37,19 @@ const TEN_BOTH: &[u8] = &[
     4, 0xC0, 0, 2, 1, 8, 10,
 ];
 
+const IPV6_END_OF_RIB: &[u8] = &[0, 0x1D, 2, 0, 0, 0, 6, 0x80, 15, 3, 0, 2, 1];
+
+/// 2001:db8:a::/48, with an AS_PATH of 65001 and the next hop 2001:db8::1.
+const IPV6_TOLD: &[u8] = &[
+    0, 0x43, 2, 0, 0, 0, 0x2C, 0x40, 1, 1, 0, 0x40, 2, 6, 2, 1, 0, 0, 0xFD, 0xE9, 0x80, 14, 0x1C,
+    0, 2, 1, 0x10, 0x20, 1, 0x0D, 0xB8, 0, 0, 0, 0, 0, 0, 0, 0, 0, 0, 0, 1, 0, 0x30, 0x20, 1, 0x0D,
+    0xB8, 0, 10,
+];
+
+const IPV6_GONE: &[u8] = &[
+    0, 0x24, 2, 0, 0, 0, 0x0D, 0x80, 15, 10, 0, 2, 1, 0x30, 0x20, 1, 0x0D, 0xB8, 0, 10,
+];
+
 const BEGIN: &[u8] = &[0, 0x17, 5, 0, 1, 1, 1];
 
 const END: &[u8] = &[0, 0x17, 5, 0, 1, 2, 1];
@@ -42,7 +57,7 @@ const END: &[u8] = &[0, 0x17, 5, 0, 1, 2, 1];
 const TEN_ROW: &str = "10.0.0.0/8 id=0 nh=192.0.2.1 origin=igp as=65001\n";
 
 /// The words, the stream, and how the check ends.
-const CHECKED: [(&[&str], Stream, u8, &str); 34] = [
+const CHECKED: [(&[&str], Stream, u8, &str); 38] = [
     (CHECK, &[], 0, "messages 0 eors 0 rows 0 rest 0\n"),
     (CHECK, &[&[0, 0x12, 2]], 9, "status 9 malformed 2 16\n"),
     (CHECK, &[&[0x10, 1, 2]], 9, "status 9 malformed 2 16\n"),
@@ -217,6 +232,20 @@ const CHECKED: [(&[&str], Stream, u8, &str); 34] = [
         9,
         "status 9 malformed 2 16\n",
     ),
+    (
+        IPV6,
+        &[IPV6_END_OF_RIB, IPV6_TOLD],
+        0,
+        "2001:db8:a:0:0:0:0:0/48 id=0 nh=2001:db8:0:0:0:0:0:1 origin=igp as=65001\nmessages 2 eors 1 rows 1 rest 0\n",
+    ),
+    (
+        IPV6,
+        &[IPV6_TOLD, IPV6_GONE, IPV6_END_OF_RIB],
+        0,
+        "messages 3 eors 1 rows 0 rest 0\n",
+    ),
+    (IPV6, &[TEN_GONE], 9, "status 9 malformed 9 0\n"),
+    (IPV6, &[END_OF_RIB], 0, "messages 1 eors 0 rows 0 rest 0\n"),
 ];
 
 fn bytes_in(alloc: Global, stream: &[&[u8]]) -> Result<Vec<u8>, NoMemory> {
@@ -271,21 +300,23 @@ fn markers(rt: HostRuntime) -> Result<(), Fail> {
 }
 
 /// Words that are no command, and words that are one, of a stream named `e` or `--add-path`.
-const NO_CHECKS: [&[&str]; 9] = [
+const NO_CHECKS: [&[&str]; 10] = [
     &["check"],
     &["check", "e", "f"],
     &["check", "--add-path"],
     &["check", "--add-path", "--add-path", "e"],
     &["check", "--extended", "e", "--extended"],
+    &["check", "--ipv6", "--ipv6", "e"],
     &["check", "--workers", "e"],
     &["check", "-x", "e"],
     &["check", "--", "e", "f"],
     &["check", "--help"],
 ];
 
-const CHECKS: [(&[&str], &str); 6] = [
+const CHECKS: [(&[&str], &str); 7] = [
     (&["check", "--add-path", "--extended", "e"], "e"),
     (&["check", "--extended", "e", "--add-path"], "e"),
+    (&["check", "--ipv6", "--add-path", "e", "--extended"], "e"),
     (&["check", "--", "e"], "e"),
     (&["check", "e", "--"], "e"),
     (&["check", "--", "--add-path"], "--add-path"),
