@@ -103,9 +103,9 @@ abbrev pub after_lane_step : LaneStep → Count → Count
 after_lane_step (Next peer) count = with_side peer (next_side (side_of peer count) count) count
 after_lane_step (Lost peer session) count = with_side peer (side_lost (side_of peer count)) count
 
--- the loss of the live session may be noted
+-- the loss of the live session may be noted, until the counter is closed
 abbrev pub loss_legal : ℕ → ℕ → Count → Bool
-loss_legal peer session count = (side_of peer count).live && ((side_of peer count).begun == session)
+loss_legal peer session count = not count.closed && ((side_of peer count).live && ((side_of peer count).begun == session))
 
 -- A packet's bytes: its number, cut to a byte, a hundred times over.
 abbrev pub packet : ℕ → List ℕ

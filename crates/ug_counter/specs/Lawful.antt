@@ -1,6 +1,6 @@
 -- The rules of a counter keep what a machine keeps.
 use Rattle.std.proofs.Common.{◌≡◌, ℕ, suc, zero, ◌+◌, ◌-◌, ◌*◌, ◌<◌, ◌≤◌, Bool, true, false, length, refl, sym, ◌∙◌, ap, subst, arith}
-use Rattle.std.specs.Prelude.{◌==◌, ◌&&◌, ◌%◌, nat_lt, replicate, if◌then◌else◌}
+use Rattle.std.specs.Prelude.{◌==◌, ◌&&◌, not, ◌%◌, nat_lt, replicate, if◌then◌else◌}
 use Rattle.std.proofs.lemmas.List.{length-replicate}
 use Rattle.std.proofs.lemmas.Bool.Decides.{nat_tests}
 use Rattle.ug_board.specs.declared.steps.LaneStep.{LaneStep}
@@ -94,7 +94,7 @@ hands_is_one zero count may = omega arith
 hands_is_one (suc zero) count may = omega arith
 hands_is_one (suc (suc p)) count may = cc
 
-loses_is_one : (p session : ℕ) (count : Count) → loss_legal p session count ≡ true → p < 2
+loses_is_one : (p session : ℕ) (count : Count) → ((side_of p count).live && ((side_of p count).begun == session)) ≡ true → p < 2
 loses_is_one zero session count may = omega arith
 loses_is_one (suc zero) session count may = omega arith
 loses_is_one (suc (suc p)) session count may = cc
@@ -138,7 +138,8 @@ next_due false false peer count begin hand more =
 due_falls : (step : LaneStep) (count : Count) → counts counter_rules step count ≡ true → count_due (after_lane_step step count) < count_due count
 due_falls (Next peer) count more = next_due (can_begin (side_of peer count)) (can_hand count.packets (side_of peer count)) peer count refl refl more
 due_falls (Lost peer session) count may =
-    due-with peer (side_lost (side_of peer count)) count (loses_is_one peer session count may) (lost_due count.packets session (side_of peer count) may)
+    let live = and_second (not count.closed) ((side_of peer count).live && ((side_of peer count).begun == session)) may in
+    due-with peer (side_lost (side_of peer count)) count (loses_is_one peer session count live) (lost_due count.packets session (side_of peer count) live)
 
 none : (opening peer : ℕ) → (side_of peer (fresh_count opening)).begun ≡ 0
 none opening zero = refl

@@ -112,7 +112,7 @@ impl Machine for Counter {
 
     fn may_lose(&self, peer: PeerId, session: u32) -> bool {
         let side = side_at(&self.count, peer);
-        side.live && side.begun == session
+        !self.count.closed && side.live && side.begun == session
     }
 
     fn lane(&mut self, step: LaneStep, buf: &mut [u8]) -> LaneSaid {
