@@ -42,3 +42,7 @@ TellsPump WasStopped old new = new ≡ old
 TellsPump WasLost old new =
     (first : Deed (List ℕ)) × (noted : Bool) × TellsLoss noted (session_of first) (old.deeds ++ first ∷ []) new.deeds
     × (new.latest ≡ None) × (new.unnoted ≡ (old.unnoted || is_unnoted (fate_of noted)))
+
+-- the wire has the same sessions, with the same bytes, and as many
+abbrev pub IsSameWire : Option (List (List ℕ)) → ℕ → Option (List (List ℕ)) → ℕ → Type 0
+IsSameWire sessions begun sessions' begun' = (sessions' ≡ sessions) × (begun' ≡ begun)

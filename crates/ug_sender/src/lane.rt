@@ -1,13 +1,13 @@
 //! A lane: a wire, and the pass by which it is told what to send.
 
-ghost use Rattle.std.specs.Prelude.{◌≡◌, ◌≤◌, ◌||◌, [], length, true, false, Some, IfOk, IfErr};
+ghost use Rattle.std.specs.Prelude.{◌≡◌, ◌≤◌, ◌||◌, ◌⊎◌, [], length, true, false, Some, None, IfOk, IfErr};
 ghost use Rattle.std.specs.Vec.{vec_len};
 ghost use Rattle.ug_edge.specs.Told.{Rose, IsFresh};
 ghost use Rattle.ug_turnstile.specs.Passes.{StartsWith, mine};
-ghost use Rattle.ug_sender.specs.declared.pumped.Pumped.TheVariants.{Lost as WasLost};
+ghost use Rattle.ug_sender.specs.declared.pumped.Pumped.TheVariants.{Sent as DidSend, Idle as WasIdle, Lost as WasLost, Stopped as WasStopped};
 ghost use Rattle.ug_sender.specs.Courses.{fate_of, is_unnoted};
 ghost use Rattle.ug_sender.specs.Lanes.{fresh_lane, IsSamePost, KeepsLane, shown};
-ghost use Rattle.ug_sender.specs.Tellings.{TellsPump};
+ghost use Rattle.ug_sender.specs.Tellings.{TellsPump, IsSameWire};
 
 use crate::asking::{ask_loss, ask_next};
 use crate::pumped::Pumped;
@@ -93,6 +93,8 @@ impl<W: Wire, M: Machine> Lane<W, M> {
         ensures lost { result ≡ WasLost → Rose (W.faults self.old.wire) (W.faults self.new.wire) }
         ensures unharmed { (result ≡ WasLost → ⊥) → W.faults self.new.wire ≡ W.faults self.old.wire }
         ensures faults { W.faults self.old.wire ≤ W.faults self.new.wire }
+        ensures still { (result ≡ WasIdle) ⊎ (result ≡ WasStopped) → IsSameWire (W.sessions self.old.wire) (W.begun self.old.wire) (W.sessions self.new.wire) (W.begun self.new.wire) }
+        ensures closed { result ≡ DidSend → self.old.latest ≡ None → IsSameWire (W.sessions self.old.wire) (W.begun self.old.wire) (W.sessions self.new.wire) (W.begun self.new.wire) }
     {
         let said = ask_next(
             rt,
