@@ -121,9 +121,9 @@ impl<S: Logged> Turnstile<S> {
         let Turnstile { table } = self;
         let base = gather(&table.shared, passes);
         let mut closed = table.close_with(base);
-        let state = closed.take(0);
+        let home = closed.take(0);
         closed.free();
-        unwrap(state)
+        unwrap(home)
     }
 }
 

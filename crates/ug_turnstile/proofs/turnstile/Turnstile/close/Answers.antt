@@ -14,7 +14,7 @@ unwrap-requires g c =
     let base = c.gather-base.result in
     let whole : (number : ℕ) → number < shared.key.count → Any (λ p. p.number ≡ number) passes = λ number lt. c.requires.whole number (subst (λ k. number < k) (ap (λ t. t.count) c.self.view_is) lt) in
     let ended = closes S.owner S.root S.entries (S.root shared.key.state.value) shared.key.count base.id base.me.0 _ _ shared.table_id passes c.close_with-closed.ensures.values.2 (ap (λ m. m.0) c.gather-base.ensures.seat.1) c.gather-base.ensures.parts whole in
-    let taken = some-injective c.take-state.result (Some ended.state) (sym c.take-state.ensures.value ∙ ended.slot) in
+    let taken = some-injective c.take-home.result (Some ended.state) (sym c.take-home.ensures.value ∙ ended.slot) in
     rw taken refl
 
 pub returns-clause-agrees : goal.returns-clause-agrees
@@ -25,7 +25,7 @@ returns-clause-agrees g c =
     let base = c.gather-base.result in
     let whole : (number : ℕ) → number < shared.key.count → Any (λ p. p.number ≡ number) passes = λ number lt. c.requires.whole number (subst (λ k. number < k) (ap (λ t. t.count) c.self.view_is) lt) in
     let ended = closes S.owner S.root S.entries (S.root shared.key.state.value) shared.key.count base.id base.me.0 _ _ shared.table_id passes c.close_with-closed.ensures.values.2 (ap (λ m. m.0) c.gather-base.ensures.seat.1) c.gather-base.ensures.parts whole in
-    let taken = some-injective c.take-state.result (Some ended.state) (sym c.take-state.ensures.value ∙ ended.slot) in
+    let taken = some-injective c.take-home.result (Some ended.state) (sym c.take-home.ensures.value ∙ ended.slot) in
     let same : ended.state ≡ c.unwrap.result = some_same (sym taken ∙ c.unwrap.ensures) in
     subst (λ x. All (Agrees S.owner (S.root x) (S.entries x)) passes) same (all_of_each (Agrees S.owner (S.root ended.state) (S.entries ended.state)) passes ended.agrees)
 
@@ -37,6 +37,6 @@ returns-clause-owned g c =
     let base = c.gather-base.result in
     let whole : (number : ℕ) → number < shared.key.count → Any (λ p. p.number ≡ number) passes = λ number lt. c.requires.whole number (subst (λ k. number < k) (ap (λ t. t.count) c.self.view_is) lt) in
     let ended = closes S.owner S.root S.entries (S.root shared.key.state.value) shared.key.count base.id base.me.0 _ _ shared.table_id passes c.close_with-closed.ensures.values.2 (ap (λ m. m.0) c.gather-base.ensures.seat.1) c.gather-base.ensures.parts whole in
-    let taken = some-injective c.take-state.result (Some ended.state) (sym c.take-state.ensures.value ∙ ended.slot) in
+    let taken = some-injective c.take-home.result (Some ended.state) (sym c.take-home.ensures.value ∙ ended.slot) in
     let same : ended.state ≡ c.unwrap.result = some_same (sym taken ∙ c.unwrap.ensures) in
     subst (λ x. All (λ e. Any (λ p. p.number ≡ S.owner e) passes) (S.entries x)) same (all_of_each (λ e. Any (λ p. p.number ≡ S.owner e) passes) (S.entries ended.state) ended.owned)
