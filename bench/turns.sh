@@ -1,14 +1,35 @@
 #!/bin/bash
 # Runs 1, 2, 4, 8 and 33 threads that take turns in a loop, and prints for each how long a turn takes and how evenly the
-# turns fall. The program, bench/turns, is no part of the gate: it is built in a copy of the repository by `rt try`, which
-# runs it unproved and with checks of its own, so the times are good for comparing and are no times of a built program.
+# turns fall; then how long one thread works beside 1 and 32 that wait for the turn, or take it and nap, with all
+# processors and with two; and last 1,000,000 packets of 100 bytes through 1, 8 and 32 lanes over wires in memory, which
+# one thread pumps in turn or a thread each. The programs, bench/turns and bench/pumps, are no part of the gate: they are
+# proved and built in a copy of the repository, where their files lose the ending `.txt`.
 set -e
 cd "$(dirname "${BASH_SOURCE[0]}")/.."
 work=$(mktemp -d)
 trap 'rm -rf "$work"' EXIT
 git clone -q . "$work/copy"
-mkdir -p "$work/copy/crates/turns/src"
-cp bench/turns/main.rt.txt "$work/copy/crates/turns/src/main.rt"
-echo "turns: ug_turnstile ug_types" >> "$work/copy/crates.txt"
-cd "$work/copy/crates/turns"
-rt try | grep ' threads: '
+for crate in ug_types ug_edge ug_turnstile ug_board ug_deeds ug_counter ug_sender; do
+    [ ! -d "crates/$crate/out" ] || cp -r "crates/$crate/out" "$work/copy/crates/$crate/out"
+done
+cat >> "$work/copy/crates.txt" << 'END'
+turns: ug_turnstile ug_types
+pumps: ug_sender ug_edge ug_board ug_turnstile ug_types atomic_table
+END
+
+# Proves, builds and runs a program of this folder.
+run() {
+    (cd "bench/$1" && find . -name '*.txt') | while read -r file; do
+        mkdir -p "$work/copy/crates/$1/$(dirname "$file")"
+        cp "bench/$1/$file" "$work/copy/crates/$1/${file%.txt}"
+    done
+    (cd "$work/copy/crates/$1" && rt run) > "$work/log" 2>&1 || { tail -n 20 "$work/log"; exit 1; }
+    grep -E '^[0-9]+ (threads|lanes): |^one works ' "$work/log"
+}
+
+run turns
+if command -v taskset > /dev/null; then
+    echo "on two processors:"
+    taskset -c 0,1 "$work/copy/crates/turns/out/turns"
+fi
+run pumps
