@@ -17,12 +17,16 @@ turns: ug_turnstile ug_types
 pumps: ug_sender ug_edge ug_board ug_turnstile ug_types atomic_table
 END
 
-# Proves, builds and runs a program of this folder.
-run() {
-    (cd "bench/$1" && find . -name '*.txt') | while read -r file; do
-        mkdir -p "$work/copy/crates/$1/$(dirname "$file")"
-        cp "bench/$1/$file" "$work/copy/crates/$1/${file%.txt}"
+for name in turns pumps; do
+    find "bench/$name" -name '*.txt' | while read -r file; do
+        to="$work/copy/crates/${file#bench/}"
+        mkdir -p "$(dirname "$to")"
+        cp "$file" "${to%.txt}"
     done
+done
+
+# Proves, builds and runs a program.
+run() {
     (cd "$work/copy/crates/$1" && rt run) > "$work/log" 2>&1 || { tail -n 20 "$work/log"; exit 1; }
     grep -E '^[0-9]+ (threads|lanes): |^one works ' "$work/log"
 }
