@@ -1,7 +1,2 @@
-pub mod Lengths
-pub mod Heads
 pub mod Sound
-pub mod Walking
-pub mod Reading
 pub mod Views
-pub mod Spellable

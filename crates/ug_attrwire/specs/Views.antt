@@ -1,5 +1,5 @@
 -- What the reader's own values stand for, and how its answers stand to what reading gives.
-use Rattle.std.specs.Prelude.{◌≡◌, ℕ, ◌≤◌, map, option_map, Result, Ok, Err}
+use Rattle.std.specs.Prelude.{◌≡◌, ℕ, ◌≤◌, List, length, take, drop, map, option_map, Result, Ok, Err}
 use Rattle.ug_types.specs.declared.attrs.Segment.{Segment}
 use Rattle.ug_types.specs.Listed.{Listed}
 use Rattle.ug_types.specs.Attributes.{segment_of}
@@ -9,11 +9,22 @@ use Rattle.ug_attrwire.specs.declared.fault.AttributeFault.{AttributeFault}
 use Rattle.ug_attrwire.specs.declared.fault.AttributeFault.TheVariants as one
 use Rattle.ug_attrwire.specs.declared.found.Found.{Found}
 use Rattle.ug_attrwire.specs.declared.found.Standing.{Standing}
-use Rattle.ug_attrwire.specs.Walking.{Fault, fault}
-use Rattle.ug_attrwire.specs.Reading.{ReadSoFar, Attribute}
+use Rattle.ug_message.specs.Walking.{Fault, fault}
+use Rattle.ug_attrwire.specs.declared.multiprotocol.Placed.{Placed}
+use Rattle.ug_attrwire.specs.declared.multiprotocol.Reach.{Reach}
+use Rattle.ug_attrwire.specs.declared.multiprotocol.Multiprotocol.{Multiprotocol}
+use Rattle.ug_message.specs.AttributesRead.{ReadSoFar, Attribute}
+use Rattle.ug_message.specs.AttributesRead as reading
 
-abbrev pub so_far : Found → ReadSoFar
-so_far f = record {
+-- routes at a place of all bytes
+abbrev pub placed_of : List ℕ → Placed → reading.Placed
+placed_of all p = record { place = p.place; routes = take p.size (drop p.place all) }
+
+abbrev pub reach_of : List ℕ → Reach → reading.Reach
+reach_of all r = record { next_hop = r.next_hop; routes = placed_of all r.routes }
+
+abbrev pub so_far : List ℕ → Found → ReadSoFar
+so_far all f = record {
   types = f.types.items;
   origin = f.origin;
   path = option_map (λ (p : Listed Segment). map segment_of p.items) f.path;
@@ -25,10 +36,12 @@ so_far f = record {
   communities = f.communities.items;
   originator = f.originator;
   clusters = f.clusters.items;
+  reach = option_map (reach_of all) f.reach;
+  unreach = option_map (placed_of all) f.unreach;
 }
 
 abbrev pub standing : Standing → Attribute
-standing a = record { flags = a.flags; type = a.kind; value = a.value.now }
+standing a = record { flags = a.flags; type = a.kind; place = a.place; value = a.value.now }
 
 -- Want of memory says nothing of the bytes.
 abbrev pub Fails : {Y : Type 0} → AttrFault → Result Y Fault → Type 0
@@ -54,12 +67,20 @@ abbrev pub placed : AttributeFault → ℕ → AttrFault
 placed one.NoMemory place = faults.NoMemory
 placed (one.Refused number) place = faults.Refused number place
 
--- a fault from 1 to 8
+-- a fault from 1 to 9
 abbrev pub HasNumber : AttributeFault → Type 0
 HasNumber one.NoMemory = Unit {0}
-HasNumber (one.Refused number) = number ≤ 8
+HasNumber (one.Refused number) = number ≤ 9
 
--- a fault from 1 to 8, no further back than so many bytes
+-- a fault from 1 to 9, no further back than so many bytes
 abbrev pub IsWithin : ℕ → AttrFault → Type 0
 IsWithin len faults.NoMemory = Unit {0}
-IsWithin len (faults.Refused number place) = (number ≤ 8) × (place ≤ len)
+IsWithin len (faults.Refused number place) = (number ≤ 9) × (place ≤ len)
+
+-- what the attributes say where routes stand among them
+abbrev pub multiprotocol_of : List ℕ → Multiprotocol → reading.Multiprotocol
+multiprotocol_of all m = record { attrs = m.attrs; withdrawn = placed_of all m.withdrawn; announced = placed_of all m.announced; is_alone = m.is_alone }
+
+-- the value stands at that place of all bytes
+abbrev pub StandsAt : List ℕ → ℕ → List ℕ → Type 0
+StandsAt all place value = value ≡ take (length value) (drop place all)

@@ -2,12 +2,12 @@
 
 ghost use Rattle.std.specs.Prelude.{◌≡◌, ◌+◌, ◌≤◌, ◌++◌, length};
 ghost use Rattle.ug_types.specs.Attributes.{attributes_of, IsAttributes};
-ghost use Rattle.ug_types.specs.Spelling.{origin, as_path, next_hop, multi_exit_disc, local_pref, atomic_aggregate, aggregator, communities, originator_id, cluster_list};
-ghost use Rattle.ug_attrwire.specs.Lengths.{HasShortValues};
+ghost use Rattle.ug_message.specs.Spelling.{origin, as_path, next_hop, multi_exit_disc, local_pref, atomic_aggregate, aggregator, communities, originator_id, cluster_list};
+ghost use Rattle.ug_message.specs.Lengths.{HasShortValues};
 
 use crate::head::{list_size, put_attribute, put_head, put_list, size_around};
-use crate::room::put;
 use crate::values::{four_bytes, put_numbers, put_segments, segments_size};
+use ug_message::put;
 use ug_types::{AttrParts, ByteList};
 
 pub const WELL_KNOWN: u8 = 64;
@@ -32,7 +32,7 @@ pub fn put_origin(out: &mut ByteList, parts: &AttrParts)
 // The ASes on the path: a list of segments, which may be empty.
 pub const AS_PATH: u8 = 2;
 
-#[tactic(auto, using(crate::proofs::Heads::size_steps))]
+#[tactic(auto, using(ug_message::proofs::Heads::size_steps))]
 pub fn as_path_size(parts: &AttrParts) -> usize
     requires { HasShortValues (attributes_of parts.now) }
     ensures size { result ≡ length (as_path (attributes_of parts.now)) }
@@ -41,7 +41,7 @@ pub fn as_path_size(parts: &AttrParts) -> usize
     size_around(segments_size(parts.path.as_slice()))
 }
 
-#[tactic(auto, using(crate::proofs::Heads::attribute_steps))]
+#[tactic(auto, using(ug_message::proofs::Heads::attribute_steps))]
 pub fn put_as_path(out: &mut ByteList, parts: &AttrParts)
     requires well_formed { IsAttributes (attributes_of parts.now) }
     requires short { HasShortValues (attributes_of parts.now) }
@@ -70,7 +70,7 @@ pub fn put_next_hop(out: &mut ByteList, parts: &AttrParts)
 // A number by which a neighbour tells its links apart.
 pub const MULTI_EXIT_DISC: u8 = 4;
 
-#[tactic(auto, using(crate::proofs::Heads::size_steps))]
+#[tactic(auto, using(ug_message::proofs::Heads::size_steps))]
 pub fn multi_exit_disc_size(parts: &AttrParts) -> usize
     ensures size { result ≡ length (multi_exit_disc (attributes_of parts.now)) }
     ensures small { result ≤ 7 }
@@ -95,7 +95,7 @@ pub fn put_multi_exit_disc(out: &mut ByteList, parts: &AttrParts)
 // How much the own AS prefers the route.
 pub const LOCAL_PREF: u8 = 5;
 
-#[tactic(auto, using(crate::proofs::Heads::size_steps))]
+#[tactic(auto, using(ug_message::proofs::Heads::size_steps))]
 pub fn local_pref_size(parts: &AttrParts) -> usize
     ensures size { result ≡ length (local_pref (attributes_of parts.now)) }
     ensures small { result ≤ 7 }
@@ -120,7 +120,7 @@ pub fn put_local_pref(out: &mut ByteList, parts: &AttrParts)
 // That more specific routes were left out, no bytes.
 pub const ATOMIC_AGGREGATE: u8 = 6;
 
-#[tactic(auto, using(crate::proofs::Heads::size_steps))]
+#[tactic(auto, using(ug_message::proofs::Heads::size_steps))]
 pub fn atomic_aggregate_size(parts: &AttrParts) -> usize
     ensures size { result ≡ length (atomic_aggregate (attributes_of parts.now)) }
     ensures small { result ≤ 3 }
@@ -141,7 +141,7 @@ pub fn put_atomic_aggregate(out: &mut ByteList, parts: &AttrParts)
 // The AS and the address of who made the route out of more specific ones.
 pub const AGGREGATOR: u8 = 7;
 
-#[tactic(auto, using(crate::proofs::Heads::size_steps))]
+#[tactic(auto, using(ug_message::proofs::Heads::size_steps))]
 pub fn aggregator_size(parts: &AttrParts) -> usize
     ensures size { result ≡ length (aggregator (attributes_of parts.now)) }
     ensures small { result ≤ 11 }
@@ -153,7 +153,7 @@ pub fn aggregator_size(parts: &AttrParts) -> usize
     }
 }
 
-#[tactic(auto, using(crate::proofs::Heads::attribute_steps))]
+#[tactic(auto, using(ug_message::proofs::Heads::attribute_steps))]
 pub fn put_aggregator(out: &mut ByteList, parts: &AttrParts)
     requires { length (aggregator (attributes_of parts.now)) ≤ out.old.spare }
     ensures items { out.new.items ≡ out.old.items ++ aggregator (attributes_of parts.now) }
@@ -169,7 +169,7 @@ pub fn put_aggregator(out: &mut ByteList, parts: &AttrParts)
 // The communities, four bytes each.
 pub const COMMUNITIES: u8 = 8;
 
-#[tactic(auto, using(crate::proofs::Heads::size_steps))]
+#[tactic(auto, using(ug_message::proofs::Heads::size_steps))]
 pub fn communities_size(parts: &AttrParts) -> usize
     requires { HasShortValues (attributes_of parts.now) }
     ensures size { result ≡ length (communities (attributes_of parts.now)) }
@@ -195,7 +195,7 @@ pub fn put_communities(out: &mut ByteList, parts: &AttrParts)
 // Who brought the route into the own AS.
 pub const ORIGINATOR_ID: u8 = 9;
 
-#[tactic(auto, using(crate::proofs::Heads::size_steps))]
+#[tactic(auto, using(ug_message::proofs::Heads::size_steps))]
 pub fn originator_id_size(parts: &AttrParts) -> usize
     ensures size { result ≡ length (originator_id (attributes_of parts.now)) }
     ensures small { result ≤ 7 }
@@ -220,7 +220,7 @@ pub fn put_originator_id(out: &mut ByteList, parts: &AttrParts)
 // The clusters that reflected the route, four bytes each.
 pub const CLUSTER_LIST: u8 = 10;
 
-#[tactic(auto, using(crate::proofs::Heads::size_steps))]
+#[tactic(auto, using(ug_message::proofs::Heads::size_steps))]
 pub fn cluster_list_size(parts: &AttrParts) -> usize
     requires { HasShortValues (attributes_of parts.now) }
     ensures size { result ≡ length (cluster_list (attributes_of parts.now)) }

@@ -1,11 +1,11 @@
 //! An attribute as such: what stands before its value, and how long it is in all.
 
 ghost use Rattle.std.specs.Prelude.{◌≡◌, ℕ, ◌+◌, ◌*◌, ◌<◌, ◌≤◌, ◌++◌, length};
-ghost use Rattle.ug_types.specs.Spelling.{attribute, numbers, where_some};
-ghost use Rattle.ug_attrwire.specs.Heads.{head, size_around};
+ghost use Rattle.ug_message.specs.Spelling.{attribute, numbers, where_some};
+ghost use Rattle.ug_message.specs.Heads.{head, size_around};
 
-use crate::room::put;
 use crate::values::put_numbers;
+use ug_message::{put, put_u16};
 use ug_types::ByteList;
 
 /// Set where the length of the value has two bytes.
@@ -20,7 +20,7 @@ pub fn size_around(len: usize) -> usize
 }
 
 /// Adds what stands before a value of `len` bytes.
-#[tactic(auto, unfolding(crate::specs::Heads::head))]
+#[tactic(auto, unfolding(ug_message::specs::Heads::head))]
 pub fn put_head(out: &mut ByteList, flags: u8, kind: u8, len: usize)
     requires flags { flags < 240 }
     requires short { len ≤ 65535 }
@@ -32,12 +32,12 @@ pub fn put_head(out: &mut ByteList, flags: u8, kind: u8, len: usize)
         put(out, &[flags, kind, len as u8]);
     } else {
         put(out, &[flags + EXTENDED, kind]);
-        put(out, &(len as u16).to_be_bytes());
+        put_u16(out, len as u16);
     }
 }
 
 /// Adds an attribute whose value is at hand.
-#[tactic(auto, using(crate::proofs::Heads::attribute_steps))]
+#[tactic(auto, using(ug_message::proofs::Heads::attribute_steps))]
 pub fn put_attribute(out: &mut ByteList, flags: u8, kind: u8, value: &[u8])
     requires flags { flags < 240 }
     requires short { length value.now ≤ 65535 }
@@ -50,7 +50,7 @@ pub fn put_attribute(out: &mut ByteList, flags: u8, kind: u8, value: &[u8])
 }
 
 /// How many bytes an attribute has whose value is a list of numbers.
-#[tactic(auto, using(crate::proofs::Heads::size_steps))]
+#[tactic(auto, using(ug_message::proofs::Heads::size_steps))]
 pub fn list_size(list: &[u32]) -> usize
     requires { length (numbers list.now) ≤ 65535 }
     ensures size { (flags type : ℕ) → result ≡ length (where_some (λ ns. attribute flags type (numbers ns)) list.now) }
@@ -64,7 +64,7 @@ pub fn list_size(list: &[u32]) -> usize
 }
 
 /// Adds an attribute whose value is a list of numbers, where there are any.
-#[tactic(auto, using(crate::proofs::Heads::attribute_steps))]
+#[tactic(auto, using(ug_message::proofs::Heads::attribute_steps))]
 pub fn put_list(out: &mut ByteList, flags: u8, kind: u8, list: &[u32])
     requires flags { flags < 240 }
     requires short { length (numbers list.now) ≤ 65535 }

@@ -3,19 +3,20 @@
 
 mod attributes;
 mod fault;
+mod formed;
 mod found;
 mod head;
+mod multiprotocol;
 mod read_values;
 mod reading;
-mod room;
-mod short;
 mod values;
 mod writing;
 
 pub use fault::AttrFault;
-pub use reading::read_attrs;
-pub use short::{attributes_again, values_are_short};
-pub use writing::{size_of, write_attrs};
+pub use head::size_around;
+pub use multiprotocol::{Multiprotocol, Placed, write_reach, write_unreach};
+pub use reading::{read_attrs, read_attrs6};
+pub use writing::{size_but_next_hop, size_of, write_attrs, write_but_next_hop};
 
 #[cfg(test)]
 mod tests;

@@ -3,10 +3,11 @@
 ghost use Rattle.std.specs.Prelude.{◌≡◌, ◌/◌, ◌≤◌, true, length, map, IfOk, IfErr};
 ghost use Rattle.std.specs.List.{list_all};
 ghost use Rattle.ug_types.specs.Attributes.{segment_of, is_segment};
-ghost use Rattle.ug_attrwire.specs.Reading.{number_in, address_in, aggregator_in, origin_in, numbers_in, segment_at, path_in};
+ghost use Rattle.ug_message.specs.AttributesRead.{number_in, address_in, aggregator_in, origin_in, numbers_in, segment_at, path_in};
 ghost use Rattle.ug_attrwire.specs.Views.{GivesOne, HasNumber};
 
 use crate::fault::AttributeFault;
+use byteorder::{BigEndian, ByteOrder};
 use std::alloc::{AllocError, Global};
 use ug_types::{Addr, Aggregator, NumberList, Segment, SegmentList, Sequence};
 
@@ -14,7 +15,7 @@ pub fn number_in(bytes: &[u8]) -> u32
     requires { 4 ≤ length bytes.now }
     ensures { result ≡ number_in bytes.now }
 {
-    u32::from_be_bytes([bytes[0], bytes[1], bytes[2], bytes[3]])
+    BigEndian::read_u32(bytes)
 }
 
 pub fn address_in(bytes: &[u8]) -> Addr
@@ -52,15 +53,15 @@ pub fn numbers_in(alloc: Global, bytes: &[u8]) -> Result<NumberList, AllocError>
 {
     let mut numbers = Vec::with_capacity(alloc, bytes.len() / 4)?;
     let mut rest = bytes;
-    while let [a, b, c, d, after @ ..] = rest {
-        numbers.push(u32::from_be_bytes([*a, *b, *c, *d]))?;
+    while let [_, _, _, _, after @ ..] = rest {
+        numbers.push(BigEndian::read_u32(rest))?;
         rest = after;
     }
     Ok(Sequence::from_vec(numbers))
 }
 
 /// The segment that the bytes begin with, and how many of them it takes.
-#[tactic(auto, unfolding(crate::specs::Reading::segment_at))]
+#[tactic(auto, unfolding(ug_message::specs::AttributesRead::segment_at))]
 fn segment_at(alloc: Global, bytes: &[u8]) -> Result<(Segment, usize), AttributeFault>
     ensures exact { GivesOne (λ x. (segment_of x.0, x.1)) result (segment_at bytes.now) }
     ensures number { IfErr result HasNumber }

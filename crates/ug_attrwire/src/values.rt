@@ -3,9 +3,9 @@
 ghost use Rattle.std.specs.Prelude.{◌≡◌, ◌+◌, ◌≤◌, ◌++◌, true, length, map};
 ghost use Rattle.std.specs.List.{list_all};
 ghost use Rattle.ug_types.specs.Attributes.{is_segment, segment_of};
-ghost use Rattle.ug_types.specs.Spelling.{numbers, four_bytes, segment, segments};
+ghost use Rattle.ug_message.specs.Spelling.{numbers, four_bytes, sixteen_bytes, segment, segments};
 
-use crate::room::put;
+use ug_message::{put, put_u32};
 use ug_types::{Addr, ByteList, Segment};
 
 /// The four bytes of an IPv4 address.
@@ -16,6 +16,13 @@ pub fn four_bytes(addr: &Addr) -> [u8; 4]
     [bytes[0], bytes[1], bytes[2], bytes[3]]
 }
 
+/// The sixteen bytes of an IPv6 address.
+pub fn sixteen_bytes(addr: &Addr) -> [u8; 16]
+    ensures { result ≡ sixteen_bytes addr.now }
+{
+    addr.bits.to_be_bytes()
+}
+
 /// Adds numbers of four bytes each.
 pub fn put_numbers(out: &mut ByteList, list: &[u32])
     requires { length (numbers list.now) ≤ out.old.spare }
@@ -23,12 +30,12 @@ pub fn put_numbers(out: &mut ByteList, list: &[u32])
     ensures spare { out.old.spare ≤ out.new.spare + length (numbers list.now) }
 {
     for number in list {
-        put(out, &number.to_be_bytes());
+        put_u32(out, *number);
     }
 }
 
 /// How many bytes the segments of a path take.
-#[tactic(auto, using(crate::proofs::Heads::length_numbers, std::proofs::lemmas::Grind::common_steps))]
+#[tactic(auto, using(ug_message::proofs::Heads::length_numbers, std::proofs::lemmas::Grind::common_steps))]
 pub fn segments_size(path: &[Segment]) -> usize
     requires { length (segments (map segment_of path.now)) ≤ 65535 }
     ensures { result ≡ length (segments (map segment_of path.now)) }

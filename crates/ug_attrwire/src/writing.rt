@@ -1,13 +1,15 @@
-ghost use Rattle.std.specs.Prelude.{◌≡◌, ◌+◌, ◌^◌, ◌<◌, ◌≤◌, ◌++◌, length, OnOk, OnErr, IfOk};
+ghost use Rattle.std.specs.Prelude.{◌≡◌, true, ◌+◌, ◌^◌, ◌<◌, ◌≤◌, ◌++◌, length, OnOk, OnErr, IfOk};
 ghost use Rattle.ug_types.specs.Attributes.{attributes_of, IsAttributes};
-ghost use Rattle.ug_types.specs.Spelling.{before_next_hop, after_next_hop, attributes, next_hop_place};
-ghost use Rattle.ug_attrwire.specs.Lengths.{HasShortValues};
+ghost use Rattle.ug_message.specs.Spelling.{before_next_hop, after_next_hop, attributes, attributes_but_next_hop, next_hop_place};
+ghost use Rattle.ug_message.specs.Spellable.{has_ipv4_addresses, can_be_spelled};
+ghost use Rattle.ug_message.specs.Lengths.{HasShortValues};
 
 use crate::attributes::*;
+use crate::formed::know;
 use ug_types::{AttrParts, Attrs, ByteList, NoMemory};
 
 /// How many bytes the attributes take in a message.
-#[tactic(auto, using(crate::proofs::Whole::attributes_steps))]
+#[tactic(auto, using(ug_message::proofs::AttributeParts::attributes_steps))]
 pub fn size_of(attrs: &Attrs) -> usize
     requires { HasShortValues attrs.now }
     ensures { result ≡ length (attributes attrs.now) }
@@ -18,13 +20,16 @@ pub fn size_of(attrs: &Attrs) -> usize
 
 /// Adds the attributes at the end, by ascending type, and answers where the value of NEXT_HOP stands in the list.
 /// Want of memory leaves the list as it was.
-#[tactic(auto, using(crate::proofs::Whole::attributes_steps))]
+#[tactic(auto, using(ug_message::proofs::AttributeParts::attributes_steps))]
 pub fn write_attrs(out: &mut ByteList, attrs: &Attrs) -> Result<usize, NoMemory>
     requires { HasShortValues attrs.now }
     ensures ok { OnOk result (out.new.items ≡ out.old.items ++ attributes attrs.now) }
     ensures place { IfOk result (λ place. place ≡ length out.old.items + next_hop_place attrs.now) }
     ensures err { OnErr result (out.new.items ≡ out.old.items) }
+    // With addresses of the families that messages have, they can be spelled.
+    ensures formed { has_ipv4_addresses attrs.now ≡ true → can_be_spelled attrs.now.next_hop.family attrs.now ≡ true }
 {
+    know(attrs);
     let parts = attrs.parts();
     out.reserve(size_of(attrs))?;
     put_before_next_hop(out, parts);
@@ -33,6 +38,33 @@ pub fn write_attrs(out: &mut ByteList, attrs: &Attrs) -> Result<usize, NoMemory>
     let place = out.len() - 4;
     put_after_next_hop(out, parts);
     Ok(place)
+}
+
+/// How many bytes all attributes but NEXT_HOP take.
+#[tactic(auto, using(ug_message::proofs::AttributeParts::but_next_hop_steps))]
+pub fn size_but_next_hop(attrs: &Attrs) -> usize
+    requires { HasShortValues attrs.now }
+    ensures { result ≡ length (attributes_but_next_hop attrs.now) }
+{
+    let parts = attrs.parts();
+    before_next_hop_size(parts) + after_next_hop_size(parts)
+}
+
+/// Adds all attributes but NEXT_HOP at the end, by ascending type, as before routes that stand among them. Want of memory
+/// leaves the list as it was.
+#[tactic(auto, using(ug_message::proofs::AttributeParts::but_next_hop_steps))]
+pub fn write_but_next_hop(out: &mut ByteList, attrs: &Attrs) -> Result<(), NoMemory>
+    requires { HasShortValues attrs.now }
+    ensures ok { OnOk result (out.new.items ≡ out.old.items ++ attributes_but_next_hop attrs.now) }
+    ensures err { OnErr result (out.new.items ≡ out.old.items) }
+    ensures formed { has_ipv4_addresses attrs.now ≡ true → can_be_spelled attrs.now.next_hop.family attrs.now ≡ true }
+{
+    know(attrs);
+    let parts = attrs.parts();
+    out.reserve(size_but_next_hop(attrs))?;
+    put_before_next_hop(out, parts);
+    put_after_next_hop(out, parts);
+    Ok(())
 }
 
 fn put_before_next_hop(out: &mut ByteList, parts: &AttrParts)
@@ -61,7 +93,7 @@ fn put_after_next_hop(out: &mut ByteList, parts: &AttrParts)
     put_cluster_list(out, parts);
 }
 
-#[tactic(auto, using(crate::proofs::Heads::size_steps, std::proofs::lemmas::Grind::common_steps))]
+#[tactic(auto, using(ug_message::proofs::Heads::size_steps, std::proofs::lemmas::Grind::common_steps))]
 fn before_next_hop_size(parts: &AttrParts) -> usize
     requires { HasShortValues (attributes_of parts.now) }
     ensures size { result ≡ length (before_next_hop (attributes_of parts.now)) }

@@ -9,7 +9,7 @@ use Rattle.ug_types.specs.declared.family.Family.{Family}
 use Rattle.ug_types.specs.declared.family.Family.TheVariants.{V4, V6}
 use Rattle.ug_types.specs.contracts.key.KeyOrd.TheImpl as key_ord
 use Rattle.ug_types.specs.declared.capabilities.Capabilities.{Capabilities}
-use Rattle.ug_wire_updates.specs.Readers.{ReaderState}
+use Rattle.ug_update.specs.Readers.{ReaderState}
 use Rattle.ug_receiver.specs.Rows.{Rows}
 use Rattle.ug_check.specs.Decoded.{key_cmp, row_texts, totals_text}
 use Rattle.ug_check.specs.Checks.{IsDone}

@@ -9,11 +9,11 @@ use Rattle.ug_types.specs.Messages.{Message, Updates, Begins, Ends, Ignored}
 use Rattle.ug_tables.specs.Tables.{Reading, applied, reading_from, nothing_read, among}
 use Rattle.ug_types.specs.declared.capabilities.Capabilities.{Capabilities}
 use Rattle.ug_types.specs.declared.family.Family.{Family}
-use Rattle.ug_wire.specs.Reading.{message_size, Spells, ends_rib}
-use Rattle.ug_wire.specs.Received.{Front, Says, Faulty, Awaited}
-use Rattle.ug_wire_updates.specs.Readers.{ReaderState, Gives, answer_at, front, behind_message, fed}
-use Rattle.ug_wire.proofs.Fronts.{says_first}
-use Rattle.ug_wire_updates.proofs.Goes.{one_given}
+use Rattle.ug_message.specs.Reading.{message_size, Spells, ends_rib}
+use Rattle.ug_message.specs.Received.{Front, Says, Faulty, Awaited}
+use Rattle.ug_update.specs.Readers.{ReaderState, Gives, answer_at, front, behind_message, fed}
+use Rattle.ug_message.proofs.Fronts.{says_first}
+use Rattle.ug_update.proofs.Goes.{one_given}
 use Rattle.ug_receiver.specs.Rows.{Rows, reading_of}
 use Rattle.ug_check.specs.Decoded.{EachSpells, ends_of_rib}
 use Rattle.ug_check.specs.Checkers.{HasChecked}

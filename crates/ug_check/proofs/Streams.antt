@@ -4,8 +4,8 @@ use Rattle.std.proofs.lemmas.List.{append-nil, length-take}
 use Rattle.ug_edge.specs.Told.{TakesFront, IsEnded}
 use Rattle.ug_pieces.specs.ReadingLaws.{TakesFront-none, TakesFront-more, ended_after, take_past, take_front}
 use Rattle.ug_types.specs.declared.capabilities.Capabilities.{Capabilities}
-use Rattle.ug_wire.specs.Received.{IsStream, IsFaultyAt}
-use Rattle.ug_wire_updates.specs.Readers.{ReaderState, new_reader}
+use Rattle.ug_message.specs.Received.{IsStream, IsFaultyAt}
+use Rattle.ug_update.specs.Readers.{ReaderState, new_reader}
 use Rattle.ug_receiver.specs.Rows.{Rows, no_rows}
 use Rattle.ug_check.specs.Checks.{most_bytes, IsCause, HasStopped}
 use Rattle.ug_check.specs.Checkers.{HasChecked, IsSettled, IsBehind, HasReadAll, IsPieceCause}

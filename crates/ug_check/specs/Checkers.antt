@@ -6,8 +6,8 @@ use Rattle.ug_types.specs.declared.key.Key.{Key}
 use Rattle.ug_types.specs.Messages.{Message}
 use Rattle.ug_tables.specs.Tables.{nothing_read, reading_from}
 use Rattle.ug_edge.specs.Told.{TakesFront, IsEnded}
-use Rattle.ug_wire.specs.Received.{IsUnfinished, IsFaultyAt}
-use Rattle.ug_wire_updates.specs.Readers.{ReaderState, HasRead}
+use Rattle.ug_message.specs.Received.{IsUnfinished, IsFaultyAt}
+use Rattle.ug_update.specs.Readers.{ReaderState, HasRead}
 use Rattle.ug_receiver.specs.Rows.{Rows, reading_of}
 use Rattle.ug_check.specs.Decoded.{EachSpells, ends_of_rib}
 use Rattle.ug_check.specs.Checks.{most_bytes}

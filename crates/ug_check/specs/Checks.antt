@@ -7,7 +7,7 @@ use Rattle.ug_types.specs.Attributes.{Attributes}
 use Rattle.ug_types.specs.Messages.{Message}
 use Rattle.ug_edge.specs.Told.{TakesFront, IsEnded, AppendsPiece}
 use Rattle.ug_pieces.specs.Reporting.{AppendsFront}
-use Rattle.ug_wire.specs.Received.{IsStream, IsFaultyAt}
+use Rattle.ug_message.specs.Received.{IsStream, IsFaultyAt}
 use Rattle.ug_check.specs.Decoded.{IsDecoded, check_lines}
 use Rattle.ug_check.specs.declared.stop.Stop.{Stop}
 use Rattle.ug_check.specs.declared.stop.Stop.TheVariants as stops

@@ -13,8 +13,8 @@ use Rattle.ug_types.specs.Keys.{prefix_cmp}
 use Rattle.ug_types.specs.Attributes.{Attributes}
 use Rattle.ug_types.specs.Messages.{Message}
 use Rattle.ug_tables.specs.Tables.{Table, table_of}
-use Rattle.ug_wire.specs.Reading.{Spells, ends_rib}
-use Rattle.ug_wire.specs.Received.{IsStream}
+use Rattle.ug_message.specs.Reading.{Spells, ends_rib}
+use Rattle.ug_message.specs.Received.{IsStream}
 use Rattle.ug_receiver.specs.Rows.{row_at}
 use Rattle.ug_rows.specs.Rows.{row_text}
 

@@ -4,9 +4,9 @@ ghost use Rattle.std.specs.Prelude.{◌≡◌, ◌+◌, ◌<◌, ◌≤◌, ◌^
 ghost use Rattle.ug_types.specs.Messages.{Message, message_of};
 ghost use Rattle.ug_types.specs.declared.key.Key as route_keys;
 ghost use Rattle.ug_tables.specs.Tables.{applied};
-ghost use Rattle.ug_wire.specs.Reading.{message_size};
-ghost use Rattle.ug_wire.specs.Received.{IsUnfinished, Says, Awaited};
-ghost use Rattle.ug_wire_updates.specs.Readers.{new_reader, front, behind_message, HasRead};
+ghost use Rattle.ug_message.specs.Reading.{message_size};
+ghost use Rattle.ug_message.specs.Received.{IsUnfinished, Says, Awaited};
+ghost use Rattle.ug_update.specs.Readers.{new_reader, front, behind_message, HasRead};
 ghost use Rattle.ug_receiver.specs.Rows.{no_rows, reading_of};
 ghost use Rattle.ug_check.specs.Checkers.{HasChecked, IsSettled, IsPieceCause};
 
@@ -14,7 +14,7 @@ use crate::stop::Stop;
 use std::alloc::Global;
 use ug_receiver::Table;
 use ug_types::{Capabilities, Item, Next, NoMemory};
-use ug_wire_updates::Reader;
+use ug_update::Reader;
 
 /// A reader of the stream, the table that its messages left so far, and how many messages and End-of-RIBs they were.
 #[derive(Drop)]

@@ -1,2 +1,11 @@
+pub mod Spelling
+pub mod Spellable
 pub mod Texts
 pub mod Streams
+pub mod Walking
+pub mod RoutesRead
+pub mod AttributesRead
+pub mod Reading
+pub mod Received
+pub mod Heads
+pub mod Lengths

@@ -1,18 +1,12 @@
-//! What messages and streams of messages are: definitions that the writers, the reader and the run share, and
-//! laws about them.
+//! What messages and streams of messages are, in a session of either family: definitions that the writers, the
+//! readers and the run share, and laws about them.
 #![tactic(auto)]
 
-ghost use Rattle.std.specs.Prelude.{◌≡◌, ◌≤◌, Bool, true, false, List, ℕ, length, Some};
-ghost use Rattle.ug_types.specs.Messages.{Message};
-ghost use Rattle.ug_message.specs.Texts.{written};
+mod laws;
+mod room;
 
-/// What is written within the limit of plain messages is written so too where extended ones are in use, and the
-/// other way round where the text is short enough. So a message has one text.
-pub fn written_within_limits()
-    ensures extended { (add_path : Bool) (m : Message) (text : List ℕ) →
-        written add_path false m ≡ Some text → written add_path true m ≡ Some text }
-    ensures plain { (add_path : Bool) (m : Message) (text : List ℕ) →
-        written add_path true m ≡ Some text → length text ≤ 4096 → written add_path false m ≡ Some text }
-    ensures one_text { (add_path : Bool) (one : Bool) (other : Bool) (m : Message) (text : List ℕ) (again : List ℕ) →
-        written add_path one m ≡ Some text → written add_path other m ≡ Some again → text ≡ again }
-{}
+pub use laws::{
+    attributes_again, one_text, route_again, sent_and_received, streams, values_are_short,
+    whole_messages, written_again,
+};
+pub use room::{put, put_u16, put_u32};

@@ -9,14 +9,14 @@ use Rattle.ug_types.specs.Ip.{IpAddress}
 use Rattle.ug_types.specs.Attributes.{Attributes}
 use Rattle.ug_types.specs.Messages.{Updates}
 use Rattle.ug_types.specs.Sessions.{message_limit}
-use Rattle.ug_wire.specs.Spelling.{optional, ipv6_unicast, sixteen_bytes, attributes_but_next_hop}
-use Rattle.ug_wire.specs.Spellable.{are_of_family, is_address, can_be_spelled}
-use Rattle.ug_wire.specs.Heads.{head, size_around, reach_place, reach_head}
-use Rattle.ug_wire.specs.Texts.{framed, written}
-use Rattle.ug_wire.specs.Texts as texts
-use Rattle.ug_wire_updates.specs.Updates.{AreAlike, IsSessionOf, announcing, own_routes, is_own, header}
-use Rattle.ug_wire_updates.proofs.Texts.{written_announcing}
-use Rattle.ug_wire_updates.proofs.NextHops.{with_next_hop, spelled_again, spliced}
+use Rattle.ug_message.specs.Spelling.{optional, ipv6_unicast, sixteen_bytes, attributes_but_next_hop}
+use Rattle.ug_message.specs.Spellable.{are_of_family, is_address, can_be_spelled}
+use Rattle.ug_message.specs.Heads.{head, size_around, reach_place, reach_head}
+use Rattle.ug_message.specs.Texts.{framed, written}
+use Rattle.ug_message.specs.Texts as texts
+use Rattle.ug_update.specs.Updates.{AreAlike, IsSessionOf, announcing, own_routes, is_own, header}
+use Rattle.ug_update.proofs.Texts.{written_announcing}
+use Rattle.ug_update.proofs.NextHops.{with_next_hop, spelled_again, spliced}
 use Rattle.ug_mp.proofs.Texts.{ipv6_announcement, regrouped}
 
 -- ---- the text around the next hop

@@ -8,14 +8,14 @@ use Rattle.ug_types.specs.declared.capabilities.Capabilities.{Capabilities}
 use Rattle.ug_types.specs.Ip.{IpAddress}
 use Rattle.ug_types.specs.Attributes.{Attributes}
 use Rattle.ug_types.specs.Sessions.{message_limit}
-use Rattle.ug_wire.specs.Spelling.{optional, ipv6_unicast, sixteen_bytes, mp_reach_nlri, mp_unreach_nlri, attributes_but_next_hop}
-use Rattle.ug_wire.specs.Heads.{head, size_around, reach_place, reach_head, unreach_head}
-use Rattle.ug_wire.specs.Texts.{framed}
-use Rattle.ug_wire.specs.Texts as texts
-use Rattle.ug_wire.proofs.Heads.{length_attribute, reach_is, unreach_is}
-use Rattle.ug_wire.proofs.WrittenAgain.{length_framed}
-use Rattle.ug_wire_updates.specs.Updates.{header}
-use Rattle.ug_wire_updates.proofs.Texts.{framed_is}
+use Rattle.ug_message.specs.Spelling.{optional, ipv6_unicast, sixteen_bytes, mp_reach_nlri, mp_unreach_nlri, attributes_but_next_hop}
+use Rattle.ug_message.specs.Heads.{head, size_around, reach_place, reach_head, unreach_head}
+use Rattle.ug_message.specs.Texts.{framed}
+use Rattle.ug_message.specs.Texts as texts
+use Rattle.ug_message.proofs.Heads.{length_attribute, reach_is, unreach_is}
+use Rattle.ug_message.proofs.WrittenAgain.{length_framed}
+use Rattle.ug_update.specs.Updates.{header}
+use Rattle.ug_update.proofs.Texts.{framed_is}
 
 around_by : (long : Bool) (len : ℕ) → len + 3 ≤ (if long then len + 4 else len + 3)
 around_by true len = omega arith

@@ -2,10 +2,10 @@
 use Rattle.std.specs.Prelude.{ℕ, ◌+◌, List, length}
 use Rattle.ug_types.specs.declared.key.Key.{Key}
 use Rattle.ug_types.specs.Attributes.{Attributes}
-use Rattle.ug_wire.specs.Spelling.{attributes_but_next_hop}
-use Rattle.ug_wire.specs.Heads.{size_around, reach_place}
-use Rattle.ug_wire.specs.Texts.{attributes_place}
-use Rattle.ug_wire_updates.specs.Updates.{weight_of_all}
+use Rattle.ug_message.specs.Spelling.{attributes_but_next_hop}
+use Rattle.ug_message.specs.Heads.{size_around, reach_place}
+use Rattle.ug_message.specs.Texts.{attributes_place}
+use Rattle.ug_update.specs.Updates.{weight_of_all}
 
 -- marker, length and type, two lengths, and MP_UNREACH_NLRI: the family in three bytes, and the routes
 abbrev pub withdrawal_size : List Key → ℕ

@@ -9,7 +9,7 @@ use std::process::Abort;
 use ug_types::{
     AttrParts, Attrs, Capabilities, Family, Item, Key, KeyList, Next, NoMemory, Sequence, Update,
 };
-use ug_wire_updates::read_all;
+use ug_update::read_all;
 
 /// What reading a stream gave: the messages, how many of them are End-of-RIB, the bytes that are left, and the fault.
 #[derive(Drop)]

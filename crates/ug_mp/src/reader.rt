@@ -1,12 +1,12 @@
 ghost use Rattle.std.specs.Prelude.{◌≡◌, ◌+◌, ◌<◌, ◌≤◌, ◌^◌, [], ◌++◌, List, ℕ, true, false, length, OnOk, OnErr, IfOk, IsOk};
 ghost use Rattle.ug_types.specs.declared.family.Family.TheVariants.{V6};
 ghost use Rattle.ug_types.specs.Messages as messages;
-ghost use Rattle.ug_wire_updates.specs.Readers.{new_reader, fed, front, answer_of, answer_at, state_after, given_by, HasRead, IsRight};
+ghost use Rattle.ug_update.specs.Readers.{new_reader, fed, front, answer_of, answer_at, state_after, given_by, HasRead, IsRight};
 
 use std::alloc::Global;
 use std::marker::Model;
 use ug_types::{Capabilities, Family, Next, NoMemory};
-use ug_wire_updates::Reader;
+use ug_update::Reader;
 
 /// Reads a stream of a session of IPv6 routes that comes in pieces, wherever these are cut.
 ///
@@ -24,7 +24,7 @@ pub struct Reader6 {
 impl Model for Reader6 {
     ghost use Rattle.std.specs.Prelude.{◌≡◌};
     ghost use Rattle.ug_types.specs.declared.family.Family.TheVariants.{V6};
-    ghost use Rattle.ug_wire_updates.specs.Readers.{ReaderState};
+    ghost use Rattle.ug_update.specs.Readers.{ReaderState};
 
     ghost Value = { ReaderState };
 

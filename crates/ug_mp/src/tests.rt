@@ -2,18 +2,18 @@
 
 ghost use Rattle.std.specs.Prelude.{◌≡◌, true, ◌+◌, ◌≤◌, ◌||◌, IsTrue, IfOk};
 ghost use Rattle.ug_types.specs.declared.family.Family.TheVariants.{V6};
-ghost use Rattle.ug_wire.specs.Spellable.{is_ipv4, has_ipv4_addresses, are_of_family};
-ghost use Rattle.ug_wire.specs.Lengths.{HasShortValues};
-ghost use Rattle.ug_wire_updates.specs.Updates.{have_identifiers, lack_identifiers, weight_of_all};
+ghost use Rattle.ug_message.specs.Spellable.{is_ipv4, has_ipv4_addresses, are_of_family};
+ghost use Rattle.ug_message.specs.Lengths.{HasShortValues};
+ghost use Rattle.ug_update.specs.Updates.{have_identifiers, lack_identifiers, weight_of_all};
 
 use super::*;
 use std::alloc::Global;
 use std::process::Abort;
+use ug_attrwire::size_but_next_hop;
+use ug_message::values_are_short;
 use ug_types::{
     Addr, Aggregator, AttrParts, Attrs, Family, Key, NoMemory, Prefix, Segment, Sequence, Written,
 };
-use ug_wire::values_are_short;
-use ug_wire_attributes::size_but_next_hop;
 
 /// Whether the bytes are the marker and then those that the text spells in hexadecimal; other signs are passed over.
 fn are_marked(bytes: &[u8], text: &str) -> bool {
@@ -114,7 +114,7 @@ fn is_ipv6(addr: &Addr) -> bool
 }
 
 /// Whether the next hop is of IPv6 and all other addresses are of IPv4.
-#[tactic(auto, unfolding(ug_wire::specs::Spellable::has_ipv4_addresses))]
+#[tactic(auto, unfolding(ug_message::specs::Spellable::has_ipv4_addresses))]
 fn has_families(attrs: &Attrs) -> bool
     ensures hop { IsTrue result → attrs.now.next_hop.family ≡ V6 }
     ensures others { IsTrue result → has_ipv4_addresses attrs.now ≡ true }

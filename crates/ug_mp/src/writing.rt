@@ -6,18 +6,16 @@ ghost use Rattle.ug_types.specs.declared.capabilities.Capabilities as sessions;
 ghost use Rattle.ug_types.specs.declared.family.Family.TheVariants.{V6};
 ghost use Rattle.ug_types.specs.Messages.{Updates};
 ghost use Rattle.ug_types.specs.Sessions.{message_limit};
-ghost use Rattle.ug_wire.specs.Spelling.{sixteen_bytes};
-ghost use Rattle.ug_wire.specs.Spellable.{has_ipv4_addresses, are_of_family, is_address};
-ghost use Rattle.ug_wire.specs.Texts.{written};
-ghost use Rattle.ug_wire_updates.specs.Updates.{AreAlike, IsSessionOf, withdrawing, announcing, IsMessageSize, header};
+ghost use Rattle.ug_message.specs.Spelling.{sixteen_bytes};
+ghost use Rattle.ug_message.specs.Spellable.{has_ipv4_addresses, are_of_family, is_address};
+ghost use Rattle.ug_message.specs.Texts.{written};
+ghost use Rattle.ug_update.specs.Updates.{AreAlike, IsSessionOf, withdrawing, announcing, IsMessageSize, header};
 ghost use Rattle.ug_mp.specs.Sizes.{withdrawal_size, announcement_size, next_hop_place};
 
 use std::alloc::Global;
+use ug_attrwire::{size_around, size_but_next_hop, write_but_next_hop, write_reach, write_unreach};
 use ug_types::{Attrs, ByteList, Key, NoMemory, Written};
-use ug_wire_attributes::{
-    size_around, size_but_next_hop, write_but_next_hop, write_reach, write_unreach,
-};
-use ug_wire_updates::{routes_size, start, write_routes, write_size};
+use ug_update::{routes_size, start, write_routes, write_size};
 
 /// The UPDATE that announces these IPv6 routes with these attributes, and where the value of the next hop stands in it.
 /// Routes and next hop stand in MP_REACH_NLRI, and there is no NEXT_HOP (RFC 4760 section 3).

@@ -1,3 +1,2 @@
 pub mod Routes
-pub mod Bits
-pub mod Again
+pub mod Padding

@@ -7,7 +7,7 @@ use Rattle.ug_types.specs.declared.key.Key.{Key}
 use Rattle.ug_types.specs.declared.family.Family.{Family}
 use Rattle.ug_types.specs.declared.family.Family.TheVariants.{V4, V6}
 use Rattle.ug_types.specs.Ip.{bytes_for, width_of}
-use Rattle.ug_types.specs.Spelling.{route}
+use Rattle.ug_message.specs.Spelling.{route}
 use Rattle.ug_types.specs.Keys.{weight_of}
 
 pub width_of-le : (family : Family) → width_of family ≤ 128

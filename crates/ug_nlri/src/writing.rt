@@ -1,9 +1,11 @@
-ghost use Rattle.std.specs.Prelude.{◌≡◌, ◌+◌, [], ◌∷◌, ◌++◌, ◌==◌, ◌≤◌, not, length, take, OnOk, OnErr, if◌then◌else◌};
+ghost use Rattle.std.specs.Prelude.{◌≡◌, true, ◌+◌, [], ◌∷◌, ◌++◌, ◌==◌, ◌≤◌, not, length, take, OnOk, OnErr, if◌then◌else◌};
 ghost use Rattle.std.specs.Int.{w32, w128, to_be_bytes};
 ghost use Rattle.ug_types.specs.Ip.{bytes_for};
 ghost use Rattle.ug_types.specs.Keys.{weight_of};
-ghost use Rattle.ug_types.specs.Spelling.{route};
+ghost use Rattle.ug_message.specs.Spelling.{route};
+ghost use Rattle.ug_message.specs.Spellable.{is_route};
 
+use ug_message::{put, put_u32};
 use ug_types::{ByteList, Key, NoMemory, Prefix};
 
 /// How many bytes the route takes in a message.
@@ -16,11 +18,14 @@ pub fn size(key: &Key) -> usize
 }
 
 /// Adds the route at the end, with its identifier where that isn't 0. Want of memory leaves the list as it was.
-#[tactic(auto, unfolding(ug_types::specs::Spelling::route))]
+#[tactic(auto, unfolding(ug_message::specs::Spelling::route))]
 pub fn write(out: &mut ByteList, key: &Key) -> Result<(), NoMemory>
     ensures ok { OnOk result (out.new.items ≡ out.old.items ++ route (not (key.now.id == 0)) key.now) }
     ensures err { OnErr result (out.new.items ≡ out.old.items) }
+    // The key is one that such a message can spell.
+    ensures formed { is_route key.now.prefix.family (not (key.now.id == 0)) key.now ≡ true }
 {
+    know(key);
     out.reserve(size(key))?;
     put_identifier(out, key.id);
     put_prefix(out, &key.prefix);
@@ -34,7 +39,7 @@ fn put_identifier(out: &mut ByteList, id: u32)
     ensures spare { out.old.spare ≤ out.new.spare + (if id == 0 then 0 else 4) }
 {
     if id != 0 {
-        put(out, &id.to_be_bytes());
+        put_u32(out, id);
     }
 }
 
@@ -48,11 +53,12 @@ fn put_prefix(out: &mut ByteList, prefix: &Prefix)
     put(out, &bytes[..(prefix.len as usize + 7) / 8]);
 }
 
-/// Adds bytes for which there is room.
-fn put(out: &mut ByteList, bytes: &[u8])
-    requires { length bytes.now ≤ out.old.spare }
-    ensures items { out.new.items ≡ out.old.items ++ bytes.now }
-    ensures spare { out.old.spare ≤ out.new.spare + length bytes.now }
+/// A key is one of its prefix's family.
+#[tactic(auto, unfolding(ug_message::specs::Spellable::is_route))]
+fn know(key: &Key)
+    ensures { is_route key.now.prefix.family (not (key.now.id == 0)) key.now ≡ true }
 {
-    let _ = out.extend_from_slice(bytes);
+    let _id = key.id;
+    let _bits = key.prefix.bits;
+    let _len = key.prefix.len;
 }

@@ -9,7 +9,7 @@ use Rattle.ug_types.specs.declared.family.Family.{Family}
 use Rattle.ug_types.specs.declared.family.Family.TheVariants.{V4, V6}
 use Rattle.ug_types.specs.Ip.{IpAddress, IpPrefix}
 use Rattle.ug_types.specs.Attributes.{Attributes, numbers_in, is_well_formed, refusal_of}
-use Rattle.ug_wire.specs.Spelling.{attributes, attributes_but_next_hop}
+use Rattle.ug_message.specs.Spelling.{attributes, attributes_but_next_hop}
 use Rattle.ug_types.specs.declared.route.Learned.{Learned}
 use Rattle.ug_types.specs.declared.route.Learned.TheVariants as learned
 use Rattle.ug_types.specs.declared.route.Path.{Path}

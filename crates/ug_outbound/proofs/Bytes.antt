@@ -7,9 +7,9 @@ use Rattle.std.proofs.lemmas.List.Sums.{sum_by-cons}
 use Rattle.ug_types.specs.Ip.{IpAddress}
 use Rattle.ug_types.specs.declared.attrs.Aggregator.{Aggregator}
 use Rattle.ug_types.specs.Attributes.{PathSegment, Attributes, numbers_in}
-use Rattle.ug_wire.specs.Spelling.{attribute, well_known, optional, optional_transitive, where_present, where_some, numbers, four_bytes, segments, origin, as_path, multi_exit_disc, local_pref, atomic_aggregate, aggregator, communities, originator_id, cluster_list, before_next_hop, after_next_hop, attributes, attributes_but_next_hop}
-use Rattle.ug_wire.proofs.Heads.{length_numbers}
-use Rattle.ug_wire.proofs.AttributeParts.{length_attributes, length_next_hop, but_next_hop_are}
+use Rattle.ug_message.specs.Spelling.{attribute, well_known, optional, optional_transitive, where_present, where_some, numbers, four_bytes, segments, origin, as_path, multi_exit_disc, local_pref, atomic_aggregate, aggregator, communities, originator_id, cluster_list, before_next_hop, after_next_hop, attributes, attributes_but_next_hop}
+use Rattle.ug_message.proofs.Heads.{length_numbers}
+use Rattle.ug_message.proofs.AttributeParts.{length_attributes, length_next_hop, but_next_hop_are}
 
 headed : (long : Bool) (flags type len : ℕ) (value : List ℕ)
     → length (if long then (flags + 16) ∷ type ∷ (to_be_bytes w16 len ++ value) else flags ∷ type ∷ len ∷ value) ≤ length value + 4

@@ -3,7 +3,7 @@
 ghost use Rattle.std.specs.Prelude.{◌≡◌, ◌≤◌, ℕ, true, false, [], length, Some, None};
 ghost use Rattle.ug_types.specs.Ip.{IpPrefix, IpAddress};
 ghost use Rattle.ug_types.specs.Attributes.{refusal_of};
-ghost use Rattle.ug_wire.specs.Spelling.{attributes, attributes_but_next_hop};
+ghost use Rattle.ug_message.specs.Spelling.{attributes, attributes_but_next_hop};
 ghost use Rattle.ug_types.specs.declared.route.Learned.TheVariants as learned;
 ghost use Rattle.ug_types.specs.declared.route.Path.{Path};
 ghost use Rattle.ug_types.specs.declared.route.OutAttrs.{OutAttrs};

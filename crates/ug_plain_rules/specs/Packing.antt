@@ -8,7 +8,7 @@ use Rattle.ug_types.specs.Attributes.{Attributes}
 use Rattle.ug_types.specs.Messages.{Message, Updates}
 use Rattle.ug_tables.specs.Tables.{Table}
 use Rattle.ug_tables.specs.Decisions.{decided_attributes}
-use Rattle.ug_wire.specs.Texts.{written}
+use Rattle.ug_message.specs.Texts.{written}
 
 -- an UPDATE that announces these keys, which share these attributes (RFC 4271 section 4.3)
 abbrev pub announcing : Attributes → List Key → Message

@@ -8,8 +8,8 @@ use Rattle.ug_board.specs.declared.steps.LaneSaid.{LaneSaid}
 use Rattle.ug_board.specs.declared.steps.LaneSaid.TheVariants.{Begun, Hand, Idle, Stop, Noted}
 use Rattle.ug_board.specs.Rules.{Rules, buffer_size}
 use Rattle.ug_deeds.specs.Deeds.{when}
-use Rattle.ug_wire.specs.Walking.{Fault}
-use Rattle.ug_wire.specs.Reading.{read_message}
+use Rattle.ug_message.specs.Walking.{Fault}
+use Rattle.ug_message.specs.Reading.{read_message}
 use Rattle.ug_events.specs.Events.{Happening}
 use Rattle.ug_world.specs.declared.peer_state.PeerState.{PeerState}
 use Rattle.ug_world.specs.World.{World}

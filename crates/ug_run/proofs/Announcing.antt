@@ -4,9 +4,9 @@ use Rattle.ug_types.specs.Ip.{IpPrefix, width_of}
 use Rattle.ug_types.specs.declared.family.Family.{Family}
 use Rattle.ug_types.specs.declared.family.Family.TheVariants.{V4, V6}
 use Rattle.ug_types.specs.Attributes.{Attributes}
-use Rattle.ug_wire.specs.Spelling.{attributes, attribute}
-use Rattle.ug_wire.specs.Spellable.{is_ipv4, has_ipv4_addresses, are_of_family}
-use Rattle.ug_wire_updates.specs.Updates.{announcement_size}
+use Rattle.ug_message.specs.Spelling.{attributes, attribute}
+use Rattle.ug_message.specs.Spellable.{is_ipv4, has_ipv4_addresses, are_of_family}
+use Rattle.ug_update.specs.Updates.{announcement_size}
 use Rattle.ug_rib.specs.One.{announced}
 
 announced_length : (origin : ℕ) → length (attributes (announced origin)) ≡ 20

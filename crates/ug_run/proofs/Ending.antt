@@ -10,7 +10,7 @@ use Rattle.ug_types.specs.Keys.{prefix_cmp}
 use Rattle.ug_types.specs.Messages.{Message}
 use Rattle.ug_types.specs.declared.key.Key.{Key}
 use Rattle.ug_types.specs.declared.route.Path.{Path}
-use Rattle.ug_wire.specs.Streams.{IsSentForm, IsUpdate, says_nothing}
+use Rattle.ug_message.specs.Streams.{IsSentForm, IsUpdate, says_nothing}
 use Rattle.ug_tables.specs.Tables.{tables_after, table_of}
 use Rattle.ug_tables.specs.Climbing.{NeverBack, Follows}
 use Rattle.ug_tables.specs.ClimbingLaws.{NeverBack-from}

@@ -3,7 +3,7 @@ use Rattle.std.proofs.Common.{◌≡◌, ℕ, zero, suc, ◌+◌, ◌≤◌, Boo
 use Rattle.std.specs.Prelude.{slice_get}
 use Rattle.std.specs.List.{AllByRecursion}
 use Rattle.ug_types.specs.Messages.{Message}
-use Rattle.ug_wire.specs.Streams.{says_nothing}
+use Rattle.ug_message.specs.Streams.{says_nothing}
 use Rattle.ug_tables.specs.Tables.{table_of}
 use Rattle.ug_event.specs.Events.{Line}
 use Rattle.ug_run.specs.Course.{IsOpening, opened, run_worlds, end_of_rib}

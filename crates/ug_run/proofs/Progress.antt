@@ -34,7 +34,7 @@ use Rattle.ug_event.specs.Grammar.{local_paths}
 use Rattle.ug_rib.specs.One.{configured_world, one_local, p1, one_world, local_path, announced}
 use Rattle.ug_run.specs.Course.{run_lines, run_world, session_past, HasOrigin, HasOrigins, IsCourse, IsOpening, told_of, tells, end_of_rib}
 use Rattle.ug_run.specs.Sessions.{HasSent, sent_messages}
-use Rattle.ug_wire.specs.Streams.{says_nothing}
+use Rattle.ug_message.specs.Streams.{says_nothing}
 use Rattle.std.specs.List.{AllByRecursion}
 
 accepted_worlds-append : (w : World) (a b : List Line) → accepted_worlds w (a ++ b) ≡ accepted_worlds w a ++ accepted_worlds (last_world w a) b

@@ -2,8 +2,8 @@
 use Rattle.std.proofs.Common.{◌≡◌, ℕ, Bool, true, false, List, [], ◌∷◌, ◌++◌, take, drop, Option, Some, None, refl, sym, ap, ◌∙◌, append_assoc, arith}
 use Rattle.std.proofs.lemmas.List.{append-nil, length-drop, take-append-drop}
 use Rattle.ug_types.specs.Messages.{Message}
-use Rattle.ug_wire.specs.Texts.{written, withdrawal, framed}
-use Rattle.ug_wire.specs.Streams.{AreWritten, AreOf, IsCut, IsUpdate}
+use Rattle.ug_message.specs.Texts.{written, withdrawal, framed}
+use Rattle.ug_message.specs.Streams.{AreWritten, AreOf, IsCut, IsUpdate}
 use Rattle.ug_edge.specs.Told.{onto_last, SendsPiece, IsFresh, BeginsSession}
 use Rattle.ug_run.specs.Sessions.{plain_ipv4, HasSent, SendsFront}
 use Rattle.ug_run.specs.Course.{end_of_rib}

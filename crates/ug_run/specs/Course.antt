@@ -9,7 +9,7 @@ use Rattle.ug_types.specs.Attributes.{Attributes}
 use Rattle.ug_types.specs.Messages.{Message, Updates}
 use Rattle.ug_types.specs.declared.key.Key.{Key}
 use Rattle.ug_types.specs.declared.route.Path.{Path}
-use Rattle.ug_wire.specs.Streams.{says_nothing}
+use Rattle.ug_message.specs.Streams.{says_nothing}
 use Rattle.ug_tables.specs.Tables.{Table, table_of, tables_after}
 use Rattle.ug_tables.specs.Climbing.{Follows}
 use Rattle.ug_rib.specs.World.{World}

@@ -5,7 +5,7 @@ use Rattle.ug_types.specs.declared.capabilities.Capabilities.{Capabilities}
 use Rattle.ug_types.specs.declared.family.Family.TheVariants.{V4}
 use Rattle.ug_types.specs.declared.key.Key.{Key}
 use Rattle.ug_types.specs.Messages.{Message}
-use Rattle.ug_wire.specs.Streams.{IsSentForm, IsUpdate, says_nothing}
+use Rattle.ug_message.specs.Streams.{IsSentForm, IsUpdate, says_nothing}
 use Rattle.ug_tables.specs.Tables.{Table, tables_after, table_of}
 use Rattle.ug_tables.specs.Climbing.{NeverBack}
 use Rattle.ug_edge.specs.Told.{AppendsPiece, FileTold, Untold, Missing, Bytes, WiresMade, AppendsNames}

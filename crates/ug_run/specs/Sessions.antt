@@ -3,7 +3,7 @@ use Rattle.std.specs.Prelude.{◌≡◌, ℕ, ◌<◌, Bool, false, List, [], �
 use Rattle.ug_types.specs.declared.capabilities.Capabilities.{Capabilities}
 use Rattle.ug_types.specs.declared.family.Family.TheVariants.{V4}
 use Rattle.ug_types.specs.Messages.{Message}
-use Rattle.ug_wire.specs.Streams.{IsSentForm, IsUpdate}
+use Rattle.ug_message.specs.Streams.{IsSentForm, IsUpdate}
 use Rattle.ug_edge.specs.Told.{SendsPiece}
 
 -- what the session of p1 is opened with: IPv4 routes without path identifiers, and no extended messages

@@ -4,7 +4,7 @@
 ghost use Rattle.std.specs.Prelude.{◌≡◌, ◌≤◌, Some, IfOk};
 ghost use Rattle.std.specs.Coded.{Coded-set};
 ghost use Rattle.ug_types.specs.declared.family.Family.TheVariants.{V4};
-ghost use Rattle.ug_wire.specs.Texts.{written};
+ghost use Rattle.ug_message.specs.Texts.{written};
 ghost use Rattle.ug_rib.specs.One.{announced};
 ghost use Rattle.ug_run.specs.Course.{announces, withdraws, end_of_rib};
 ghost use Rattle.ug_run.specs.Sessions.{plain_ipv4};
@@ -13,7 +13,7 @@ ghost use Rattle.ug_event.specs.Origins.{origin_number};
 use std::alloc::Global;
 use ug_event::Origin;
 use ug_types::{Addr, AttrParts, Attrs, ByteList, Key, NoMemory, Prefix, Segment, Sequence};
-use ug_wire_updates::{write_eor, write_update, write_withdraw};
+use ug_update::{write_eor, write_update, write_withdraw};
 
 /// The attributes with which the peer is told of routes, by their origin.
 #[derive(Drop)]

@@ -2,8 +2,8 @@
 
 ghost use Rattle.std.specs.Prelude.{◌≡◌, ◌+◌, ◌<◌, ◌≤◌, List, [], ◌∷◌, ◌++◌, take, drop, Some, Bool, true, false, OnOk, OnErr};
 ghost use Rattle.ug_types.specs.Messages.{Message};
-ghost use Rattle.ug_wire.specs.Streams.{IsUpdate};
-ghost use Rattle.ug_wire.specs.Texts.{written};
+ghost use Rattle.ug_message.specs.Streams.{IsUpdate};
+ghost use Rattle.ug_message.specs.Texts.{written};
 ghost use Rattle.ug_edge.specs.Told.{Rose, SendsPiece, IsFresh};
 ghost use Rattle.ug_run.specs.Sessions.{plain_ipv4, HasSent, SendsFront, sent_messages};
 

@@ -1,7 +1,7 @@
 //! The speaker of `one`: its one peer's session, and the routes that it has.
 
 ghost use Rattle.std.specs.Prelude.{◌≡◌, ◌++◌, [], ◌∷◌, List, OnOk, OnErr, IfOk, Some, is_some, true, false};
-ghost use Rattle.ug_wire.specs.Texts.{written};
+ghost use Rattle.ug_message.specs.Texts.{written};
 ghost use Rattle.ug_edge.specs.Told.{IsFresh};
 ghost use Rattle.ug_types.specs.Messages.{Message};
 ghost use Rattle.ug_types.specs.declared.family.Family.TheVariants.{V4};

@@ -7,7 +7,7 @@ use Rattle.ug_board.specs.declared.steps.LaneSaid.TheVariants.{Begun, Hand, Idle
 use Rattle.ug_board.specs.Entry.{Entry}
 use Rattle.ug_board.specs.Rules.{Rules, counts, says_more}
 use Rattle.ug_board.specs.History.{IsLegal, replay, job_entry}
-use Rattle.ug_wire.specs.Texts.{written}
+use Rattle.ug_message.specs.Texts.{written}
 use Rattle.ug_outbound.specs.Bounds.{SetsFew}
 use Rattle.ug_events.specs.Events.{Happening, IsEvent}
 use Rattle.ug_world.specs.declared.parts.WorldParts.{WorldParts}

@@ -5,7 +5,7 @@ use Rattle.ug_types.specs.declared.key.Key.{Key}
 use Rattle.ug_types.specs.Messages.{Message, Updates, Begins, Ends, Ignored}
 use Rattle.ug_tables.specs.Tables.{Table, Reading, nothing_read, applied, table_of, tables_after, among}
 use Rattle.ug_tables.specs.Climbing.{NeverBack}
-use Rattle.ug_wire.specs.Streams.{AreOf, IsUpdate, says_nothing}
+use Rattle.ug_message.specs.Streams.{AreOf, IsUpdate, says_nothing}
 use Rattle.ug_outbound.specs.declared.peer.Peer.{Peer}
 use Rattle.ug_world.specs.World.{World}
 use Rattle.ug_world.specs.Private.{private_table}

@@ -5,7 +5,6 @@ pub mod Names
 pub mod Attributes
 pub mod Bare
 pub mod Messages
-pub mod Spelling
 pub mod Sessions
 pub mod Orders
 pub mod OrderLaws

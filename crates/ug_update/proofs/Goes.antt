@@ -6,22 +6,22 @@ use Rattle.ug_types.specs.declared.memory.NoMemory.{NoMemory}
 use Rattle.ug_types.specs.declared.message.Next.{Next}
 use Rattle.ug_types.specs.declared.message.Next.TheVariants as nexts
 use Rattle.ug_types.specs.Messages.{Message, message_of}
-use Rattle.ug_update.specs.Reading.{message_size}
-use Rattle.ug_update.specs.Streams.{Front, Says, Faulty, Awaited}
+use Rattle.ug_message.specs.Reading.{message_size}
+use Rattle.ug_message.specs.Received.{Front, Says, Faulty, Awaited}
 use Rattle.ug_update.specs.Readers.{ReaderState, front, answer_of, answer_at, behind_message, state_after, given_by, HasRead, IsRight}
-use Rattle.ug_update.proofs.Fronts.{says_first, awaited_unfinished, spelled_more}
+use Rattle.ug_message.proofs.Fronts.{says_first, awaited_unfinished, spelled_more}
 
 none_given : (r : ReaderState) (stream : List ℕ) (given : List Message) → HasRead r stream given → HasRead r stream (given ++ [])
 none_given r stream given has = subst (λ (g : List Message). HasRead r stream g) (sym (append-nil given)) has
 
 pub one_given : (r : ReaderState) (m : Message) (stream : List ℕ) (given : List Message) → front r ≡ Says m → HasRead r stream given → HasRead (behind_message r) stream (given ++ m ∷ [])
 one_given r m stream given is has =
-    let first = says_first r.add_path r.extended r.left m is in
+    let first = says_first r.session r.left m is in
     let size = message_size r.left in
     let text = take size r.left in
     record {
       whole = has.whole ++ text;
-      are_spelled = spelled_more r.add_path r.extended given has.whole m text has.are_spelled first.spells;
+      are_spelled = spelled_more r.session given has.whole m text has.are_spelled first.spells;
       parts = has.parts ∙ ap (λ (l : List ℕ). has.whole ++ l) (sym (take-append-drop size r.left)) ∙ sym (append_assoc has.whole text (drop size r.left));
       taken = omega (arith, has.taken, length-append has.whole text, length-take-le size r.left first.there);
     }
@@ -48,7 +48,7 @@ right_by r (nexts.Message item) f is answer stream given has = tt
 right_by r nexts.NeedMore (Says m) is answer stream given has = absurd cc
 right_by r nexts.NeedMore (Faulty f) is answer stream given has = absurd cc
 right_by r nexts.NeedMore Awaited is answer stream given has =
-    record { whole = has.whole; are_spelled = has.are_spelled; parts = has.parts; is_unfinished = awaited_unfinished r.add_path r.extended r.left is }
+    record { whole = has.whole; are_spelled = has.are_spelled; parts = has.parts; is_unfinished = awaited_unfinished r.session r.left is }
 right_by r (nexts.Bad cause offset) (Says m) is answer stream given has = absurd cc
 right_by r (nexts.Bad cause offset) (Faulty f) is answer stream given has =
     let cause_is : cause ≡ f.number = cc in

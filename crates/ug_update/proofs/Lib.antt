@@ -1,10 +1,5 @@
 pub mod Texts
-pub mod RoutesRead
 pub mod RouteFaults
-pub mod Headers
-pub mod Fronts
 pub mod Goes
-pub mod Whole
 pub mod FromStart
-pub mod WrittenAgain
-pub mod Spelled
+pub mod NextHops

@@ -1,33 +1,35 @@
 -- A reader of a stream that comes in pieces: what is to be known of it, and what its answers say.
-use Rattle.std.specs.Prelude.{◌≡◌, ℕ, ◌+◌, ◌<◌, ◌≤◌, ◌^◌, Bool, true, false, List, [], ◌∷◌, ◌++◌, length, drop, Option, Some, None, if◌then◌else◌}
+use Rattle.std.specs.Prelude.{◌≡◌, ℕ, ◌+◌, ◌<◌, ◌≤◌, ◌^◌, Bool, true, false, List, [], ◌∷◌, ◌++◌, length, take, drop, Option, Some, None, if◌then◌else◌}
 use Rattle.ug_types.specs.declared.message.Next.{Next}
 use Rattle.ug_types.specs.declared.message.Next.TheVariants as nexts
+use Rattle.ug_types.specs.declared.family.Family.{Family}
+use Rattle.ug_types.specs.declared.capabilities.Capabilities.{Capabilities}
 use Rattle.ug_types.specs.Messages.{Message, message_of}
-use Rattle.ug_attrwire.specs.Walking.{Fault}
 use Rattle.ug_update.specs.declared.fault.Fault as found
 use Rattle.ug_update.specs.declared.ahead.Ahead.{Ahead}
 use Rattle.ug_update.specs.declared.ahead.Ahead.TheVariants as ahead
-use Rattle.ug_update.specs.Reading.{message_size}
-use Rattle.ug_update.specs.Streams.{AreSpelled, IsStream, Front, Says, Faulty, Awaited, front_of}
+use Rattle.ug_message.specs.Reading.{message_size, ends_rib}
+use Rattle.ug_message.specs.Received.{AreSpelled, IsStream, Front, Says, Faulty, Awaited, front_of, IsFaultyAt}
 use Rattle.ug_update.specs.Views.{fault_of}
 
--- How many bytes are taken, those that are left, and whether a fault was answered.
+-- The session, how many bytes are taken, those that are left, whether a fault was answered, and whether the last message
+-- that was given is End-of-RIB.
 pub record ReaderState : Type 0 where
-  pub add_path : Bool
-  pub extended : Bool
+  pub session : Capabilities
   pub taken : ℕ
   pub left : List ℕ
   pub stopped : Bool
+  pub ended : Bool
 
-abbrev pub new_reader : Bool → Bool → ReaderState
-new_reader add_path extended = record { add_path = add_path; extended = extended; taken = 0; left = []; stopped = false }
+abbrev pub new_reader : Capabilities → ReaderState
+new_reader c = record { session = c; taken = 0; left = []; stopped = false; ended = false }
 
 -- behind a fault no piece is taken in
 abbrev pub fed : ReaderState → List ℕ → ReaderState
 fed r piece = if r.stopped then r else record r { left = r.left ++ piece }
 
 abbrev pub front : ReaderState → Front
-front r = front_of r.add_path r.extended r.left
+front r = front_of r.session r.left
 
 -- ---- answers
 
@@ -48,7 +50,8 @@ answer_at taken (Faulty f) = IsBad f.number (taken + f.place)
 answer_at taken Awaited = Waits
 
 abbrev pub behind_message : ReaderState → ReaderState
-behind_message r = record r { taken = r.taken + message_size r.left; left = drop (message_size r.left) r.left }
+behind_message r =
+    record r { taken = r.taken + message_size r.left; left = drop (message_size r.left) r.left; ended = ends_rib r.session.family (take (message_size r.left) r.left) }
 
 abbrev pub state_after : ReaderState → Front → ReaderState
 state_after r (Says m) = behind_message r
@@ -65,38 +68,28 @@ given_by (nexts.Bad cause offset) = []
 -- The stream that was fed is these messages, which were given, and then what is left.
 pub record HasRead (r : ReaderState) (stream : List ℕ) (messages : List Message) : Type 0 where
   pub whole : List ℕ
-  pub are_spelled : AreSpelled r.add_path r.extended messages whole
+  pub are_spelled : AreSpelled r.session messages whole
   pub parts : stream ≡ whole ++ r.left
   pub taken : r.taken ≡ length whole
-
--- Behind these messages comes a fault, at this offset.
-pub record IsFaultyAt (add_path extended : Bool) (stream : List ℕ) (messages : List Message) (cause offset : ℕ) : Type 0 where
-  pub whole : List ℕ
-  pub rest : List ℕ
-  pub are_spelled : AreSpelled add_path extended messages whole
-  pub parts : stream ≡ whole ++ rest
-  pub first : Fault
-  pub is_first : front_of add_path extended rest ≡ Faulty first
-  pub cause_is : cause ≡ first.number
-  pub offset_is : offset ≡ length whole + first.place
 
 -- An answer is right of a stream whose messages before it are these.
 abbrev pub IsRight : ReaderState → List ℕ → List Message → Next → Type 0
 IsRight r stream messages (nexts.Message item) = Unit {0}
-IsRight r stream messages nexts.NeedMore = IsStream r.add_path r.extended stream messages r.left
-IsRight r stream messages (nexts.Bad cause offset) = IsFaultyAt r.add_path r.extended stream messages cause offset
+IsRight r stream messages nexts.NeedMore = IsStream r.session stream messages r.left
+IsRight r stream messages (nexts.Bad cause offset) = IsFaultyAt r.session stream messages cause offset
 
 -- ---- what the reader keeps
 
 abbrev pub ahead_of : Ahead → Front
-ahead_of (ahead.Message item size) = Says (message_of item)
+ahead_of (ahead.Message item size eor) = Says (message_of item)
 ahead_of (ahead.Faulty f) = Faulty (fault_of f)
 ahead_of ahead.Awaited = Awaited
 
-abbrev pub IsSized : List ℕ → Ahead → Type 0
-IsSized bytes (ahead.Message item size) = (size ≡ message_size bytes) × (0 < size) × (size ≤ length bytes)
-IsSized bytes (ahead.Faulty f) = f.place ≤ length bytes
-IsSized bytes ahead.Awaited = Unit {0}
+abbrev pub IsSized : Family → List ℕ → Ahead → Type 0
+IsSized family bytes (ahead.Message item size eor) =
+    (size ≡ message_size bytes) × (0 < size) × (size ≤ length bytes) × (eor ≡ ends_rib family (take (message_size bytes) bytes))
+IsSized family bytes (ahead.Faulty f) = f.place ≤ length bytes
+IsSized family bytes ahead.Awaited = Unit {0}
 
 -- a fault that was answered is still the one of the bytes that are left
 abbrev pub IsKept : Option found.Fault → Front → List ℕ → Type 0

@@ -3,10 +3,13 @@ use Rattle.std.specs.Prelude.{◌≡◌, ℕ, ◌+◌, ◌≤◌, ◌==◌, Bool
 use Rattle.std.specs.List.{list_all, flat_map}
 use Rattle.std.specs.Int.{w16, to_be_bytes}
 use Rattle.ug_types.specs.declared.key.Key.{Key}
+use Rattle.ug_types.specs.declared.family.Family.{Family}
+use Rattle.ug_types.specs.declared.capabilities.Capabilities.{Capabilities}
 use Rattle.ug_types.specs.Attributes.{Attributes}
 use Rattle.ug_types.specs.Keys.{weight_of}
 use Rattle.ug_types.specs.Messages.{Changes}
-use Rattle.ug_types.specs.Spelling.{route, attributes}
+use Rattle.ug_message.specs.Spelling.{route, attributes}
+use Rattle.ug_message.specs.Spellable.{is_route}
 
 -- the routes have path identifiers, as under ADD-PATH
 abbrev pub have_identifiers : List Key → Bool
@@ -50,3 +53,12 @@ own_routes keys = flat_map (λ (key : Key). route (not (key.id == 0)) key) keys
 -- the marker, the length of the message, and the type of an UPDATE
 abbrev pub header : ℕ → List ℕ
 header size = replicate 16 255 ++ (to_be_bytes w16 size ++ 2 ∷ [])
+
+-- the session of a message of these routes: their family, and ADD-PATH where they have identifiers
+pub record IsSessionOf (family : Family) (keys : List Key) (c : Capabilities) : Type 0 where
+  pub of_family : c.family ≡ family
+  pub add_path : c.add_path ≡ have_identifiers keys
+
+-- a key as a message of its own can spell it
+abbrev pub is_own : Key → Bool
+is_own key = is_route key.prefix.family (not (key.id == 0)) key

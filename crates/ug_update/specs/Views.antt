@@ -4,8 +4,8 @@ use Rattle.ug_update.specs.declared.fault.Fault.{Fault}
 use Rattle.ug_update.specs.declared.fault.MessageFault.{MessageFault}
 use Rattle.ug_update.specs.declared.fault.MessageFault.TheVariants as faults
 use Rattle.ug_update.specs.declared.parts.Parts.{Parts}
-use Rattle.ug_attrwire.specs.Walking as walking
-use Rattle.ug_update.specs.Reading as reading
+use Rattle.ug_message.specs.Walking as walking
+use Rattle.ug_message.specs.Reading as reading
 
 abbrev pub fault_of : Fault → walking.Fault
 fault_of f = walking.fault f.cause f.place

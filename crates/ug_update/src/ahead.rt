@@ -3,9 +3,9 @@
 use crate::fault::Fault;
 use ug_types::Item;
 
-/// A message and how many bytes it has, a fault, or neither before more bytes come.
+/// A message, how many bytes it has and whether it is End-of-RIB; a fault; or neither before more bytes come.
 pub enum Ahead {
-    Message(Item, usize),
+    Message(Item, usize, bool),
     Faulty(Fault),
     Awaited,
 }

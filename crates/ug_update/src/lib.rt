@@ -5,20 +5,20 @@
 mod ahead;
 mod alike;
 mod fault;
-mod laws;
 mod parts;
+mod plain;
 mod reader;
 mod reading;
 mod window;
 mod writing;
 
 pub use alike::routes_are_alike;
-pub use laws::{streams, whole_messages, written_again};
+pub use plain::read_all;
 pub use reader::Reader;
-pub use writing::{write_eor, write_update, write_withdraw};
+pub use writing::{
+    routes_size, start, write_eor, write_routes, write_size, write_update, write_withdraw,
+};
 
-#[cfg(test)]
-mod plain;
 #[cfg(test)]
 mod read_tests;
 #[cfg(test)]

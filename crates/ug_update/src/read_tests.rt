@@ -6,8 +6,8 @@ use super::*;
 use std::alloc::Global;
 use std::process::Abort;
 use ug_types::{
-    Addr, AttrParts, Attrs, Family, Item, Key, Next, NoMemory, Prefix, Segment, SegmentList,
-    Sequence, Update,
+    Addr, AttrParts, Attrs, Capabilities, Family, Item, Key, Next, NoMemory, Prefix, Segment,
+    SegmentList, Sequence, Update,
 };
 
 /// What reading a stream gave: the messages, how many of them are End-of-RIB, the bytes that are left, and the fault.
@@ -49,7 +49,6 @@ fn drain(reader: &mut Reader, outcome: &mut Outcome) -> Result<(), NoMemory>
     ensures { OnOk result (reader.new.taken + length reader.new.left ≡ reader.old.taken + length reader.old.left) }
 {
     for _ in 0..100000 {
-        let before = reader.rest();
         match reader.next()? {
             Next::NeedMore => break,
             Next::Bad { cause, offset } => {
@@ -57,7 +56,7 @@ fn drain(reader: &mut Reader, outcome: &mut Outcome) -> Result<(), NoMemory>
                 break;
             }
             Next::Message(item) => {
-                if before.wrapping_sub(reader.rest()) == 23 && is_update(&item) {
+                if reader.was_eor() {
                     outcome.eors = outcome.eors.wrapping_add(1);
                 }
                 outcome.items.push(item)?;
@@ -66,10 +65,6 @@ fn drain(reader: &mut Reader, outcome: &mut Outcome) -> Result<(), NoMemory>
     }
     outcome.rest = reader.rest();
     Ok(())
-}
-
-fn is_update(item: &Item) -> bool {
-    matches!(item, Item::Update(_))
 }
 
 /// Reads a stream that comes in pieces of that many bytes.
@@ -401,7 +396,12 @@ fn faults_stay(rt: HostRuntime) -> Result<(), NoMemory> {
 
 /// Whether reading a stream in small pieces gives what the plain program gives.
 fn agrees(rt: &impl Abort, alloc: Global, stream: &[u8]) -> Result<(), NoMemory> {
-    let (items, fault) = plain::read_all(alloc, false, false, stream)?;
+    let session = Capabilities {
+        family: Family::V4,
+        add_path: false,
+        extended: false,
+    };
+    let (items, fault) = read_all(alloc, session, stream)?;
     let pieces = run(alloc, false, false, stream, 5)?;
     assert_eq!(rt; pieces.bad, fault, "{stream:?}");
     assert_eq!(rt; pieces.items.len(), items.len(), "{stream:?}");

@@ -1,6 +1,7 @@
 ghost use Rattle.std.specs.Prelude.{◌≡◌, ◌+◌, ◌<◌, ◌≤◌, ◌^◌, [], ◌++◌, List, ℕ, true, false, length, OnOk, OnErr, IfOk, IsOk};
+ghost use Rattle.ug_types.specs.declared.family.Family.TheVariants.{V4};
 ghost use Rattle.ug_types.specs.Messages as messages;
-ghost use Rattle.ug_update.specs.Streams.{front_of};
+ghost use Rattle.ug_message.specs.Received.{front_of};
 ghost use Rattle.ug_update.specs.Readers.{ReaderState, new_reader, fed, front, answer_of, answer_at, state_after, given_by, HasRead, IsRight, ahead_of, IsSized};
 
 use crate::ahead::Ahead;
@@ -9,7 +10,7 @@ use crate::reading::{header_fault, read_body, size_at};
 use crate::window::Window;
 use std::alloc::Global;
 use std::marker::Model;
-use ug_types::{Next, NoMemory};
+use ug_types::{Capabilities, Family, Next, NoMemory};
 
 /// Reads a stream of messages that comes in pieces, wherever these are cut.
 ///
@@ -24,38 +25,52 @@ use ug_types::{Next, NoMemory};
 #[derive(Drop)]
 pub struct Reader {
     alloc: Global,
-    add_path: bool,
-    extended: bool,
+    session: Capabilities,
     taken: u64,
     left: Window,
     fault: Option<Fault>,
+    ended: bool,
 }
 
 impl Model for Reader {
     ghost use Rattle.std.specs.Prelude.{is_some};
-    ghost use Rattle.ug_update.specs.Streams.{front_of};
+    ghost use Rattle.ug_message.specs.Received.{front_of};
     ghost use Rattle.ug_update.specs.Readers.{ReaderState, IsReader};
 
     ghost Value = { ReaderState };
 
-    ghost view = { λ r. record { add_path = r.add_path; extended = r.extended; taken = r.taken; left = r.left; stopped = is_some r.fault } };
+    ghost view = { λ r. record { session = r.session; taken = r.taken; left = r.left; stopped = is_some r.fault; ended = r.ended } };
 
-    ghost invariant = { λ r. IsReader r.taken r.left r.fault (front_of r.add_path r.extended r.left) };
+    ghost invariant = { λ r. IsReader r.taken r.left r.fault (front_of r.session r.left) };
 }
 
 impl Reader {
-    /// A reader before any byte has come. It takes no memory.
+    /// A reader of a session of IPv4 routes, before any byte has come. It takes no memory.
     pub fn new(alloc: Global, add_path: bool, extended: bool) -> Reader
-        ensures is { result ≡ new_reader add_path extended }
+        ensures is { result ≡ new_reader (record { family = V4; add_path = add_path; extended = extended }) }
+        ensures stream { HasRead result [] [] }
+    {
+        let family = Family::V4;
+        let session = Capabilities {
+            family,
+            add_path,
+            extended,
+        };
+        Reader::of(alloc, session)
+    }
+
+    /// A reader of a session of either family, before any byte has come. It takes no memory.
+    pub fn of(alloc: Global, session: Capabilities) -> Reader
+        ensures is { result ≡ new_reader session }
         ensures stream { HasRead result [] [] }
     {
         Reader {
             alloc,
-            add_path,
-            extended,
+            session,
             taken: 0,
             left: Window::new(alloc),
             fault: None,
+            ended: false,
         }
     }
 
@@ -104,18 +119,14 @@ impl Reader {
         if let Some(fault) = self.fault {
             return Ok(bad(self.taken, fault));
         }
-        match ahead(
-            self.alloc,
-            self.add_path,
-            self.extended,
-            self.left.as_slice(),
-        )? {
+        match ahead(self.alloc, self.session, self.left.as_slice())? {
             Ahead::Awaited => Ok(Next::NeedMore),
             Ahead::Faulty(fault) => {
                 self.fault = Some(fault);
                 Ok(bad(self.taken, fault))
             }
-            Ahead::Message(item, size) => {
+            Ahead::Message(item, size, ended) => {
+                self.ended = ended;
                 self.left.take(size);
                 self.taken += size as u64;
                 Ok(Next::Message(item))
@@ -130,6 +141,14 @@ impl Reader {
     {
         self.left.len()
     }
+
+    /// Whether a message was given and the last one that was given is End-of-RIB.
+    pub fn was_eor(&self) -> bool
+        ensures ended { result ≡ self.now.ended }
+        ensures fits { self.now.taken + length self.now.left < 2 ^ 64 }
+    {
+        self.ended
+    }
 }
 
 fn bad(taken: u64, fault: Fault) -> Next
@@ -143,15 +162,15 @@ fn bad(taken: u64, fault: Fault) -> Next
 }
 
 /// What the bytes begin with.
-#[tactic(auto, using(crate::proofs::Headers::body_size), unfolding(crate::specs::Streams::front_of))]
-pub fn ahead(alloc: Global, add_path: bool, extended: bool, bytes: &[u8]) -> Result<Ahead, NoMemory>
-    ensures exact { IfOk result (λ a. ahead_of a ≡ front_of add_path extended bytes.now) }
-    ensures size { IfOk result (IsSized bytes.now) }
+#[tactic(auto, using(ug_message::proofs::Headers::body_size), unfolding(ug_message::specs::Received::front_of))]
+pub fn ahead(alloc: Global, session: Capabilities, bytes: &[u8]) -> Result<Ahead, NoMemory>
+    ensures exact { IfOk result (λ a. ahead_of a ≡ front_of session bytes.now) }
+    ensures size { IfOk result (IsSized session.family bytes.now) }
 {
     if bytes.len() < 19 {
         return Ok(Ahead::Awaited);
     }
-    if let Some(fault) = header_fault(extended, bytes) {
+    if let Some(fault) = header_fault(session, bytes) {
         return Ok(Ahead::Faulty(fault));
     }
     let size = size_at(16, bytes);
@@ -159,8 +178,8 @@ pub fn ahead(alloc: Global, add_path: bool, extended: bool, bytes: &[u8]) -> Res
         return Ok(Ahead::Awaited);
     }
     let (message, _) = bytes.split_at(size);
-    match read_body(alloc, add_path, message) {
-        Ok(item) => Ok(Ahead::Message(item, size)),
+    match read_body(alloc, session, message) {
+        Ok((item, ended)) => Ok(Ahead::Message(item, size, ended)),
         Err(MessageFault::Refused(fault)) => Ok(Ahead::Faulty(fault)),
         Err(MessageFault::NoMemory) => Err(NoMemory),
     }

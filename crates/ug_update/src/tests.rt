@@ -1,13 +1,16 @@
 //! Messages whose bytes were worked out by hand.
 
-ghost use Rattle.std.specs.Prelude.{◌≡◌, ◌+◌, ◌≤◌, ◌||◌, IsTrue, IfOk};
-ghost use Rattle.ug_attrwire.specs.Lengths.{HasShortValues};
+ghost use Rattle.std.specs.Prelude.{◌≡◌, true, ◌+◌, ◌≤◌, ◌||◌, IsTrue, IfOk};
+ghost use Rattle.ug_types.specs.declared.family.Family.TheVariants.{V4};
+ghost use Rattle.ug_message.specs.Spellable.{is_ipv4, has_ipv4_addresses, are_of_family};
+ghost use Rattle.ug_message.specs.Lengths.{HasShortValues};
 ghost use Rattle.ug_update.specs.Updates.{have_identifiers, lack_identifiers, weight_of_all};
 
 use super::*;
 use std::alloc::Global;
 use std::process::Abort;
-use ug_attrwire::{size_of, values_are_short};
+use ug_attrwire::size_of;
+use ug_message::values_are_short;
 use ug_nlri::NlriRefusal;
 use ug_types::{
     Addr, Aggregator, AttrParts, Attrs, ByteList, Family, Key, NoMemory, NumberList, Prefix,
@@ -118,6 +121,38 @@ fn are_alike(keys: &[Key]) -> bool
     have_identifiers(keys) || lack_identifiers(keys)
 }
 
+fn are_ipv4(keys: &[Key]) -> bool
+    ensures { result ≡ are_of_family V4 keys.now }
+{
+    keys.iter().all(|key| key.prefix.family == Family::V4)
+}
+
+fn is_ipv4(addr: &Addr) -> bool
+    ensures { result ≡ is_ipv4 addr.now }
+{
+    addr.family == Family::V4
+}
+
+/// Whether all addresses are of IPv4.
+#[tactic(auto, unfolding(ug_message::specs::Spellable::has_ipv4_addresses))]
+fn has_ipv4(attrs: &Attrs) -> bool
+    ensures hop { IsTrue result → is_ipv4 attrs.now.next_hop ≡ true }
+    ensures others { IsTrue result → has_ipv4_addresses attrs.now ≡ true }
+{
+    let parts = attrs.parts();
+    if let Some(aggregator) = parts.aggregator {
+        if !is_ipv4(&aggregator.addr) {
+            return false;
+        }
+    }
+    if let Some(originator) = parts.originator {
+        if !is_ipv4(&originator) {
+            return false;
+        }
+    }
+    is_ipv4(&parts.next_hop)
+}
+
 fn fit(keys: &[Key], room: usize) -> bool
     ensures { IsTrue result → weight_of_all keys.now ≤ room }
 {
@@ -146,6 +181,7 @@ fn announces(
     let size = size_of(attrs);
     assert!(rt; size < 65000);
     assert!(rt; !keys.is_empty() && are_alike(keys) && fit(keys, 500));
+    assert!(rt; are_ipv4(keys) && has_ipv4(attrs));
     let message = write_update(alloc, attrs, keys)?;
     assert!(rt; are_marked(message.bytes.as_slice(), text));
     assert_eq!(rt; message.place, place);
@@ -154,7 +190,7 @@ fn announces(
 
 /// The message that withdraws the keys spells so.
 fn withdraws(rt: &impl Abort, alloc: Global, keys: &[Key], text: &str) -> Result<(), NoMemory> {
-    assert!(rt; !keys.is_empty() && are_alike(keys) && fit(keys, 500));
+    assert!(rt; !keys.is_empty() && are_alike(keys) && fit(keys, 500) && are_ipv4(keys));
     let message = write_withdraw(alloc, keys)?;
     assert!(rt; are_marked(message.as_slice(), text));
     Ok(())

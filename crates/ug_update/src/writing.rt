@@ -1,22 +1,37 @@
-ghost use Rattle.std.specs.Prelude.{◌≡◌, ◌+◌, ◌<◌, ◌≤◌, ◌++◌, Bool, true, [], length, OnOk, IfOk};
+ghost use Rattle.std.specs.Prelude.{◌≡◌, ◌+◌, ◌<◌, ◌≤◌, ◌++◌, true, [], Some, length, OnOk, IfOk};
+ghost use Rattle.std.specs.List.{list_all, splice};
+ghost use Rattle.ug_types.specs.Ip.{IpAddress};
 ghost use Rattle.std.specs.Int.{w16, to_be_bytes};
+ghost use Rattle.ug_types.specs.declared.capabilities.Capabilities as sessions;
+ghost use Rattle.ug_types.specs.declared.family.Family.TheVariants.{V4};
 ghost use Rattle.ug_types.specs.Messages.{Updates};
-ghost use Rattle.ug_types.specs.Spelling.{next_hop_place};
+ghost use Rattle.ug_types.specs.Sessions.{message_limit};
+ghost use Rattle.ug_message.specs.Spelling.{next_hop_place, four_bytes};
+ghost use Rattle.ug_message.specs.Spellable.{is_ipv4, has_ipv4_addresses, are_of_family, is_address};
 ghost use Rattle.ug_message.specs.Texts.{written, attributes_place};
-ghost use Rattle.ug_update.specs.Updates.{AreAlike, have_identifiers, withdrawing, announcing, weight_of_all, withdrawal_size, announcement_size, IsMessageSize, own_routes, header};
+ghost use Rattle.ug_update.specs.Updates.{AreAlike, IsSessionOf, is_own, withdrawing, announcing, weight_of_all, withdrawal_size, announcement_size, IsMessageSize, own_routes, header};
 
 use std::alloc::Global;
 use ug_attrwire::{size_of, write_attrs};
+use ug_message::put_u16;
 use ug_types::{Attrs, ByteList, Key, NoMemory, Sequence, Written};
 
-/// The UPDATE that announces these routes with these attributes, and where the value of NEXT_HOP stands in it.
+/// The UPDATE that announces these IPv4 routes with these attributes, and where the value of NEXT_HOP stands in it.
 pub fn write_update(alloc: Global, attrs: &Attrs, keys: &[Key]) -> Result<Written, NoMemory>
     requires some { 0 < length keys.now }
     requires alike { AreAlike keys.now }
     requires short { IsMessageSize (announcement_size attrs.now keys.now) }
-    ensures text { IfOk result (λ w. written (have_identifiers keys.now) true (Updates (announcing attrs.now keys.now)) ≡ Some w.bytes.items) }
+    requires family { are_of_family V4 keys.now ≡ true }
+    requires next_hop { is_ipv4 attrs.now.next_hop ≡ true }
+    requires addresses { has_ipv4_addresses attrs.now ≡ true }
+    // In each session that has such routes, and a limit that it is within, it is the text.
+    ensures text { IfOk result (λ w. (c : sessions.Capabilities) → IsSessionOf V4 keys.now c → announcement_size attrs.now keys.now ≤ message_limit c →
+        written c (Updates (announcing attrs.now keys.now)) ≡ Some w.bytes.items) }
     ensures size { IfOk result (λ w. length w.bytes.items ≡ announcement_size attrs.now keys.now) }
     ensures place { IfOk result (λ w. w.place ≡ attributes_place + next_hop_place attrs.now) }
+    // Whatever IPv4 address is put there, it is the text with that next hop.
+    ensures rewritten { IfOk result (λ w. (c : sessions.Capabilities) → (hop : IpAddress) → IsSessionOf V4 keys.now c → announcement_size attrs.now keys.now ≤ message_limit c →
+        is_address V4 hop ≡ true → written c (Updates (announcing (record attrs.now { next_hop = hop }) keys.now)) ≡ Some (splice w.bytes.items w.place (w.place + 4) (four_bytes hop))) }
 {
     let attrs_size = size_of(attrs);
     let mut bytes = start(alloc, 23 + (attrs_size + routes_size(keys)))?;
@@ -27,12 +42,14 @@ pub fn write_update(alloc: Global, attrs: &Attrs, keys: &[Key]) -> Result<Writte
     Ok(Written { bytes, place })
 }
 
-/// The UPDATE that withdraws these routes.
+/// The UPDATE that withdraws these IPv4 routes.
 pub fn write_withdraw(alloc: Global, keys: &[Key]) -> Result<ByteList, NoMemory>
     requires some { 0 < length keys.now }
     requires alike { AreAlike keys.now }
     requires short { IsMessageSize (withdrawal_size keys.now) }
-    ensures text { IfOk result (λ bytes. written (have_identifiers keys.now) true (Updates (withdrawing keys.now)) ≡ Some bytes.items) }
+    requires family { are_of_family V4 keys.now ≡ true }
+    ensures text { IfOk result (λ bytes. (c : sessions.Capabilities) → IsSessionOf V4 keys.now c → withdrawal_size keys.now ≤ message_limit c →
+        written c (Updates (withdrawing keys.now)) ≡ Some bytes.items) }
     ensures size { IfOk result (λ bytes. length bytes.items ≡ withdrawal_size keys.now) }
 {
     let withdrawn = routes_size(keys);
@@ -45,8 +62,8 @@ pub fn write_withdraw(alloc: Global, keys: &[Key]) -> Result<ByteList, NoMemory>
 
 /// End-of-RIB for IPv4 unicast: an UPDATE that says nothing.
 pub fn write_eor(alloc: Global) -> Result<ByteList, NoMemory>
-    ensures text { IfOk result (λ bytes. (add_path : Bool) → (extended : Bool) →
-        written add_path extended (Updates (withdrawing [])) ≡ Some bytes.items) }
+    ensures text { IfOk result (λ bytes. (c : sessions.Capabilities) → c.family ≡ V4 →
+        written c (Updates (withdrawing [])) ≡ Some bytes.items) }
     ensures size { IfOk result (λ bytes. length bytes.items ≡ 23) }
 {
     let mut bytes = start(alloc, 23)?;
@@ -56,8 +73,8 @@ pub fn write_eor(alloc: Global) -> Result<ByteList, NoMemory>
 }
 
 /// An UPDATE's header, with room for all of it.
-fn start(alloc: Global, size: usize) -> Result<ByteList, NoMemory>
-    requires { size ≤ 65535 }
+pub fn start(alloc: Global, size: usize) -> Result<ByteList, NoMemory>
+    requires { IsMessageSize size }
     ensures { IfOk result (λ bytes. bytes.items ≡ header size) }
 {
     let mut bytes = Sequence::new(alloc);
@@ -69,16 +86,18 @@ fn start(alloc: Global, size: usize) -> Result<ByteList, NoMemory>
 }
 
 /// Adds a length in two bytes.
-fn write_size(out: &mut ByteList, size: usize) -> Result<(), NoMemory>
-    requires { size ≤ 65535 }
+pub fn write_size(out: &mut ByteList, size: usize) -> Result<(), NoMemory>
+    requires { IsMessageSize size }
     ensures { OnOk result (out.new.items ≡ out.old.items ++ to_be_bytes w16 size) }
 {
-    out.extend_from_slice(&(size as u16).to_be_bytes())
+    out.reserve(2)?;
+    put_u16(out, size as u16);
+    Ok(())
 }
 
 /// How many bytes the routes take.
-fn routes_size(keys: &[Key]) -> usize
-    requires { weight_of_all keys.now ≤ 65535 }
+pub fn routes_size(keys: &[Key]) -> usize
+    requires { IsMessageSize (weight_of_all keys.now) }
     ensures weight { result ≡ weight_of_all keys.now }
     ensures length { result ≡ length (own_routes keys.now) }
 {
@@ -89,9 +108,10 @@ fn routes_size(keys: &[Key]) -> usize
     size
 }
 
-/// Adds the routes.
-fn write_routes(out: &mut ByteList, keys: &[Key]) -> Result<(), NoMemory>
-    ensures { OnOk result (out.new.items ≡ out.old.items ++ own_routes keys.now) }
+/// Adds the routes, which messages can spell so.
+pub fn write_routes(out: &mut ByteList, keys: &[Key]) -> Result<(), NoMemory>
+    ensures ok { OnOk result (out.new.items ≡ out.old.items ++ own_routes keys.now) }
+    ensures formed { OnOk result (list_all is_own keys.now ≡ true) }
 {
     for key in keys {
         ug_nlri::write(out, key)?;

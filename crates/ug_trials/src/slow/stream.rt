@@ -9,7 +9,7 @@ use std::alloc::Global;
 use ug_event::Event;
 use ug_rib::{prefix_of, told};
 use ug_types::{AttrParts, Attrs, ByteList, Key, NoMemory, Prefix};
-use ug_wire_updates::{write_eor, write_update, write_withdraw};
+use ug_update::{write_eor, write_update, write_withdraw};
 
 /// End-of-RIB, and then for each event a message for each prefix of which the table changes at it.
 pub fn expected_stream(alloc: Global, events: &[Event]) -> Result<ByteList, NoMemory> {

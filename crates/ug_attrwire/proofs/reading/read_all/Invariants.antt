@@ -1,6 +1,6 @@
 use Rattle.std.proofs.Common.{◌≡◌, ◌-◌, ◌≤◌, length, drop}
-use Rattle.ug_attrwire.specs.Walking.{walk, walk_all}
-use Rattle.ug_attrwire.specs.Reading.{attribute_step, nothing_read}
+use Rattle.ug_message.specs.Walking.{walk, walk_all}
+use Rattle.ug_message.specs.AttributesRead.{attribute_step, nothing_read}
 use Rattle.ug_attrwire.specs.Views.{so_far}
 use Rattle.ug_attrwire.proofs.reading.read_all.Given as goal
 
@@ -8,7 +8,8 @@ use Rattle.ug_attrwire.proofs.reading.read_all.Given as goal
 abbrev pub invariant-loop-place : goal.invariant-loop-place
 invariant-loop-place l = record {
   within : l.place ≤ length l.bytes;
-  same : walk attribute_step 0 l.place (so_far l.found) (drop l.place l.bytes) ≡ walk_all attribute_step nothing_read l.bytes;
+  limit : l.found.limit ≡ length l.bytes;
+  same : walk (attribute_step l.family) 0 l.place (so_far l.bytes l.found) (drop l.place l.bytes) ≡ walk_all (attribute_step l.family) nothing_read l.bytes;
 }
 
 abbrev pub decreases-loop-place : goal.decreases-loop-place

@@ -1,6 +1,6 @@
 use Rattle.std.proofs.Common.{sym, ap, ◌∙◌}
 use Rattle.ug_types.specs.Messages.{message_of}
-use Rattle.ug_wire_updates.specs.Readers.{answer_of, front}
+use Rattle.ug_update.specs.Readers.{answer_of, front}
 use Rattle.ug_check.proofs.Steps.{gives_says, sized_item}
 use Rattle.ug_check.proofs.checker.next_item.Goals as goal
 

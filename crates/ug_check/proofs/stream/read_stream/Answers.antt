@@ -1,5 +1,5 @@
 use Rattle.std.proofs.Common.{◌≡◌, ℕ, ◌+◌, ◌-◌, List, length, take, refl, ap, ◌∙◌, arith, rules}
-use Rattle.ug_wire_updates.specs.Readers.{ReaderState}
+use Rattle.ug_update.specs.Readers.{ReaderState}
 use Rattle.ug_pieces.specs.ReadingLaws.{Rose-later, taken_none, piece_within, buffer_back}
 use Rattle.ug_check.specs.Checks.{most_bytes}
 use Rattle.ug_check.proofs.Streams.{begins, goes_on, stops_at, passes_limit, not_read, reads_all, reads_no, reports_no}

@@ -1,5 +1,5 @@
 use Rattle.std.proofs.Common.{◌≡◌, ◌+◌, drop}
-use Rattle.ug_wire_updates.specs.Updates.{weight_of_all}
+use Rattle.ug_update.specs.Updates.{weight_of_all}
 use Rattle.ug_mp.proofs.tests.fit.Given as goal
 
 -- what is left has room for what comes

@@ -2,8 +2,8 @@ use Rattle.std.proofs.Common.{◌≤◌, ℕ, [], ap, sym, subst, ◌∙◌, ari
 use Rattle.std.proofs.lemmas.Grind.{common_steps}
 use Rattle.ug_types.specs.declared.family.Family.{Family}
 use Rattle.ug_types.specs.Sessions.{message_limit}
-use Rattle.ug_wire.specs.Texts.{framed, withdrawing}
-use Rattle.ug_wire_updates.proofs.Texts.{written_nothing}
+use Rattle.ug_message.specs.Texts.{framed, withdrawing}
+use Rattle.ug_update.proofs.Texts.{written_nothing}
 use Rattle.ug_mp.proofs.Texts.{ipv6_withdrawal, withdrawal_length, eor_fits}
 use Rattle.ug_mp.proofs.writing.write_eor6.Goals as goal
 

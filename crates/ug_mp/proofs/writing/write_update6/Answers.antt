@@ -3,12 +3,12 @@ use Rattle.std.proofs.lemmas.Grind.{common_steps}
 use Rattle.ug_types.specs.declared.family.Family.{Family}
 use Rattle.ug_types.specs.declared.family.Family.TheVariants.{V6}
 use Rattle.ug_types.specs.Sessions.{message_limit}
-use Rattle.ug_wire.specs.Spelling.{attributes_but_next_hop}
-use Rattle.ug_wire.specs.Heads.{size_around, reach_place}
-use Rattle.ug_wire.specs.Spellable.{can_be_spelled}
-use Rattle.ug_wire.proofs.ShortValues.{short_but_next_hop}
-use Rattle.ug_wire_updates.specs.Updates.{own_routes}
-use Rattle.ug_wire_updates.proofs.Texts.{written_announcing}
+use Rattle.ug_message.specs.Spelling.{attributes_but_next_hop}
+use Rattle.ug_message.specs.Heads.{size_around, reach_place}
+use Rattle.ug_message.specs.Spellable.{can_be_spelled}
+use Rattle.ug_message.proofs.ShortValues.{short_but_next_hop}
+use Rattle.ug_update.specs.Updates.{own_routes}
+use Rattle.ug_update.proofs.Texts.{written_announcing}
 use Rattle.ug_mp.proofs.Texts.{ipv6_announcement, announcement_length, next_hop_there}
 use Rattle.ug_mp.proofs.NextHops.{rewritten}
 use Rattle.ug_mp.proofs.writing.write_update6.Goals as goal

@@ -2,9 +2,9 @@ use Rattle.std.proofs.Common.{◌≤◌, ◌+◌, ℕ, arith, sym, ap, subst, �
 use Rattle.std.proofs.lemmas.Grind.{common_steps}
 use Rattle.ug_types.specs.declared.family.Family.TheVariants.{V6}
 use Rattle.ug_types.specs.Sessions.{message_limit}
-use Rattle.ug_wire.specs.Heads.{size_around}
-use Rattle.ug_wire_updates.specs.Updates.{own_routes}
-use Rattle.ug_wire_updates.proofs.Texts.{written_withdrawing}
+use Rattle.ug_message.specs.Heads.{size_around}
+use Rattle.ug_update.specs.Updates.{own_routes}
+use Rattle.ug_update.proofs.Texts.{written_withdrawing}
 use Rattle.ug_mp.proofs.Texts.{ipv6_withdrawal, withdrawal_length}
 use Rattle.ug_mp.proofs.writing.write_withdraw6.Goals as goal
 

@@ -1,9 +1,9 @@
 use Rattle.std.proofs.Common.{ℕ, sym, ap, subst, ◌∙◌}
 use Rattle.std.specs.Prelude.{◌+◌, if◌then◌else◌}
 use Rattle.ug_types.specs.Messages.{message_of}
-use Rattle.ug_wire.specs.Received.{IsUnfinished}
-use Rattle.ug_wire_updates.specs.Readers.{ReaderState, behind_message}
-use Rattle.ug_wire.proofs.Fronts.{awaited_unfinished}
+use Rattle.ug_message.specs.Received.{IsUnfinished}
+use Rattle.ug_update.specs.Readers.{ReaderState, behind_message}
+use Rattle.ug_message.proofs.Fronts.{awaited_unfinished}
 use Rattle.ug_check.specs.Checkers.{HasChecked}
 use Rattle.ug_check.proofs.Steps.{HasChecked-more, if_none, if_some}
 use Rattle.ug_check.proofs.checker.Checker.step.Goals as goal

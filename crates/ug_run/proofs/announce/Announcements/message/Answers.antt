@@ -1,8 +1,8 @@
 use Rattle.std.proofs.Common.{◌≡◌, ◌≤◌, [], ◌∷◌, Some, refl, subst, arith}
 use Rattle.ug_types.specs.Ip.{IpPrefix, width_of}
 use Rattle.ug_types.specs.Messages.{Updates}
-use Rattle.ug_wire.specs.Texts.{written}
-use Rattle.ug_wire_updates.specs.Updates.{announcing}
+use Rattle.ug_message.specs.Texts.{written}
+use Rattle.ug_update.specs.Updates.{announcing}
 use Rattle.ug_event.specs.Origins.{origin_number}
 use Rattle.ug_run.specs.Sessions.{plain_ipv4}
 use Rattle.ug_run.proofs.Announcing.{short_announcement, ipv4_next_hop, ipv4_addresses, ipv4_key}

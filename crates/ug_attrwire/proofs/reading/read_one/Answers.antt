@@ -1,0 +1,10 @@
+use Rattle.std.proofs.Common.{List, ℕ, sym, ap, ◌∙◌}
+use Rattle.ug_message.specs.AttributesRead.{attribute_at}
+use Rattle.ug_attrwire.specs.Views.{standing}
+use Rattle.ug_attrwire.proofs.Parts.{stands}
+use Rattle.ug_attrwire.proofs.reading.read_one.Goals as goal
+
+pub read_attribute-requires-clause-stands : goal.read_attribute-requires-clause-stands
+read_attribute-requires-clause-stands c =
+    stands c.args.place c.args.all.now (standing c.in_ok-attribute.attribute)
+    (ap (λ (b : List ℕ). attribute_at c.args.place b) (sym c.split_at.ensures.back) ∙ c.in_ok-attribute.ensures.exact)

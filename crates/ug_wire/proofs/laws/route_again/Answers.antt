@@ -1,5 +1,0 @@
-use Rattle.ug_wire.proofs.RoutesAgain.{route_again}
-use Rattle.ug_wire.proofs.laws.route_again.Goals as goal
-
-pub returns : goal.returns
-returns c = route_again

@@ -1,5 +1,0 @@
-pub mod Texts
-pub mod RouteFaults
-pub mod Goes
-pub mod FromStart
-pub mod NextHops
