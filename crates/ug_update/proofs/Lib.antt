@@ -3,3 +3,4 @@ pub mod RouteFaults
 pub mod Goes
 pub mod FromStart
 pub mod NextHops
+pub mod Marks

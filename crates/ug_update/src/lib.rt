@@ -16,7 +16,8 @@ pub use alike::routes_are_alike;
 pub use plain::read_all;
 pub use reader::Reader;
 pub use writing::{
-    routes_size, start, write_eor, write_routes, write_size, write_update, write_withdraw,
+    routes_size, start, write_eor, write_mark, write_routes, write_size, write_update,
+    write_withdraw,
 };
 
 #[cfg(test)]

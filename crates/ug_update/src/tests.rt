@@ -250,6 +250,21 @@ fn end_of_rib(rt: HostRuntime) -> Result<(), NoMemory> {
     Ok(())
 }
 
+/// The begin and the end of a refresh.
+#[test]
+fn marks(rt: HostRuntime) -> Result<(), NoMemory> {
+    for (family, begin, text) in [
+        (Family::V4, true, "0017 05 0001 01 01"),
+        (Family::V4, false, "0017 05 0001 02 01"),
+        (Family::V6, true, "0017 05 0002 01 01"),
+        (Family::V6, false, "0017 05 0002 02 01"),
+    ] {
+        let message = write_mark(rt.alloc(), family, begin)?;
+        assert!(rt; are_marked(message.as_slice(), text));
+    }
+    Ok(())
+}
+
 /// An AS_PATH whose length has two bytes.
 #[test]
 fn long_path(rt: HostRuntime) -> Result<(), NoMemory> {

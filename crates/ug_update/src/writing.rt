@@ -1,20 +1,20 @@
-ghost use Rattle.std.specs.Prelude.{◌≡◌, ◌+◌, ◌<◌, ◌≤◌, ◌++◌, true, [], Some, length, OnOk, IfOk};
+ghost use Rattle.std.specs.Prelude.{◌≡◌, ◌+◌, ◌<◌, ◌≤◌, ◌++◌, true, [], Some, length, OnOk, IfOk, if◌then◌else◌};
 ghost use Rattle.std.specs.List.{list_all, splice};
 ghost use Rattle.ug_types.specs.Ip.{IpAddress};
 ghost use Rattle.std.specs.Int.{w16, to_be_bytes};
 ghost use Rattle.ug_types.specs.declared.capabilities.Capabilities as sessions;
 ghost use Rattle.ug_types.specs.declared.family.Family.TheVariants.{V4};
-ghost use Rattle.ug_types.specs.Messages.{Updates};
+ghost use Rattle.ug_types.specs.Messages.{Updates, Begins, Ends};
 ghost use Rattle.ug_types.specs.Sessions.{message_limit};
 ghost use Rattle.ug_message.specs.Spelling.{next_hop_place, four_bytes};
 ghost use Rattle.ug_message.specs.Spellable.{is_ipv4, has_ipv4_addresses, are_of_family, is_address};
-ghost use Rattle.ug_message.specs.Texts.{written, attributes_place};
+ghost use Rattle.ug_message.specs.Texts.{written, afi, attributes_place};
 ghost use Rattle.ug_update.specs.Updates.{AreAlike, IsSessionOf, is_own, withdrawing, announcing, weight_of_all, withdrawal_size, announcement_size, IsMessageSize, own_routes, header};
 
 use std::alloc::Global;
 use ug_attrwire::{size_of, write_attrs};
 use ug_message::put_u16;
-use ug_types::{Attrs, ByteList, Key, NoMemory, Sequence, Written};
+use ug_types::{Attrs, ByteList, Family, Key, NoMemory, Sequence, Written};
 
 /// The UPDATE that announces these IPv4 routes with these attributes, and where the value of NEXT_HOP stands in it.
 pub fn write_update(alloc: Global, attrs: &Attrs, keys: &[Key]) -> Result<Written, NoMemory>
@@ -70,6 +70,36 @@ pub fn write_eor(alloc: Global) -> Result<ByteList, NoMemory>
     write_size(&mut bytes, 0)?;
     write_size(&mut bytes, 0)?;
     Ok(bytes)
+}
+
+/// The mark of the begin or the end of a refresh of the family's unicast routes: a ROUTE-REFRESH (RFC 7313 section 3.2).
+pub fn write_mark(alloc: Global, family: Family, begin: bool) -> Result<ByteList, NoMemory>
+    ensures text { IfOk result (λ bytes. (c : sessions.Capabilities) → c.family ≡ family →
+        written c (if begin then Begins else Ends) ≡ Some bytes.items) }
+    ensures size { IfOk result (λ bytes. length bytes.items ≡ 23) }
+{
+    let mut bytes = Sequence::new(alloc);
+    bytes.reserve(23)?;
+    bytes.extend_from_slice(&[255; 16])?;
+    bytes.extend_from_slice(&[0, 23, 5, 0, afi(family), mark_number(begin), 1])?;
+    Ok(bytes)
+}
+
+/// The number of the family, in one byte.
+fn afi(family: Family) -> u8
+    ensures { result ≡ afi family }
+{
+    match family {
+        Family::V4 => 1,
+        Family::V6 => 2,
+    }
+}
+
+/// The byte that says which mark it is.
+fn mark_number(begin: bool) -> u8
+    ensures { result ≡ (if begin then 1 else 2) }
+{
+    if begin { 1 } else { 2 }
 }
 
 /// An UPDATE's header, with room for all of it.
