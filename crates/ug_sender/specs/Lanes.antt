@@ -1,6 +1,9 @@
 -- A lane as contracts see it, and what it keeps.
 use Rattle.std.specs.Prelude.{◌≡◌, ℕ, ◌<◌, ◌≤◌, Bool, true, false, List, [], ◌∷◌, ◌++◌, length, Option, Some, None}
 use Rattle.ug_board.specs.Entry.{Entry}
+use Rattle.ug_board.specs.declared.steps.LaneStep.TheVariants.{Next}
+use Rattle.ug_board.specs.declared.steps.LaneSaid.TheVariants.{Idle}
+use Rattle.ug_board.specs.History.{replay}
 use Rattle.ug_board.specs.Rules.{Rules}
 use Rattle.ug_deeds.specs.Deeds.{Deed, deeds, of_pass, to_peer, Each}
 use Rattle.ug_turnstile.specs.Passes.{Held}
@@ -53,3 +56,8 @@ module _ {Opening State Job Said : Type 0} (rules : Rules Opening State Job Said
   -- what a lane shows of a step
   abbrev pub shown : {W : Type 0} → LaneView W Opening Job Said → Shown
   shown lane = record { deeds = pass_deeds lane.pass; latest = lane.latest; unnoted = lane.unnoted }
+
+  -- Where this history leads from this root, there is nothing to send to the peer for now.
+  abbrev pub IdlesAt : Option Opening → ℕ → List (Entry Job Said) → Type 0
+  IdlesAt None peer seen = ⊥
+  IdlesAt (Some root) peer seen = rules.lane_reply (Next peer) (replay rules root seen) ≡ Idle

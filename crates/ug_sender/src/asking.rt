@@ -1,10 +1,11 @@
 //! Steps of a lane on the board, each in a turn of its own.
 
 ghost use Rattle.std.specs.Prelude.{◌≡◌, ◌≤◌, length, true, false, Some};
+ghost use Rattle.ug_board.specs.declared.steps.LaneSaid.TheVariants.{Idle};
 ghost use Rattle.ug_board.specs.Rules.{buffer_size};
 ghost use Rattle.ug_board.specs.History.{state_of};
 ghost use Rattle.ug_turnstile.specs.Passes.{Adds, IsSamePass, StartsWith};
-ghost use Rattle.ug_sender.specs.Lanes.{AreOfPeer, IsOfPeer, deeds_at, pass_deeds};
+ghost use Rattle.ug_sender.specs.Lanes.{AreOfPeer, IsOfPeer, IdlesAt, deeds_at, pass_deeds};
 ghost use Rattle.ug_sender.specs.Tellings.{TellsNext, TellsLoss};
 
 use std::sync::Wait;
@@ -20,6 +21,7 @@ fn next_on<M: Machine>(board: &mut Board<M>, number: u32, peer: PeerId, buf: &mu
     ensures adds { Adds (λ entry. entry.pass) number board.old.history board.new.history }
     ensures own { AreOfPeer peer number board.new.history }
     ensures told { TellsNext result buf.new (deeds_at M.rules (Some board.old.opening) number board.old.history) (deeds_at M.rules (Some board.new.opening) number board.new.history) }
+    ensures idle { result ≡ Idle → IdlesAt M.rules (Some board.new.opening) peer board.new.history }
 {
     board.lane(number, LaneStep::Next { peer }, buf)
 }
@@ -72,6 +74,7 @@ pub(crate) fn ask_next<M: Machine, R: Wait>(
     ensures own { IsOfPeer peer pass.new }
     ensures seen { StartsWith pass.new.seen pass.old.seen }
     ensures told { TellsNext result buf.new (pass_deeds M.rules pass.old) (pass_deeds M.rules pass.new) }
+    ensures idle { result ≡ Idle → IdlesAt M.rules pass.new.root peer pass.new.seen }
 {
     let number = pass.number();
     let mut turn = turnstile.take(rt, pass);

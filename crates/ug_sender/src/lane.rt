@@ -6,7 +6,7 @@ ghost use Rattle.ug_edge.specs.Told.{Rose, IsFresh};
 ghost use Rattle.ug_turnstile.specs.Passes.{StartsWith, mine};
 ghost use Rattle.ug_sender.specs.declared.pumped.Pumped.TheVariants.{Sent as DidSend, Idle as WasIdle, Lost as WasLost, Stopped as WasStopped};
 ghost use Rattle.ug_sender.specs.Courses.{fate_of, is_unnoted};
-ghost use Rattle.ug_sender.specs.Lanes.{fresh_lane, IsSamePost, KeepsLane, shown};
+ghost use Rattle.ug_sender.specs.Lanes.{fresh_lane, IdlesAt, IsSamePost, KeepsLane, shown};
 ghost use Rattle.ug_sender.specs.Tellings.{TellsPump, IsSameWire};
 
 use crate::asking::{ask_loss, ask_next};
@@ -93,6 +93,7 @@ impl<W: Wire, M: Machine> Lane<W, M> {
         ensures lost { result ≡ WasLost → Rose (W.faults self.old.wire) (W.faults self.new.wire) }
         ensures unharmed { (result ≡ WasLost → ⊥) → W.faults self.new.wire ≡ W.faults self.old.wire }
         ensures faults { W.faults self.old.wire ≤ W.faults self.new.wire }
+        ensures idle { result ≡ WasIdle → IdlesAt M.rules self.new.pass.root self.new.peer self.new.pass.seen }
         ensures still { (result ≡ WasIdle) ⊎ (result ≡ WasStopped) → IsSameWire (W.sessions self.old.wire) (W.begun self.old.wire) (W.sessions self.new.wire) (W.begun self.new.wire) }
         ensures closed { result ≡ DidSend → self.old.latest ≡ None → IsSameWire (W.sessions self.old.wire) (W.begun self.old.wire) (W.sessions self.new.wire) (W.begun self.new.wire) }
     {
