@@ -1,3 +1,4 @@
 pub mod Rows
 pub mod Readings
 pub mod Checks
+pub mod Worlds

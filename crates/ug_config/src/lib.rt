@@ -16,11 +16,13 @@ mod repeats;
 mod rows;
 mod rule;
 mod setup;
+mod world;
 
 pub use read::read_setup;
 pub use rule::Rule;
 pub use setup::Setup;
 pub use ug_fields::ConfigRefusal;
+pub use world::read_config;
 
 #[cfg(test)]
 mod tests;

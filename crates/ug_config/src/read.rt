@@ -1,7 +1,9 @@
 //! A text, and what its tables say.
 
+ghost use Rattle.std.specs.Prelude.{IfOk};
 ghost use Rattle.ug_fields.specs.Gives.{Gives};
 ghost use Rattle.ug_config.specs.Checks.{setup, checked};
+ghost use Rattle.ug_config.specs.Worlds.{IsSound};
 
 use crate::checks::check_all;
 use crate::setup::{Setup, read_tables};
@@ -12,8 +14,16 @@ use ug_fields::{ConfigRefusal, read_document};
 /// required field or table is missing, 3 a value is of another kind, out of range or malformed, 4 a field is unknown;
 /// then, over all tables, 5 a name or a sequence number stands twice, 6 a name is unknown, 7 there is more than the
 /// limit, 8 an internal peer has `as_override` or `remove_private_as`, 9 an external peer is a client.
-#[tactic(auto, unfolding(crate::specs::Checks::setup))]
 pub fn read_setup(alloc: Global, bytes: &[u8]) -> Result<Setup, ConfigRefusal>
+    ensures read { Gives result (setup bytes.now) }
+    ensures sound { IfOk result (λ t. IsSound t) }
+{
+    let setup = read_checked(alloc, bytes)?;
+    Ok(setup)
+}
+
+#[tactic(auto, unfolding(crate::specs::Checks::setup))]
+fn read_checked(alloc: Global, bytes: &[u8]) -> Result<Setup, ConfigRefusal>
     ensures { Gives result (setup bytes.now) }
 {
     let document = read_document(alloc, bytes)?;

@@ -1,7 +1,7 @@
 use super::*;
 use std::alloc::Global;
 use std::test::Fail;
-use ug_types::NoMemory;
+use ug_types::{Family, Name, NoMemory, Prefix};
 
 /// What stands before a text.
 #[derive(Clone, Copy)]
@@ -505,5 +505,38 @@ fn at_most_64_policies(rt: HostRuntime) -> Result<(), Fail> {
     assert!(rt; has_refusal(alloc, text.as_bytes(), 0, "")?);
     write!(text, "[[policy]]\nname = \"one-more\"\n")?;
     assert!(rt; has_refusal(alloc, text.as_bytes(), 7, "policy")?);
+    Ok(())
+}
+
+const NOT_TEN: &str =
+    "[[prefix_list]]\nname = \"not10\"\n[[prefix_list.entry]]\nseq = 10\naction = \"permit\"\nprefix = \"0.0.0.0/0\"\nle = 32\n[[prefix_list.entry]]\nseq = 5\naction = \"deny\"\nprefix = \"10.0.0.0/8\"\nle = 32\n[[route_map]]\nname = \"m\"\nentry = [{ seq = 1, action = \"deny\", match_prefix_list = \"not10\" }]\n[[policy]]\nname = \"no10\"\nprefix_list = \"not10\"\n";
+
+#[test]
+fn a_text_makes_a_world(rt: HostRuntime) -> Result<(), Fail> {
+    let alloc = rt.alloc();
+    let text = whole_text(alloc, Head::External, NOT_TEN)?;
+    let Ok(world) = read_config(alloc, text.as_bytes()) else {
+        return Err(Fail::from("refused"));
+    };
+    let local = world.local();
+    assert_eq!(rt;
+        (
+            local.asn,
+            local.queue_limit,
+            local.coalesce,
+            local.slow_after
+        ),
+        (65001, 40, 1, 16)
+    );
+    assert!(rt; local.cluster_id == local.router_id);
+    let name = Name::read(alloc, b"p1")?.ok_or("a name")?;
+    assert!(rt; world.peer_named(&name).is_some());
+    assert_eq!(rt; world.policies().maps.len(), 1);
+    let ten = Prefix::new(Family::V4, 10 << 120, 8).ok_or("a prefix")?;
+    let eleven = Prefix::new(Family::V4, 11 << 120, 8).ok_or("a prefix")?;
+    for list in world.policies().lists.as_slice() {
+        assert!(rt; !list.value.permits(&ten) && list.value.permits(&eleven));
+    }
+    assert!(rt; read_config(alloc, b"[local]").is_err());
     Ok(())
 }
