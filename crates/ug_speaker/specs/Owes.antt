@@ -1,9 +1,8 @@
 -- What a machine that speaks to peers owes: of each step, and of each whole history.
-use Rattle.std.specs.Prelude.{◌≡◌, ℕ, ◌+◌, ◌≤◌, ◌<◌, nat_le, nat_lt, Bool, true, false, ◌&&◌, not, List, [], ◌∷◌, ◌++◌, length, slice_get, Option, Some, None, is_none}
-use Rattle.ug_types.specs.Messages.{Message}
+use Rattle.std.specs.Prelude.{◌≡◌, ℕ, ◌≤◌, ◌<◌, nat_le, nat_lt, Bool, true, false, ◌&&◌, not, List, [], ◌∷◌, ◌++◌, length, slice_get, Option, Some, is_none}
 use Rattle.ug_board.specs.declared.steps.LaneStep.{LaneStep}
-use Rattle.ug_board.specs.declared.steps.LaneStep.TheVariants.{Next, Lost}
-use Rattle.ug_board.specs.declared.steps.LaneSaid.TheVariants.{Begun, Hand, Idle, Stop}
+use Rattle.ug_board.specs.declared.steps.LaneStep.TheVariants.{Next}
+use Rattle.ug_board.specs.declared.steps.LaneSaid.TheVariants.{Hand, Idle, Stop}
 use Rattle.ug_board.specs.Entry.{Entry}
 use Rattle.ug_board.specs.Rules.{Rules, counts, says_more}
 use Rattle.ug_board.specs.History.{IsLegal, replay, job_entry}
@@ -19,7 +18,7 @@ use Rattle.ug_world.specs.After.{after}
 use Rattle.ug_world.specs.Touches.{is_about}
 use Rattle.ug_speaker.specs.Speech.{Purpose, TakesEvent, MarksTold, Ends, Prepares, Speech, capabilities_of, is_request}
 use Rattle.ug_speaker.specs.Told.{events_in, worlds_of, world_after, told, is_lost, begun, is_live, world_at, marks_of_all, marks_of_asker}
-use Rattle.ug_speaker.specs.Right.{IsToldRight, IsToldAll, IsToldAgain}
+use Rattle.ug_speaker.specs.Right.{AreTellable, IsToldRight, IsToldAll, IsToldAgain}
 
 -- A world in which a run may begin: nobody is up and there are no routes, and each route map sets little.
 pub record IsOpening (w : World) : Type 0 where
@@ -81,11 +80,13 @@ module _ {Opening State Job Said : Type 0} (rules : Rules Opening State Job Said
     pub stops : (p : ℕ) (s : State) → rules.lane_reply (Next p) s ≡ Stop → speech.closed s ≡ true
     pub rests : (p : ℕ) (s : State) → rules.lane_reply (Next p) s ≡ Idle → speech.closed s ≡ false
 
-  -- A history that may have come about: from an opening world, each step legal, each event of its form.
+  -- A history that may have come about: from an opening world, each step legal, each event of its form, and each route
+  -- that a peer should have on the way one that a message of its session can hold.
   pub record IsCourse (opening : Opening) (history : List (Entry Job Said)) : Type 0 where
     pub opens : IsOpening (speech.first opening)
     pub legal : IsLegal rules opening history
     pub events : AreEvents (events_in rules speech history)
+    pub tellable : AreTellable (worlds_of rules speech opening history)
 
   -- a peer of the configuration, as it now is
   abbrev pub IsPeer : ℕ → PeerState → Opening → List (Entry Job Said) → Type 0

@@ -1,15 +1,20 @@
 -- What is right of the messages of one session.
-use Rattle.std.specs.Prelude.{◌≡◌, ℕ, ◌≤◌, Bool, true, false, ◌||◌, List, [], ◌∷◌, ◌++◌, ◌⊎◌, count_by, drop, filter, is_some}
+use Rattle.std.specs.Prelude.{◌≡◌, ℕ, ◌≤◌, Bool, true, false, ◌||◌, List, [], ◌∷◌, ◌++◌, ◌⊎◌, count_by, drop, filter, slice_get, Some, None, is_some}
 use Rattle.std.specs.List.{list_any}
+use Rattle.ug_types.specs.declared.capabilities.Capabilities.{Capabilities}
 use Rattle.ug_types.specs.declared.key.Key.{Key}
+use Rattle.ug_types.specs.Attributes.{Attributes}
 use Rattle.ug_types.specs.Messages.{Message, Updates, Begins, Ends, Ignored}
 use Rattle.ug_tables.specs.Tables.{Table, Reading, nothing_read, applied, table_of, tables_after, among}
 use Rattle.ug_tables.specs.Climbing.{NeverBack}
+use Rattle.ug_message.specs.Texts.{written}
 use Rattle.ug_message.specs.Streams.{AreOf, IsUpdate, says_nothing}
 use Rattle.ug_outbound.specs.declared.peer.Peer.{Peer}
+use Rattle.ug_world.specs.declared.peer_state.PeerState.{PeerState}
 use Rattle.ug_world.specs.World.{World}
 use Rattle.ug_world.specs.Private.{private_table}
 use Rattle.ug_world.specs.Worlds.{in_session, past}
+use Rattle.ug_speaker.specs.Speech.{capabilities_of}
 
 -- two tables have the same routes
 abbrev pub Alike : Table → Table → Type 0
@@ -18,6 +23,17 @@ Alike one other = (key : Key) → one key ≡ other key
 abbrev pub IsAmong : {T : Type 0} → T → List T → Type 0
 IsAmong x [] = ⊥
 IsAmong x (y ∷ ys) = (x ≡ y) ⊎ IsAmong x ys
+
+-- The route can be announced, and withdrawn, in a message of its own.
+pub record CanBeTold (c : Capabilities) (key : Key) (a : Attributes) : Type 0 where
+  pub announced : is_some (written c (Updates (record { withdrawn = []; attrs = Some a; announced = key ∷ [] }))) ≡ true
+  pub withdrawn : is_some (written c (Updates (record { withdrawn = key ∷ []; attrs = None; announced = [] }))) ≡ true
+
+-- So can each route of each private table in these worlds.
+abbrev pub AreTellable : List World → Type 0
+AreTellable worlds =
+    (w : World) (p : ℕ) (s : PeerState) (key : Key) (a : Attributes) → IsAmong w worlds → slice_get w.peers p ≡ Some s
+    → private_table p w key ≡ Some a → CanBeTold (capabilities_of s.peer) key a
 
 abbrev pub ends_of_rib : List Message → ℕ
 ends_of_rib messages = count_by says_nothing messages
