@@ -14,7 +14,7 @@ use Rattle.ug_world.specs.declared.peer_state.PeerState.{PeerState}
 use Rattle.ug_world.specs.World.{World}
 use Rattle.ug_world.specs.After.{after}
 use Rattle.ug_speaker.specs.Speech.{Purpose, TakesEvent, MarksTold, Ends, Prepares}
-use Rattle.ug_plain_rules.specs.Seats.{Seat, Plain, fresh_seat, fresh, sessions_at, sessions_of, has, change_at, with_session, with_handed, with_next, with_loss, with_event, with_event_from}
+use Rattle.ug_plain_rules.specs.Seats.{Seat, Plain, fresh_seat, fresh, sessions_at, sessions_had, has, change_at, with_session, with_handed, with_next, with_loss, with_event, with_event_from}
 use Rattle.ug_plain_rules.specs.Plain.{after_job, at_rest, front_of, next_said, lane_reply, after_lane, has_unlost, texts_at, begun_at, seat_due, seats_due, plain_rules}
 
 -- ---- a change at a place
@@ -158,7 +158,7 @@ next peer s =
 
 due_changed :
     (change : Seat → Seat) (p : ℕ) (peers : List PeerState) (seats : List Seat) (t : Seat) → slice_get seats p ≡ Some t
-    → seat_due (sessions_of (slice_get peers p)) (change t) < seat_due (sessions_of (slice_get peers p)) t
+    → seat_due (sessions_had (slice_get peers p)) (change t) < seat_due (sessions_had (slice_get peers p)) t
     → seats_due peers (change_at change p seats) < seats_due peers seats
 due_changed change p peers [] t is falls = absurd cc
 due_changed change zero [] (u ∷ seats) t is falls =

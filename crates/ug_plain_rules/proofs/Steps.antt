@@ -9,7 +9,7 @@ use Rattle.ug_board.specs.Rules.{counts, says_more}
 use Rattle.ug_world.specs.declared.peer_state.PeerState.{PeerState}
 use Rattle.ug_speaker.specs.Speech.{Purpose, TakesEvent, MarksTold, Ends, Prepares}
 use Rattle.ug_speaker.specs.Owes.{StepsRight, IsTimely, StaysDrained, closed_by, world_by}
-use Rattle.ug_plain_rules.specs.Seats.{Seat, Plain, sessions_at, sessions_of, change_at, with_loss}
+use Rattle.ug_plain_rules.specs.Seats.{Seat, Plain, sessions_at, sessions_had, change_at, with_loss}
 use Rattle.ug_plain_rules.specs.Plain.{job_legal, after_job, is_empty, is_quiet, are_quiet, is_drained, at_rest, said_of, next_said, lane_reply, after_lane, plain_rules, plain_speech}
 
 timely : (job : Purpose) (s : Plain) → IsTimely plain_rules plain_speech job (job_legal job s) s
@@ -55,7 +55,7 @@ both true b e f = f
 both false b e f = e
 
 -- each seat of a drained state is quiet
-pub quiet-at : (p : ℕ) (peers : List PeerState) (seats : List Seat) (t : Seat) → are_quiet peers seats ≡ true → slice_get seats p ≡ Some t → is_quiet (sessions_of (slice_get peers p)) t ≡ true
+pub quiet-at : (p : ℕ) (peers : List PeerState) (seats : List Seat) (t : Seat) → are_quiet peers seats ≡ true → slice_get seats p ≡ Some t → is_quiet (sessions_had (slice_get peers p)) t ≡ true
 quiet-at p peers [] t quiet is = absurd cc
 quiet-at zero [] (u ∷ seats) t quiet is = let same : u ≡ t = cc in rw (sym same) (both_so (is_quiet 0 u) (are_quiet [] seats) quiet).0
 quiet-at zero (s ∷ peers) (u ∷ seats) t quiet is = let same : u ≡ t = cc in rw (sym same) (both_so (is_quiet s.sessions u) (are_quiet peers seats) quiet).0

@@ -29,13 +29,13 @@ fresh_seat = record { begun = 0; unlost = []; handed = 0; texts = [] }
 abbrev pub fresh : World → Plain
 fresh w = record { world = w; closed = false; seats = map (λ (s : PeerState). fresh_seat) w.peers }
 
-abbrev pub sessions_of : Option PeerState → ℕ
-sessions_of None = 0
-sessions_of (Some s) = s.sessions
+abbrev pub sessions_had : Option PeerState → ℕ
+sessions_had None = 0
+sessions_had (Some s) = s.sessions
 
 -- how many sessions a peer has had
 abbrev pub sessions_at : ℕ → World → ℕ
-sessions_at p w = sessions_of (slice_get w.peers p)
+sessions_at p w = sessions_had (slice_get w.peers p)
 
 -- this number stands in the list
 abbrev pub has : List ℕ → ℕ → Bool
@@ -77,8 +77,8 @@ with_loss sessions n t = record {
 abbrev pub texts_of : PeerState → List Message → List (List ℕ)
 texts_of s messages = map (text_of (capabilities_of s.peer)) messages
 
--- By whether the peer is up after the event, was up before it, and is lost: what a peer that comes up is sent, and
--- what one that stays up is sent further.
+-- By whether the peer is up after the event, was up in the same session before it, and is lost: what a peer that comes
+-- up is sent, and what one that stays up is sent further.
 abbrev pub texts_by : Bool → Bool → Bool → List (List ℕ) → List (List ℕ) → List (List ℕ) → List (List ℕ)
 texts_by false was lost texts all more = []
 texts_by true false lost texts all more = all
@@ -87,7 +87,7 @@ texts_by true true false texts all more = texts ++ more
 
 abbrev pub texts_after : Happening → ℕ → World → World → Seat → Option PeerState → Option PeerState → List (List ℕ)
 texts_after e p old new t (Some s) (Some s') =
-    texts_by s'.up s.up (is_lost_at t s'.sessions) t.texts (texts_of s' (whole p s' new)) (texts_of s' (changes e p s' old new))
+    texts_by s'.up (s.up && (s.sessions == s'.sessions)) (is_lost_at t s'.sessions) t.texts (texts_of s' (whole p s' new)) (texts_of s' (changes e p s' old new))
 texts_after e p old new t None s' = []
 texts_after e p old new t (Some s) None = []
 

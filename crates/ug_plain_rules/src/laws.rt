@@ -1,12 +1,12 @@
 //! Laws over the rules, on a function that does nothing.
 
 ghost use Rattle.ug_board.specs.Rules.{IsMachine};
-ghost use Rattle.ug_speaker.specs.Owes.{StepsRight};
+ghost use Rattle.ug_speaker.specs.Owes.{IsSpeaker};
 ghost use Rattle.ug_plain_rules.specs.Plain.{plain_rules, plain_speech};
 
-/// What the rules keep. `machine`: what any machine keeps in every state. `steps`: each step does to the world, the end
-/// and what is drained what it should, and each job may be done exactly when it should.
+/// What the rules keep. `machine`: what any machine keeps in every state. `speaks`: what a machine that speaks to peers
+/// owes, of each step and of each whole history.
 pub fn plain_laws()
     ensures machine { IsMachine plain_rules }
-    ensures steps { StepsRight plain_rules plain_speech }
+    ensures speaks { IsSpeaker plain_rules plain_speech }
 {}

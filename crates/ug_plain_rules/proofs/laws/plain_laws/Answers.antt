@@ -1,9 +1,9 @@
-use Rattle.ug_plain_rules.specs.Lawful.{plain_lawful}
-use Rattle.ug_plain_rules.specs.Steps.{plain_steps}
+use Rattle.ug_plain_rules.proofs.Lawful.{plain_lawful}
+use Rattle.ug_plain_rules.proofs.Speaks.{plain_speaks}
 use Rattle.ug_plain_rules.proofs.laws.plain_laws.Goals as goal
 
 pub returns-clause-machine : goal.returns-clause-machine
 returns-clause-machine c = plain_lawful
 
-pub returns-clause-steps : goal.returns-clause-steps
-returns-clause-steps c = plain_steps
+pub returns-clause-speaks : goal.returns-clause-speaks
+returns-clause-speaks c = plain_speaks
