@@ -17,7 +17,7 @@ use Rattle.ug_world.specs.After.{after}
 use Rattle.ug_world.specs.Touches.{is_about}
 use Rattle.ug_speaker.specs.Speech.{TakesEvent, is_request}
 use Rattle.ug_speaker.specs.Told.{worlds_of, deeds_to, handed_in, told}
-use Rattle.ug_speaker.specs.Right.{AreTellable, announces, is_begin, BeginsWhere}
+use Rattle.ug_speaker.specs.Right.{FitAlone, announces, is_begin, BeginsWhere}
 use Rattle.ug_speaker.specs.Owes.{IsCourse}
 use Rattle.ug_plain_rules.specs.Changes.{changes}
 use Rattle.ug_plain_rules.specs.Seats.{Seat, Plain}
@@ -104,7 +104,7 @@ module _ (p : ℕ) (opening : World) (h : List PlainEntry) (pass : ℕ) (e : Hap
       let entry = job_entry plain_rules pass (TakesEvent e) state in
       let end = worlds_end opening h (placed_before p opening h entry course) in
       let kept' : IsKept p (end.0 ++ state.world ∷ []) state deeds asker at.seat at.rest = subst (λ (ws : List World). IsKept p ws state deeds asker at.seat at.rest) end.1 at.kept in
-      let tell' : AreTellable ((end.0 ++ state.world ∷ []) ++ after state.world e ∷ []) = subst (λ (ws : List World). AreTellable (ws ++ after state.world e ∷ [])) end.1 (tell_next p opening h entry course) in
+      let tell' : FitAlone ((end.0 ++ state.world ∷ []) ++ after state.world e ∷ []) = subst (λ (ws : List World). FitAlone (ws ++ after state.world e ∷ [])) end.1 (tell_next p opening h entry course) in
       let found = after_event p end.0 state deeds asker at.seat at.rest kept' (counted_at p opening h entry course asker at.seat at.rest at.kept) e [] tell' in
       subst (λ (ws : List World). KeptAsked p ws state (replay plain_rules opening h') (deeds_to plain_rules plain_speech p opening h') deeds asker at.seat at.rest e sent_now)
       (ap (λ (ws : List World). ws ++ after state.world e ∷ []) (sym end.1) ∙ sym (worlds_next p opening h entry course))

@@ -24,9 +24,10 @@ use Rattle.ug_world.specs.World.{World}
 use Rattle.ug_world.specs.After.{after}
 use Rattle.ug_speaker.specs.Speech.{Purpose, TakesEvent, MarksTold, Ends, Prepares}
 use Rattle.ug_speaker.specs.Told.{events_in, worlds_of, deeds_to}
-use Rattle.ug_speaker.specs.Right.{AreTellable, IsToldRight}
+use Rattle.ug_speaker.specs.Right.{FitAlone, IsToldRight}
 use Rattle.ug_speaker.specs.Owes.{IsOpening, IsCourse}
 use Rattle.ug_plain_rules.specs.Changes.{changes}
+use Rattle.ug_speaker.proofs.Worlds.{fit-alone}
 use Rattle.ug_plain_rules.specs.Seats.{Seat, Plain, fresh_seat, sessions_at, change_at, with_next, with_loss}
 use Rattle.ug_plain_rules.specs.Plain.{plain_rules, plain_speech}
 use Rattle.ug_plain_rules.proofs.Lawful.{changed-there}
@@ -73,14 +74,14 @@ module _ (p : ℕ) (front : List World) (state : Plain) (deeds : List (Deed Mess
       (sym at)
       (kept_lost p here state deeds s t rest kept counted n (n == s.sessions) refl (subst (λ k. plain_rules.may_lose k n state ≡ true) at legal.0)))
 
-  pub after_event : (e : Happening) (said : List Mark) → AreTellable (here ++ after state.world e ∷ [])
+  pub after_event : (e : Happening) (said : List Mark) → FitAlone (here ++ after state.world e ∷ [])
       → KeptAsked p (here ++ after state.world e ∷ []) state (plain_rules.after (TakesEvent e) state) (deeds ++ []) deeds s t rest e (changes e p (peer_after e s) state.world (after state.world e))
   after_event e said tell =
       subst
       (λ (ds : List (Deed Message)). KeptAsked p (here ++ after state.world e ∷ []) state (plain_rules.after (TakesEvent e) state) ds deeds s t rest e (changes e p (peer_after e s) state.world (after state.world e)))
       (sym (append-nil deeds)) (kept-asked p front state deeds s t rest e kept counted tell)
 
-  kept_step : (step : BoardStep Purpose) (said : BoardSaid (List Mark)) → IsLegalStep plain_rules step said state → AreTellable (worlds_then step state.world here) → After step said
+  kept_step : (step : BoardStep Purpose) (said : BoardSaid (List Mark)) → IsLegalStep plain_rules step said state → FitAlone (worlds_then step state.world here) → After step said
   kept_step (DoJob (TakesEvent e)) (JobSaid said) legal tell = (after_event e said tell).then_kept
   kept_step (DoJob MarksTold) (JobSaid said) legal tell = kept_same p here state deeds s t rest kept counted state.closed state.seats kept.seat
   kept_step (DoJob Ends) (JobSaid said) legal tell = kept_same p here state deeds s t rest kept counted true state.seats kept.seat
@@ -148,8 +149,10 @@ module _ (p : ℕ) (opening : World) (h : List PlainEntry) (entry : PlainEntry) 
   pub worlds_next : worlds_of plain_rules plain_speech opening (h ++ entry ∷ []) ≡ worlds_then entry.step state.world (worlds_of plain_rules plain_speech opening h)
   worlds_next = worlds-push opening h entry ∙ ap (λ (w : World). worlds_then entry.step w (worlds_of plain_rules plain_speech opening h)) (sym placed_before.world)
 
-  pub tell_next : AreTellable (worlds_then entry.step state.world (worlds_of plain_rules plain_speech opening h))
-  tell_next = subst (λ (ws : List World). AreTellable ws) worlds_next course.tellable
+  pub tell_next : FitAlone (worlds_then entry.step state.world (worlds_of plain_rules plain_speech opening h))
+  tell_next =
+      subst (λ (ws : List World). FitAlone ws) worlds_next
+      (fit-alone opening (events_in plain_rules plain_speech (h ++ entry ∷ [])) course.opens course.events course.in_range)
 
   pub counted_at : (s : PeerState) (t : Seat) (rest : List Message) → IsKept p (worlds_of plain_rules plain_speech opening h) state deeds s t rest → IsCounted deeds s t
   counted_at s t rest kept =
@@ -162,7 +165,7 @@ module _ (p : ℕ) (opening : World) (h : List PlainEntry) (entry : PlainEntry) 
   kept_next_state s t rest kept =
       let end = worlds_end opening h placed_before in
       let kept' : IsKept p (end.0 ++ state.world ∷ []) state deeds s t rest = subst (λ (ws : List World). IsKept p ws state deeds s t rest) end.1 kept in
-      let tell' : AreTellable (worlds_then entry.step state.world (end.0 ++ state.world ∷ [])) = subst (λ (ws : List World). AreTellable (worlds_then entry.step state.world ws)) end.1 tell_next in
+      let tell' : FitAlone (worlds_then entry.step state.world (end.0 ++ state.world ∷ [])) = subst (λ (ws : List World). FitAlone (worlds_then entry.step state.world ws)) end.1 tell_next in
       let then_kept = kept_step p end.0 state deeds s t rest kept' (counted_at s t rest kept) entry.step entry.said legal_entry tell' in
       subst (λ (ws : List World). KeptThen p ws state (replay plain_rules opening (h ++ entry ∷ [])) (deeds_to plain_rules plain_speech p opening (h ++ entry ∷ [])) deeds s t rest)
       (ap (worlds_then entry.step state.world) (sym end.1) ∙ sym worlds_next)

@@ -1,5 +1,5 @@
 -- Histories that grow: what a further entry makes of the state, the deeds and the worlds.
-use Rattle.std.proofs.Common.{◌≡◌, ℕ, inl, inr, List, [], ◌∷◌, ◌++◌, refl, sym, ◌∙◌, ap, subst, append_assoc}
+use Rattle.std.proofs.Common.{◌≡◌, ℕ, List, [], ◌∷◌, ◌++◌, refl, sym, ◌∙◌, ap, subst, append_assoc}
 use Rattle.std.proofs.lemmas.List.{append-nil}
 use Rattle.ug_types.specs.declared.mark.Mark.{Mark}
 use Rattle.ug_types.specs.Messages.{Message}
@@ -15,10 +15,11 @@ use Rattle.ug_world.specs.World.{World}
 use Rattle.ug_world.specs.After.{after}
 use Rattle.ug_speaker.specs.Speech.{Purpose, TakesEvent, MarksTold, Ends, Prepares}
 use Rattle.ug_speaker.specs.Told.{worlds_through, world_after, step_events, events_in, worlds_of, deeds_to}
-use Rattle.ug_speaker.specs.Right.{IsAmong}
+use Rattle.ug_speaker.specs.Ranges.{IsEventInRange, AreInRange}
 use Rattle.ug_speaker.specs.Owes.{AreEvents, IsCourse}
 use Rattle.ug_plain_rules.specs.Seats.{Plain}
 use Rattle.ug_plain_rules.specs.Plain.{plain_rules, plain_speech}
+use Rattle.ug_plain_rules.proofs.Packed.{each-front}
 
 abbrev pub PlainEntry : Type 0
 PlainEntry = Entry Purpose (List Mark)
@@ -97,17 +98,12 @@ events_front : (es fs : List Happening) → AreEvents (es ++ fs) → AreEvents e
 events_front [] fs h = tt
 events_front (e ∷ es) fs h = (h.0, events_front es fs h.1)
 
-through_front : (w x : World) (es fs : List Happening) → IsAmong x (worlds_through w es) → IsAmong x (worlds_through w (es ++ fs))
-through_front w x [] [] is = is
-through_front w x [] (f ∷ fs) is = elim is [ inl here ↦ inl here | inr none ↦ absurd none ]
-through_front w x (e ∷ es) fs is = elim is [ inl here ↦ inl here | inr there ↦ inr (through_front (after w e) x es fs there) ]
-
 pub course-front : (opening : World) (h more : List PlainEntry) → IsCourse plain_rules plain_speech opening (h ++ more) → IsCourse plain_rules plain_speech opening h
 course-front opening h more course = record {
   opens = course.opens;
   legal = legal-front (plain_rules.start opening) h more course.legal;
   events = events_front (events_in plain_rules plain_speech h) (events_in plain_rules plain_speech more) (subst (λ (es : List Happening). AreEvents es) (events-append h more) course.events);
-  tellable = λ w p s key a among is there.
-      course.tellable w p s key a
-      (subst (λ (es : List Happening). IsAmong w (worlds_through opening es)) (sym (events-append h more)) (through_front opening w (events_in plain_rules plain_speech h) (events_in plain_rules plain_speech more) among)) is there;
+  in_range =
+      each-front IsEventInRange (events_in plain_rules plain_speech h) (events_in plain_rules plain_speech more)
+      (subst (λ (es : List Happening). AreInRange es) (events-append h more) course.in_range);
 }

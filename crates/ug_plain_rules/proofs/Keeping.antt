@@ -22,7 +22,7 @@ use Rattle.ug_world.specs.World.{World}
 use Rattle.ug_world.specs.Private.{private_table}
 use Rattle.ug_world.specs.After.{after}
 use Rattle.ug_speaker.specs.Speech.{TakesEvent, capabilities_of}
-use Rattle.ug_speaker.specs.Right.{CanBeTold, AreTellable, announces}
+use Rattle.ug_speaker.specs.Right.{FitsAlone, FitAlone, announces}
 use Rattle.ug_plain_rules.specs.Packing.{fits, text_of}
 use Rattle.ug_plain_rules.specs.Changes.{changes, whole}
 use Rattle.ug_plain_rules.specs.Seats.{Seat, Plain, sessions_at, sessions_had, has, is_lost_at, change_at, with_session, with_next, with_loss, texts_of, texts_by, texts_after, with_event, with_event_from}
@@ -213,7 +213,7 @@ module _ (p : ℕ) (worlds : List World) (state : Plain) (deeds : List (Deed Mes
 -- ---- an event
 
 module _ (p : ℕ) (front : List World) (state : Plain) (deeds : List (Deed Message)) (s : PeerState) (t : Seat) (rest : List Message) (e : Happening) (kept : IsKept p (front ++ state.world ∷ []) state deeds s t rest) (counted : IsCounted deeds s t)
-    (tell : AreTellable ((front ++ state.world ∷ []) ++ after state.world e ∷ [])) where
+    (tell : FitAlone ((front ++ state.world ∷ []) ++ after state.world e ∷ [])) where
   abbrev later_world : World
   later_world = after state.world e
 
@@ -228,7 +228,7 @@ module _ (p : ℕ) (front : List World) (state : Plain) (deeds : List (Deed Mess
 
   tell_old : Tellable (capabilities_of s'.peer) (private_table p state.world)
   tell_old key a there =
-      subst (λ (c : Capabilities). CanBeTold c key a) (sym next.capabilities)
+      subst (λ (c : Capabilities). FitsAlone c key a) (sym next.capabilities)
       (tell state.world p s key a (among-more state.world (front ++ state.world ∷ []) (later_world ∷ []) (among-last state.world front)) kept.peer there)
 
   tell_new : Tellable (capabilities_of s'.peer) (private_table p later_world)
@@ -291,7 +291,7 @@ pub record KeptAsked (p : ℕ) (worlds : List World) (old state : Plain) (deeds 
 
 pub kept-asked :
     (p : ℕ) (front : List World) (state : Plain) (deeds : List (Deed Message)) (s : PeerState) (t : Seat) (rest : List Message) (e : Happening) → IsKept p (front ++ state.world ∷ []) state deeds s t rest → IsCounted deeds s t
-    → AreTellable ((front ++ state.world ∷ []) ++ after state.world e ∷ [])
+    → FitAlone ((front ++ state.world ∷ []) ++ after state.world e ∷ [])
     → KeptAsked p ((front ++ state.world ∷ []) ++ after state.world e ∷ []) state (plain_rules.after (TakesEvent e) state) deeds deeds s t rest e (changes e p (peer_after e s) state.world (after state.world e))
 unfolding kept-event found
 kept-asked p front state deeds s t rest e kept counted tell = record {

@@ -22,7 +22,7 @@ use Rattle.ug_world.specs.Private.{private_table}
 use Rattle.ug_world.specs.After.{after}
 use Rattle.ug_world.specs.Touches.{is_about}
 use Rattle.ug_speaker.specs.Speech.{capabilities_of, is_request}
-use Rattle.ug_speaker.specs.Right.{CanBeTold, announces, BeginsWhere}
+use Rattle.ug_speaker.specs.Right.{FitsAlone, announces, BeginsWhere}
 use Rattle.ug_plain_rules.specs.Packing.{withdrawing, fits, withdrawals, announcements}
 use Rattle.ug_plain_rules.specs.Changes.{keys_of, keys_at, is_gone, differ, is_new, in_marks, messages_by, changes, whole}
 use Rattle.ug_plain_rules.proofs.SameKeys.{among-filter, both}
@@ -112,7 +112,7 @@ fit_marks false c ms h = h
 -- ---- from one table to the next
 
 abbrev pub Tellable : Capabilities → Table → Type 0
-Tellable c table = (key : Key) (a : Attributes) → table key ≡ Some a → CanBeTold c key a
+Tellable c table = (key : Key) (a : Attributes) → table key ≡ Some a → FitsAlone c key a
 
 module _ (c : Capabilities) (old new : Table) (tell_old : Tellable c old) (tell_new : Tellable c new) where
   can_announce : (key : Key) → CanAnnounce c new key

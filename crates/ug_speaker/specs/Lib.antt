@@ -1,4 +1,5 @@
 pub mod Speech
 pub mod Told
 pub mod Right
+pub mod Ranges
 pub mod Owes

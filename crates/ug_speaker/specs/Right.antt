@@ -7,6 +7,7 @@ use Rattle.ug_types.specs.Attributes.{Attributes}
 use Rattle.ug_types.specs.Messages.{Message, Updates, Begins, Ends, Ignored}
 use Rattle.ug_tables.specs.Tables.{Table, Reading, nothing_read, applied, table_of, tables_after, among}
 use Rattle.ug_tables.specs.Climbing.{NeverBack}
+use Rattle.ug_message.specs.Spellable.{is_key, can_be_spelled}
 use Rattle.ug_message.specs.Texts.{written}
 use Rattle.ug_message.specs.Streams.{AreOf, IsUpdate, says_nothing}
 use Rattle.ug_outbound.specs.declared.peer.Peer.{Peer}
@@ -24,16 +25,27 @@ abbrev pub IsAmong : {T : Type 0} → T → List T → Type 0
 IsAmong x [] = ⊥
 IsAmong x (y ∷ ys) = (x ≡ y) ⊎ IsAmong x ys
 
--- The route can be announced, and withdrawn, in a message of its own.
+-- A message of the session can spell the route: its key is one of the session, and its attributes have values in range.
 pub record CanBeTold (c : Capabilities) (key : Key) (a : Attributes) : Type 0 where
-  pub announced : is_some (written c (Updates (record { withdrawn = []; attrs = Some a; announced = key ∷ [] }))) ≡ true
-  pub withdrawn : is_some (written c (Updates (record { withdrawn = key ∷ []; attrs = None; announced = [] }))) ≡ true
+  pub key_is : is_key c key ≡ true
+  pub attributes_are : can_be_spelled c.family a ≡ true
 
--- So can each route of each private table in these worlds.
+-- So it is of each route of each private table in these worlds.
 abbrev pub AreTellable : List World → Type 0
 AreTellable worlds =
     (w : World) (p : ℕ) (s : PeerState) (key : Key) (a : Attributes) → IsAmong w worlds → slice_get w.peers p ≡ Some s
     → private_table p w key ≡ Some a → CanBeTold (capabilities_of s.peer) key a
+
+-- The route can be announced, and withdrawn, in a message of its own: it is within the limit.
+pub record FitsAlone (c : Capabilities) (key : Key) (a : Attributes) : Type 0 where
+  pub announced : is_some (written c (Updates (record { withdrawn = []; attrs = Some a; announced = key ∷ [] }))) ≡ true
+  pub withdrawn : is_some (written c (Updates (record { withdrawn = key ∷ []; attrs = None; announced = [] }))) ≡ true
+
+-- So can each route of each private table in these worlds.
+abbrev pub FitAlone : List World → Type 0
+FitAlone worlds =
+    (w : World) (p : ℕ) (s : PeerState) (key : Key) (a : Attributes) → IsAmong w worlds → slice_get w.peers p ≡ Some s
+    → private_table p w key ≡ Some a → FitsAlone (capabilities_of s.peer) key a
 
 abbrev pub ends_of_rib : List Message → ℕ
 ends_of_rib messages = count_by says_nothing messages

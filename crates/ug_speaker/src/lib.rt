@@ -2,6 +2,8 @@
 //! each session is told what its peer should know, right after every message and whole when everything is told.
 #![tactic(auto)]
 
+mod laws;
 mod speaker;
 
+pub use laws::routes_fit;
 pub use speaker::Speaker;

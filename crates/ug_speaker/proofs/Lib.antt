@@ -1,0 +1,4 @@
+pub mod Sizes
+pub mod Spelled
+pub mod Ranged
+pub mod Worlds
