@@ -2,7 +2,7 @@
 use Rattle.std.proofs.Common.{◌≡◌, ℕ, ◌≤◌, Bool, true, false, List, [], ◌∷◌, ◌++◌, map, slice_get, Option, Some, None, refl, sym, ◌∙◌, ap, subst, append_assoc}
 use Rattle.std.specs.Prelude.{◌==◌}
 use Rattle.std.specs.Option.{option_map}
-use Rattle.std.proofs.lemmas.Bool.{eqb-true, eq-eqb}
+use Rattle.std.proofs.lemmas.Bool.{eqb-true}
 use Rattle.std.proofs.lemmas.List.{append-nil}
 use Rattle.std.proofs.lemmas.Option.{slice_get-map}
 use Rattle.ug_types.specs.declared.mark.Mark.{Mark}
@@ -36,14 +36,11 @@ use Rattle.ug_plain_rules.proofs.Peers.{peer_after, peers-after}
 use Rattle.ug_plain_rules.proofs.Counts.{IsCounted}
 use Rattle.ug_plain_rules.proofs.Seated.{live_at, stream, rest-none}
 use Rattle.ug_plain_rules.proofs.Growing.{PlainEntry, deeds_then, deeds-push, worlds_then, worlds-push, through-last, legal-next, replay-push, course-front}
-use Rattle.ug_plain_rules.proofs.Placed.{ArePlaced, are-placed}
+use Rattle.ug_plain_rules.proofs.Placed.{apart_from, ArePlaced, are-placed}
 use Rattle.ug_plain_rules.proofs.Marks.{seat-of}
 use Rattle.ug_plain_rules.proofs.Keeping.{IsKept, GoesFurther, KeptThen, KeptAsked, kept_same, kept_next, kept_lost, kept-asked}
 
 -- ---- a step
-
-apart_from : (q p : ℕ) → (q == p) ≡ false → p ≡ q → ⊥
-apart_from q p apart e = let same : (q == p) ≡ true = eq-eqb q p (sym e) in absurd cc
 
 module _ (p : ℕ) (front : List World) (state : Plain) (deeds : List (Deed Message)) (s : PeerState) (t : Seat) (rest : List Message) (kept : IsKept p (front ++ state.world ∷ []) state deeds s t rest) (counted : IsCounted deeds s t) where
   abbrev here : List World

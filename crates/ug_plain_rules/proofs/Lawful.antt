@@ -206,7 +206,7 @@ no_more false texts = omega arith
 lost_due : (sessions n : ℕ) (t : Seat) → has t.unlost n ≡ true → seat_due sessions (with_loss sessions n t) < seat_due sessions t
 lost_due sessions n t some = let less = one_fewer n t.unlost some in let few = no_more (n == sessions) t.texts in omega arith
 
-rest_says : (closed : Bool) → says_more (at_rest closed) ≡ false
+pub rest_says : (closed : Bool) → says_more (at_rest closed) ≡ false
 rest_says true = refl
 rest_says false = refl
 

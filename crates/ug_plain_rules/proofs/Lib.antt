@@ -1,3 +1,4 @@
+pub mod Bools
 pub mod Lawful
 pub mod Steps
 pub mod Moving

@@ -20,6 +20,7 @@ use Rattle.ug_plain_rules.proofs.Steps.{quiet-at}
 use Rattle.ug_plain_rules.proofs.Counts.{IsCounted, nothing-in}
 use Rattle.ug_plain_rules.proofs.Growing.{PlainEntry, legal-push, replay-push}
 use Rattle.ug_plain_rules.proofs.Placed.{IsPlaced, ArePlaced, are-placed}
+use Rattle.ug_plain_rules.proofs.Bools.{both_so, not_so}
 
 -- what a seat says of how much was told is what was told
 told_length : (deeds : List (Deed Message)) (s : PeerState) (t : Seat) → IsCounted deeds s t → length (handed_in s.sessions (sessions_of deeds)) ≡ handed_now s.sessions (Some t)
@@ -45,8 +46,9 @@ module _ (opening : World) (h : List PlainEntry) (placed : ArePlaced opening h) 
       ≡ when (test && (s.up && not (is_lost_in s.sessions u))) (record { version = here.world.version; peer = p; session = s.sessions; handed = handed_now s.sessions u } ∷ [])
   one_mark test p s (Some x) (Some t) is counted =
       let counts : IsCounted (deeds_at p) s t = let same : x ≡ s = cc in subst (λ (y : PeerState). IsCounted (deeds_at p) y t) same counted in
-      ap (λ (b : Bool). when (test && (s.up && not b)) (mark_of plain_rules plain_speech p s opening h ∷ [])) (counts.lost s.sessions)
-      ∙ ap (λ n. when (test && (s.up && not (is_lost_at t s.sessions))) (record { version = here.world.version; peer = p; session = s.sessions; handed = n } ∷ [])) (told_length (deeds_at p) s t counts)
+      let lost = counts.lost s.sessions in
+      let handed = told_length (deeds_at p) s t counts in
+      λ i. when (test && (s.up && not (lost i))) (record { version = here.world.version; peer = p; session = s.sessions; handed = handed i } ∷ [])
   one_mark test p s (Some x) None is counted = absurd counted
   one_mark test p s None u is counted = absurd cc
 
@@ -71,14 +73,6 @@ module _ (opening : World) (h : List PlainEntry) (placed : ArePlaced opening h) 
 
   pub begun-at_most : (p : ℕ) (s : PeerState) → slice_get here.world.peers p ≡ Some s → begun_at (slice_get here.seats p) ≤ s.sessions
   begun-at_most p s is = begun_few p s (slice_get here.world.peers p) (slice_get here.seats p) is (placed.placed p)
-
-  both_so : (a b : Bool) → (a && b) ≡ true → (a ≡ true) × (b ≡ true)
-  both_so true b e = (refl, e)
-  both_so false b e = absurd cc
-
-  not_so : (b : Bool) → not b ≡ true → b ≡ false
-  not_so true e = absurd cc
-  not_so false e = refl
 
   -- of a drained state: all sessions of a peer are begun, and its list is empty
   pub record IsQuiet (s : PeerState) (t : Seat) : Type 0 where

@@ -15,6 +15,7 @@ use Rattle.ug_plain_rules.proofs.SameKeys.{same-is}
 use Rattle.ug_message.specs.Streams.{AreOf, says_nothing}
 use Rattle.ug_plain_rules.specs.Packing.{announcing, withdrawing, fits, runs_from, runs, withdrawals, Shared, are_same, with_key, with_route, by_attributes, announcements_of, announcements}
 use Rattle.ug_plain_rules.proofs.Telling.{mentions, IsTelling}
+use Rattle.ug_plain_rules.proofs.Bools.{true_or, or_true, or_so}
 
 -- ---- lists
 
@@ -38,17 +39,6 @@ each-among P (k ∷ keys) key h is = by (same_key key k) refl is (λ rest. each-
     by : (b : Bool) → same_key key k ≡ b → (b || among keys key) ≡ true → (among keys key ≡ true → P key) → P key
     by true e is rest = subst P (sym (same-is key k e)) h.0
     by false e is rest = rest is
-
-pub true_or : (a b : Bool) → a ≡ true → (a || b) ≡ true
-true_or a b e = rw e refl
-
-pub or_true : (a b : Bool) → b ≡ true → (a || b) ≡ true
-or_true true b e = refl
-or_true false b e = e
-
-pub or_so : (a b : Bool) → (a || b) ≡ true → (a ≡ true) ⊎ (b ≡ true)
-or_so true b e = inl refl
-or_so false b e = inr e
 
 -- ---- runs
 

@@ -26,7 +26,7 @@ use Rattle.ug_speaker.specs.Speech.{Purpose, TakesEvent, MarksTold, Ends, Prepar
 use Rattle.ug_speaker.specs.Told.{world_after, step_events, events_in, deeds_to}
 use Rattle.ug_plain_rules.specs.Seats.{Seat, Plain, fresh_seat, fresh, sessions_at, sessions_had, has, is_lost_at, change_at, with_session, with_next, with_loss, texts_after, with_event, with_event_from}
 use Rattle.ug_plain_rules.specs.Plain.{at_rest, next_said, plain_rules, plain_speech}
-use Rattle.ug_plain_rules.proofs.Lawful.{changed-here, changed-there, event_at}
+use Rattle.ug_plain_rules.proofs.Lawful.{rest_says, changed-here, changed-there, event_at}
 use Rattle.ug_plain_rules.proofs.Peers.{peer_after, peers-after, next-of, sessions-rise}
 use Rattle.ug_plain_rules.proofs.Counts.{IsCounted, counted-begins, counted-hands, counted-loses, counted-event}
 use Rattle.ug_plain_rules.proofs.Growing.{PlainEntry, deeds_then, deeds-push, events-append, after-push, legal-front, legal-next, replay-push}
@@ -49,10 +49,6 @@ pub record HandsOne (n : ℕ) (t : Seat) (said : LaneSaid) (text : List ℕ) (te
 
 abbrev pub DoesNext : ℕ → Seat → LaneSaid → Type 0
 DoesNext n t said = BeginsOne n t said ⊎ ((text : List ℕ) × (texts : List (List ℕ)) × HandsOne n t said text texts)
-
-rest_says : (closed : Bool) → says_more (at_rest closed) ≡ false
-rest_says true = refl
-rest_says false = refl
 
 does_by : (n : ℕ) (closed : Bool) (t : Seat) (now hands : Bool) (texts : List (List ℕ)) → nat_lt t.begun n ≡ now → nat_lt 0 t.begun ≡ hands → t.texts ≡ texts
     → says_more (next_said n closed (Some t)) ≡ true → DoesNext n t (next_said n closed (Some t))
@@ -139,7 +135,7 @@ lost_placed p n s deeds (Some peer) (Some t) us may h =
 lost_placed p n s deeds None (Some t) us may h = absurd h
 lost_placed p n s deeds (Some peer) None us may h = absurd h
 
-apart_from : (q p : ℕ) → (q == p) ≡ false → p ≡ q → ⊥
+pub apart_from : (q p : ℕ) → (q == p) ≡ false → p ≡ q → ⊥
 apart_from q p apart e = let same : (q == p) ≡ true = eq-eqb q p (sym e) in absurd cc
 
 -- ---- a step

@@ -26,6 +26,7 @@ use Rattle.ug_plain_rules.proofs.Batches.{IsLevel, right-longer, right-front, ri
 use Rattle.ug_plain_rules.proofs.Sent.{Tellable, IsSent, changes-sent, all_routes, whole-form, whole-tells, whole-fits}
 use Rattle.ug_plain_rules.proofs.Peers.{IsNextOf}
 use Rattle.ug_plain_rules.proofs.Counts.{IsCounted, nothing-in, begins-nothing, handed-last, handed-other, not-lost}
+use Rattle.ug_plain_rules.proofs.Bools.{both_so, both, not_so}
 
 -- what is still to be handed out in a session: the list, where it is the present one
 abbrev pub rest_in : ℕ → ℕ → List Message → List Message
@@ -77,18 +78,6 @@ rest_other n sessions rest apart = by (n == sessions) refl
     by : (b : Bool) → (n == sessions) ≡ b → ◌≡◌ {A = List Message} (if b then rest else []) []
     by true e = absurd (apart (eqb-true n sessions e))
     by false e = refl
-
-both_so : (a b : Bool) → (a && b) ≡ true → (a ≡ true) × (b ≡ true)
-both_so true b e = (refl, e)
-both_so false b e = absurd cc
-
-both : (a b : Bool) → a ≡ true → b ≡ true → (a && b) ≡ true
-both true b e f = f
-both false b e f = e
-
-not_so : (b : Bool) → not b ≡ true → b ≡ false
-not_so true e = absurd cc
-not_so false e = refl
 
 no_live : (up lost : Bool) → lost ≡ true → (up && not lost) ≡ true → ⊥
 no_live true lost e h = absurd cc

@@ -1,6 +1,6 @@
 -- What a peer is sent leads its table to the next one, or tells it whole, and each message of it has a text.
 use Rattle.std.proofs.Common.{◌≡◌, ◌≢◌, ℕ, ◌⊎◌, inl, inr, Bool, true, false, List, [], ◌∷◌, ◌++◌, slice_get, Option, Some, None, refl, sym, ◌∙◌, ap, subst}
-use Rattle.std.specs.Prelude.{◌&&◌, ◌||◌, is_some, is_none, filter, if◌then◌else◌}
+use Rattle.std.specs.Prelude.{◌&&◌, is_some, is_none, filter, if◌then◌else◌}
 use Rattle.std.specs.List.{list_any}
 use Rattle.std.proofs.lemmas.List.Folds.{list_any-append}
 use Rattle.ug_types.specs.Attributes.{Attributes}
@@ -25,11 +25,12 @@ use Rattle.ug_speaker.specs.Speech.{capabilities_of, is_request}
 use Rattle.ug_speaker.specs.Right.{FitsAlone, announces, BeginsWhere}
 use Rattle.ug_plain_rules.specs.Packing.{withdrawing, fits, withdrawals, announcements}
 use Rattle.ug_plain_rules.specs.Changes.{keys_of, keys_at, is_gone, differ, is_new, in_marks, messages_by, changes, whole}
-use Rattle.ug_plain_rules.proofs.SameKeys.{among-filter, both}
+use Rattle.ug_plain_rules.proofs.SameKeys.{among-filter}
 use Rattle.ug_plain_rules.proofs.Telling.{mentions, IsTelling}
-use Rattle.ug_plain_rules.proofs.Packed.{each-append, true_or, or_true, or_so, IsReady, AreReady, ready-tells, ready-fits, IsGone, withdrawals-ready, withdrawals-mention, CanAnnounce, announcements-ready, announcements-mention}
+use Rattle.ug_plain_rules.proofs.Packed.{each-append, IsReady, AreReady, ready-tells, ready-fits, IsGone, withdrawals-ready, withdrawals-mention, CanAnnounce, announcements-ready, announcements-mention}
 use Rattle.ug_plain_rules.proofs.Touched.{event-stays, route-in_world, request-keys}
 use Rattle.ug_plain_rules.proofs.Batches.{IsPlainBatch, IsMarkedBatch, IsBatch, IsWholeTable}
+use Rattle.ug_plain_rules.proofs.Bools.{both, true_or, or_true, or_so, neither}
 
 -- ---- lists
 
@@ -44,10 +45,6 @@ each_filter P test (key ∷ keys) follows = by (test key) refl (each_filter P te
 each_all : (P : Key → Type 0) (keys : List Key) → ((key : Key) → P key) → Each P keys
 each_all P [] all = tt
 each_all P (key ∷ keys) all = (all key, each_all P keys all)
-
-neither : (a b : Bool) → (a || b) ≡ false → (a ≡ false) × (b ≡ false)
-neither true b e = absurd cc
-neither false b e = (refl, e)
 
 -- ---- what is announced
 

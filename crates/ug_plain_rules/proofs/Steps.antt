@@ -1,6 +1,6 @@
 -- The rules do at each step what is owed.
 use Rattle.std.proofs.Common.{◌≡◌, ℕ, suc, zero, ◌+◌, Bool, true, false, List, [], ◌∷◌, slice_get, Option, Some, None, refl, sym}
-use Rattle.std.specs.Prelude.{◌==◌, ◌&&◌, not, nat_lt, if◌then◌else◌}
+use Rattle.std.specs.Prelude.{◌==◌, not, nat_lt, if◌then◌else◌}
 use Rattle.ug_board.specs.declared.steps.LaneStep.{LaneStep}
 use Rattle.ug_board.specs.declared.steps.LaneStep.TheVariants.{Next, Lost}
 use Rattle.ug_board.specs.declared.steps.LaneSaid.{LaneSaid}
@@ -11,6 +11,8 @@ use Rattle.ug_speaker.specs.Speech.{Purpose, TakesEvent, MarksTold, Ends, Prepar
 use Rattle.ug_speaker.specs.Owes.{StepsRight, IsTimely, StaysDrained, closed_by, world_by}
 use Rattle.ug_plain_rules.specs.Seats.{Seat, Plain, sessions_at, sessions_had, change_at, with_loss}
 use Rattle.ug_plain_rules.specs.Plain.{job_legal, after_job, is_empty, is_quiet, are_quiet, is_drained, at_rest, said_of, next_said, lane_reply, after_lane, plain_rules, plain_speech}
+use Rattle.ug_plain_rules.proofs.Lawful.{rest_says}
+use Rattle.ug_plain_rules.proofs.Bools.{both_so, both}
 
 timely : (job : Purpose) (s : Plain) → IsTimely plain_rules plain_speech job (job_legal job s) s
 timely (TakesEvent e) s = refl
@@ -46,14 +48,6 @@ closed_after_lane (Lost p n) s = refl
 
 -- ---- drained
 
-both_so : (a b : Bool) → (a && b) ≡ true → (a ≡ true) × (b ≡ true)
-both_so true b e = (refl, e)
-both_so false b e = absurd cc
-
-both : (a b : Bool) → a ≡ true → b ≡ true → (a && b) ≡ true
-both true b e f = f
-both false b e f = e
-
 -- each seat of a drained state is quiet
 pub quiet-at : (p : ℕ) (peers : List PeerState) (seats : List Seat) (t : Seat) → are_quiet peers seats ≡ true → slice_get seats p ≡ Some t → is_quiet (sessions_had (slice_get peers p)) t ≡ true
 quiet-at p peers [] t quiet is = absurd cc
@@ -88,10 +82,6 @@ lost_quiet : (sessions m n : ℕ) (t : Seat) → is_quiet n t ≡ true → is_qu
 lost_quiet sessions m n t quiet =
     let parts = both_so (not (nat_lt t.begun n)) (is_empty t.texts) quiet in
     both (not (nat_lt t.begun n)) (is_empty (with_loss sessions m t).texts) parts.0 (still_empty (m == sessions) t.texts parts.1)
-
-rest_says : (closed : Bool) → says_more (at_rest closed) ≡ false
-rest_says true = refl
-rest_says false = refl
 
 quiet_says : (n : ℕ) (closed : Bool) (t : Seat) (now : Bool) (texts : List (List ℕ)) → nat_lt t.begun n ≡ now → t.texts ≡ texts → is_quiet n t ≡ true → says_more (next_said n closed (Some t)) ≡ false
 quiet_says n closed t true texts now them quiet = let none : not true ≡ true = rw now at (both_so (not (nat_lt t.begun n)) (is_empty t.texts) quiet).0 in absurd cc

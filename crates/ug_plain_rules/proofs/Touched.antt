@@ -18,14 +18,8 @@ use Rattle.ug_world.specs.After.{after}
 use Rattle.ug_world.proofs.Keeping.{untouched}
 use Rattle.ug_speaker.specs.Speech.{is_request}
 use Rattle.ug_plain_rules.specs.Changes.{keys_to, keys_of, keys_at}
-use Rattle.ug_plain_rules.proofs.SameKeys.{prefix-is, both}
-
-true_or : (a b : Bool) → a ≡ true → (a || b) ≡ true
-true_or a b e = rw e refl
-
-or_true : (a b : Bool) → b ≡ true → (a || b) ≡ true
-or_true true b e = refl
-or_true false b e = e
+use Rattle.ug_plain_rules.proofs.SameKeys.{prefix-is}
+use Rattle.ug_plain_rules.proofs.Bools.{both, true_or, or_true}
 
 -- ---- a path's key
 

@@ -85,9 +85,9 @@ job_reply MarksTold s = marks_at (λ _. true) 0 s.world.peers s
 job_reply Ends s = []
 job_reply Prepares s = []
 
--- An event takes at most so many runs of the outbound rules: for each peer that of each path before and after it.
+-- An event takes at most so many runs of the outbound rules: for each peer two of each path before it and after it.
 abbrev pub job_most : Purpose → Plain → ℕ
-job_most (TakesEvent e) s = length s.seats * (path_count s.world.routes + path_count (after s.world e).routes)
+job_most (TakesEvent e) s = 2 * length s.seats * (path_count s.world.routes + path_count (after s.world e).routes)
 job_most MarksTold s = 0
 job_most Ends s = 0
 job_most Prepares s = 0

@@ -8,7 +8,7 @@ use Rattle.std.specs.Ordering.{match_ordering, is_eq}
 use Rattle.std.specs.declared.cmp.Ordering.TheVariants.{Less, Equal, Greater}
 use Rattle.std.proofs.lemmas.Bool.{eqb-true}
 use Rattle.ug_types.specs.declared.family.Family.{Family}
-use Rattle.ug_types.specs.declared.family.Family.TheVariants.{V4, V6}
+use Rattle.ug_types.specs.declared.family.Family.TheVariants.{V4}
 use Rattle.ug_types.specs.declared.route.Learned.TheVariants as learned
 use Rattle.ug_types.specs.declared.route.Path.{Path}
 use Rattle.ug_types.specs.declared.route.OutAttrs.{OutAttrs}
@@ -25,6 +25,7 @@ use Rattle.ug_outbound.specs.Keys.{ends_of}
 use Rattle.ug_outbound.specs.Outbound.{is_let_out, out}
 use Rattle.ug_deeds.specs.Deeds.{Each}
 use Rattle.ug_message.specs.Spellable.{is_number, is_prefix, is_route, is_address, can_be_spelled}
+use Rattle.ug_message.proofs.Formed.{both, and, family_is}
 use Rattle.ug_events.specs.Events.{GivenPath, Happening, ComesUp, GoesDown, HasPaths, HasNone, HasPolicy, HasEntries, AsksAgain, SendsRequest, SendsList}
 use Rattle.ug_world.specs.declared.peer_state.PeerState.{PeerState}
 use Rattle.ug_world.specs.World.{Routes, World, paths_to, key_in, peer_named, learned_from}
@@ -39,24 +40,10 @@ use Rattle.ug_speaker.specs.Owes.{IsOpening}
 use Rattle.ug_speaker.specs.Ranges.{IsPathInRange, IsEventInRange, AreInRange, IsPeerInRange, IsWorldInRange}
 use Rattle.ug_speaker.proofs.Spelled.{IsLearnedInRange, out-spelled}
 
-both_so : (a b : Bool) → (a && b) ≡ true → (a ≡ true) × (b ≡ true)
-both_so true b e = (refl, e)
-both_so false b e = absurd cc
-
-both : (a b : Bool) → a ≡ true → b ≡ true → (a && b) ≡ true
-both true b e f = f
-both false b e f = e
-
-family_is : (f g : Family) → same_family f g ≡ true → f ≡ g
-family_is V4 V4 e = refl
-family_is V6 V6 e = refl
-family_is V4 V6 e = absurd cc
-family_is V6 V4 e = absurd cc
-
 prefix_is : (a b : IpPrefix) → same_prefix a b ≡ true → a ≡ b
 prefix_is a b e =
-    let parts = both_so (same_family a.family b.family) ((a.bits == b.bits) && (a.len == b.len)) e in
-    let numbers = both_so (a.bits == b.bits) (a.len == b.len) parts.1 in
+    let parts = both (same_family a.family b.family) ((a.bits == b.bits) && (a.len == b.len)) e in
+    let numbers = both (a.bits == b.bits) (a.len == b.len) parts.1 in
     let family = family_is a.family b.family parts.0 in
     let bits = eqb-true a.bits b.bits numbers.0 in
     let len = eqb-true a.len b.len numbers.1 in
@@ -227,7 +214,7 @@ only_where false x o e = absurd cc
 -- what goes out is of the key's family
 out_family : (key : GroupKey) (tables : Tables) (local : Local) (p : IpPrefix) (path : Path) (o : OutAttrs) → out key tables local p path ≡ Some o → key.family ≡ p.family
 unfolding out
-out_family key tables local p path o e = family_is key.family p.family (both_so (same_family key.family p.family) _ (only_where (is_let_out key tables p path) _ o e)).0
+out_family key tables local p path o e = family_is key.family p.family (both (same_family key.family p.family) _ (only_where (is_let_out key tables p path) _ o e)).0
 
 module _ (w : World) (p : ℕ) (s : PeerState) (key : Key) (a : Attributes) (fine : IsFineWorld w) (is : slice_get w.peers p ≡ Some s) where
   by_out : (path : Path) (o : Option OutAttrs) → out (key_in w s) w.tables w.local key.prefix path ≡ o → is_prefix key.prefix.family key.prefix ≡ true → IsFound s.peer.add_path key.prefix.family key.id path
@@ -241,8 +228,8 @@ module _ (w : World) (p : ℕ) (s : PeerState) (key : Key) (a : Attributes) (fin
       let first : is_prefix s.peer.family key.prefix ≡ true = subst (λ (f : Family). is_prefix f key.prefix ≡ true) (sym family) prefix in
       record {
         key_is =
-            both (is_prefix s.peer.family key.prefix && is_number key.id) (s.peer.add_path || (key.id == 0))
-            (both (is_prefix s.peer.family key.prefix) (is_number key.id) first found.number) found.plain;
+            and (is_prefix s.peer.family key.prefix && is_number key.id) (s.peer.add_path || (key.id == 0))
+            (and (is_prefix s.peer.family key.prefix) (is_number key.id) first found.number) found.plain;
         attributes_are =
             subst (λ (x : Attributes). can_be_spelled s.peer.family x ≡ true) same
             (out-spelled (key_in w s) w.tables w.local key.prefix path o (ends_of s.peer) is' spelled fine.world.asn fine.world.cluster fine.world.maps found.fine.learned_is here.local);

@@ -19,14 +19,7 @@ use Rattle.ug_message.proofs.AttributeParts.{length_attributes, length_next_hop,
 use Rattle.ug_message.proofs.OneText.{some_within}
 use Rattle.ug_message.proofs.RoutesAgain.{length_route}
 use Rattle.ug_message.proofs.WrittenAgain.{length_framed}
-
-both_so : (a b : Bool) → (a && b) ≡ true → (a ≡ true) × (b ≡ true)
-both_so true b e = (refl, e)
-both_so false b e = absurd cc
-
-both : (a b : Bool) → a ≡ true → b ≡ true → (a && b) ≡ true
-both true b e f = f
-both false b e f = e
+use Rattle.ug_message.proofs.Formed.{both, and}
 
 -- ---- a route
 
@@ -36,9 +29,9 @@ width_small V6 = omega arith
 
 prefix_short : (family : Family) (p : IpPrefix) → is_prefix family p ≡ true → p.len ≤ 128
 prefix_short family p e =
-    let first = both_so ((same_family p.family family && nat_le p.len (width_of family)) && (cleared p.len p.bits == p.bits)) (nat_lt p.bits 340282366920938463463374607431768211456) e in
-    let second = both_so (same_family p.family family && nat_le p.len (width_of family)) (cleared p.len p.bits == p.bits) first.0 in
-    let third = both_so (same_family p.family family) (nat_le p.len (width_of family)) second.0 in
+    let first = both ((same_family p.family family && nat_le p.len (width_of family)) && (cleared p.len p.bits == p.bits)) (nat_lt p.bits 340282366920938463463374607431768211456) e in
+    let second = both (same_family p.family family && nat_le p.len (width_of family)) (cleared p.len p.bits == p.bits) first.0 in
+    let third = both (same_family p.family family) (nat_le p.len (width_of family)) second.0 in
     let small : p.len ≤ width_of family = (let is = third.1 in grind (arith, nat_tests)) in
     let width = width_small family in
     omega arith
@@ -46,8 +39,8 @@ prefix_short family p e =
 key_short : (c : Capabilities) (key : Key) → is_key c key ≡ true → key.prefix.len ≤ 128
 unfolding is_route
 key_short c key e =
-    let first = both_so (is_prefix c.family key.prefix && is_number key.id) _ e in
-    let second = both_so (is_prefix c.family key.prefix) (is_number key.id) first.0 in
+    let first = both (is_prefix c.family key.prefix && is_number key.id) _ e in
+    let second = both (is_prefix c.family key.prefix) (is_number key.id) first.0 in
     prefix_short c.family key.prefix second.0
 
 head_small : (b : Bool) → (if b then 5 else 1) ≤ 5
@@ -166,7 +159,7 @@ withdrawn-alone c key e =
     let small = withdrawing_small c.family (routes c.add_path (key ∷ [])) (route_small c key e) in
     let limit = limit_some c.extended in
     some_is (written c (Updates (record { withdrawn = key ∷ []; attrs = None; announced = [] }))) (withdrawal c (key ∷ []))
-    (some_within c (list_all (is_key c) (key ∷ [])) (withdrawal c (key ∷ [])) (both (is_key c key) true e refl) (omega arith))
+    (some_within c (list_all (is_key c) (key ∷ [])) (withdrawal c (key ∷ [])) (and (is_key c key) true e refl) (omega arith))
 
 -- and announced, where its attributes are not too long
 pub announced-alone : (c : Capabilities) (key : Key) (a : Attributes) → is_key c key ≡ true → can_be_spelled c.family a ≡ true → length (attributes_here a) ≤ 2067
@@ -177,4 +170,4 @@ announced-alone c key a e spelled short =
     let limit = limit_some c.extended in
     some_is (written c (Updates (record { withdrawn = []; attrs = Some a; announced = key ∷ [] }))) (announcement c a (key ∷ []))
     (some_within c (list_all (is_key c) (key ∷ []) && can_be_spelled c.family a) (announcement c a (key ∷ []))
-    (both (list_all (is_key c) (key ∷ [])) (can_be_spelled c.family a) (both (is_key c key) true e refl) spelled) (omega arith))
+    (and (list_all (is_key c) (key ∷ [])) (can_be_spelled c.family a) (and (is_key c key) true e refl) spelled) (omega arith))

@@ -31,15 +31,8 @@ use Rattle.ug_outbound.specs.Outbound.{number_of_address, reflected, mapped, map
 use Rattle.ug_outbound.proofs.Bounds.{comes_of}
 use Rattle.ug_deeds.specs.Deeds.{Each}
 use Rattle.ug_message.specs.Spellable.{is_number, is_address, is_aggregator, has_numbers, where_there, can_be_spelled}
+use Rattle.ug_message.proofs.Formed.{both, and}
 use Rattle.ug_speaker.specs.Ranges.{IsRuleInRange, IsMapInRange}
-
-both_so : (a b : Bool) → (a && b) ≡ true → (a ≡ true) × (b ≡ true)
-both_so true b e = (refl, e)
-both_so false b e = absurd cc
-
-both : (a b : Bool) → a ≡ true → b ≡ true → (a && b) ≡ true
-both true b e f = f
-both false b e f = e
 
 -- ---- what can be spelled, but for the next hop
 
@@ -65,15 +58,15 @@ fine_of family a e =
     let c6 = c5 && where_there is_aggregator a.aggregator in
     let c7 = c6 && list_all is_number a.communities in
     let c8 = c7 && where_there (is_address V4) a.originator in
-    let p9 = both_so c8 (list_all is_number a.clusters) e in
-    let p8 = both_so c7 (where_there (is_address V4) a.originator) p9.0 in
-    let p7 = both_so c6 (list_all is_number a.communities) p8.0 in
-    let p6 = both_so c5 (where_there is_aggregator a.aggregator) p7.0 in
-    let p5 = both_so c4 (where_there is_number a.local_pref) p6.0 in
-    let p4 = both_so c3 (where_there is_number a.med) p5.0 in
-    let p3 = both_so c2 (is_address family a.next_hop) p4.0 in
-    let p2 = both_so c1 (list_all has_numbers a.path) p3.0 in
-    let p1 = both_so (list_all is_segment a.path) (nat_le a.origin 2) p2.0 in (
+    let p9 = both c8 (list_all is_number a.clusters) e in
+    let p8 = both c7 (where_there (is_address V4) a.originator) p9.0 in
+    let p7 = both c6 (list_all is_number a.communities) p8.0 in
+    let p6 = both c5 (where_there is_aggregator a.aggregator) p7.0 in
+    let p5 = both c4 (where_there is_number a.local_pref) p6.0 in
+    let p4 = both c3 (where_there is_number a.med) p5.0 in
+    let p3 = both c2 (is_address family a.next_hop) p4.0 in
+    let p2 = both c1 (list_all has_numbers a.path) p3.0 in
+    let p1 = both (list_all is_segment a.path) (nat_le a.origin 2) p2.0 in (
       record { segments = p1.0; origin = p1.1; path = p2.1; med = p4.1; local_pref = p5.1; aggregator = p6.1; communities = p7.1; originator = p8.1; clusters = p9.1 },
       p3.1,
     )
@@ -89,13 +82,13 @@ spelled_of family a f hop =
     let c6 = c5 && where_there is_aggregator a.aggregator in
     let c7 = c6 && list_all is_number a.communities in
     let c8 = c7 && where_there (is_address V4) a.originator in
-    both c8 (list_all is_number a.clusters)
-    (both c7 (where_there (is_address V4) a.originator)
-    (both c6 (list_all is_number a.communities)
-    (both c5 (where_there is_aggregator a.aggregator)
-    (both c4 (where_there is_number a.local_pref)
-    (both c3 (where_there is_number a.med)
-    (both c2 (is_address family a.next_hop) (both c1 (list_all has_numbers a.path) (both (list_all is_segment a.path) (nat_le a.origin 2) f.segments f.origin) f.path) hop) f.med)
+    and c8 (list_all is_number a.clusters)
+    (and c7 (where_there (is_address V4) a.originator)
+    (and c6 (list_all is_number a.communities)
+    (and c5 (where_there is_aggregator a.aggregator)
+    (and c4 (where_there is_number a.local_pref)
+    (and c3 (where_there is_number a.med)
+    (and c2 (is_address family a.next_hop) (and c1 (list_all has_numbers a.path) (and (list_all is_segment a.path) (nat_le a.origin 2) f.segments f.origin) f.path) hop) f.med)
     f.local_pref)
     f.aggregator)
     f.communities)
@@ -105,21 +98,21 @@ spelled_of family a f hop =
 -- ---- paths
 
 prepended_numbers : (n : ℕ) (path : List PathSegment) → is_number n ≡ true → list_all has_numbers path ≡ true → list_all has_numbers (prepended n path) ≡ true
-prepended_numbers n [] e h = both (list_all is_number (n ∷ [])) true (both (is_number n) true e refl) refl
+prepended_numbers n [] e h = and (list_all is_number (n ∷ [])) true (and (is_number n) true e refl) refl
 prepended_numbers n (s ∷ path) e h = by (begins_with_room (s ∷ path))
   where
     parts : (has_numbers s ≡ true) × (list_all has_numbers path ≡ true)
-    parts = both_so (has_numbers s) (list_all has_numbers path) h
+    parts = both (has_numbers s) (list_all has_numbers path) h
 
     by : (b : Bool) → list_all has_numbers (if b then sequence (n ∷ s.numbers) ∷ path else sequence (n ∷ []) ∷ s ∷ path) ≡ true
-    by true = both (list_all is_number (n ∷ s.numbers)) (list_all has_numbers path) (both (is_number n) (list_all is_number s.numbers) e parts.0) parts.1
-    by false = both (list_all is_number (n ∷ [])) (list_all has_numbers (s ∷ path)) (both (is_number n) true e refl) h
+    by true = and (list_all is_number (n ∷ s.numbers)) (list_all has_numbers path) (and (is_number n) (list_all is_number s.numbers) e parts.0) parts.1
+    by false = and (list_all is_number (n ∷ [])) (list_all has_numbers (s ∷ path)) (and (is_number n) true e refl) h
 
 all_prepended_fine : (ns : List ℕ) (path : List PathSegment) → list_all is_number ns ≡ true → list_all is_segment path ≡ true → list_all has_numbers path ≡ true
     → (list_all is_segment (all_prepended ns path) ≡ true) × (list_all has_numbers (all_prepended ns path) ≡ true)
 all_prepended_fine [] path e s h = (s, h)
 all_prepended_fine (n ∷ ns) path e s h =
-    let parts = both_so (is_number n) (list_all is_number ns) e in
+    let parts = both (is_number n) (list_all is_number ns) e in
     let rest = all_prepended_fine ns path parts.1 s h in
     (prepended_kept n (all_prepended ns path) rest.0, prepended_numbers n (all_prepended ns path) parts.0 rest.1)
 
@@ -133,31 +126,31 @@ one_replaced old new n e h = by (n == old)
 replaced_numbers : (old new : ℕ) (ns : List ℕ) → is_number new ≡ true → list_all is_number ns ≡ true → list_all is_number (replaced old new ns) ≡ true
 replaced_numbers old new [] e h = refl
 replaced_numbers old new (n ∷ ns) e h =
-    let parts = both_so (is_number n) (list_all is_number ns) h in
-    both (is_number (in_place_of old new n)) (list_all is_number (replaced old new ns)) (one_replaced old new n e parts.0) (replaced_numbers old new ns e parts.1)
+    let parts = both (is_number n) (list_all is_number ns) h in
+    and (is_number (in_place_of old new n)) (list_all is_number (replaced old new ns)) (one_replaced old new n e parts.0) (replaced_numbers old new ns e parts.1)
 
 overridden_numbers : (old new : ℕ) (path : List PathSegment) → is_number new ≡ true → list_all has_numbers path ≡ true → list_all has_numbers (overridden old new path) ≡ true
 overridden_numbers old new [] e h = refl
 overridden_numbers old new (s ∷ path) e h =
-    let parts = both_so (has_numbers s) (list_all has_numbers path) h in
-    both (list_all is_number (replaced old new s.numbers)) (list_all has_numbers (overridden old new path)) (replaced_numbers old new s.numbers e parts.0) (overridden_numbers old new path e parts.1)
+    let parts = both (has_numbers s) (list_all has_numbers path) h in
+    and (list_all is_number (replaced old new s.numbers)) (list_all has_numbers (overridden old new path)) (replaced_numbers old new s.numbers e parts.0) (overridden_numbers old new path e parts.1)
 
 public_fine : (ns : List ℕ) → list_all is_number ns ≡ true → list_all is_number (public_numbers ns) ≡ true
 public_fine [] h = refl
-public_fine (n ∷ ns) h = by (not (is_private n)) (public_fine ns (both_so (is_number n) (list_all is_number ns) h).1)
+public_fine (n ∷ ns) h = by (not (is_private n)) (public_fine ns (both (is_number n) (list_all is_number ns) h).1)
   where
     by : (b : Bool) → list_all is_number (public_numbers ns) ≡ true → list_all is_number (if b then n ∷ public_numbers ns else public_numbers ns) ≡ true
-    by true rest = both (is_number n) (list_all is_number (public_numbers ns)) (both_so (is_number n) (list_all is_number ns) h).0 rest
+    by true rest = and (is_number n) (list_all is_number (public_numbers ns)) (both (is_number n) (list_all is_number ns) h).0 rest
     by false rest = rest
 
 without_private_numbers : (path : List PathSegment) → list_all has_numbers path ≡ true → list_all has_numbers (without_private path) ≡ true
 without_private_numbers [] h = refl
 without_private_numbers (s ∷ path) h =
-    by (has_some (with_numbers public_numbers s)) (public_fine s.numbers (both_so (has_numbers s) (list_all has_numbers path) h).0) (without_private_numbers path (both_so (has_numbers s) (list_all has_numbers path) h).1)
+    by (has_some (with_numbers public_numbers s)) (public_fine s.numbers (both (has_numbers s) (list_all has_numbers path) h).0) (without_private_numbers path (both (has_numbers s) (list_all has_numbers path) h).1)
   where
     by : (b : Bool) → list_all is_number (public_numbers s.numbers) ≡ true → list_all has_numbers (without_private path) ≡ true
         → list_all has_numbers (if b then with_numbers public_numbers s ∷ without_private path else without_private path) ≡ true
-    by true here rest = both (list_all is_number (public_numbers s.numbers)) (list_all has_numbers (without_private path)) here rest
+    by true here rest = and (list_all is_number (public_numbers s.numbers)) (list_all has_numbers (without_private path)) here rest
     by false here rest = rest
 
 abbrev Fine : List PathSegment → Type 0
@@ -187,8 +180,8 @@ or_there test None u e h = h
 or_there test (Some y) u e h = e
 
 all_more : (ns : List ℕ) (n : ℕ) → list_all is_number ns ≡ true → is_number n ≡ true → list_all is_number (ns ++ n ∷ []) ≡ true
-all_more [] n h e = both (is_number n) true e refl
-all_more (m ∷ ns) n h e = let parts = both_so (is_number m) (list_all is_number ns) h in both (is_number m) (list_all is_number (ns ++ n ∷ [])) parts.0 (all_more ns n parts.1 e)
+all_more [] n h e = and (is_number n) true e refl
+all_more (m ∷ ns) n h e = let parts = both (is_number m) (list_all is_number ns) h in and (is_number m) (list_all is_number (ns ++ n ∷ [])) parts.0 (all_more ns n parts.1 e)
 
 with_one_numbers : (n : ℕ) (there : List ℕ) → is_number n ≡ true → list_all is_number there ≡ true → list_all is_number (with_one n there) ≡ true
 with_one_numbers n there e h = by (holds n there)
@@ -199,7 +192,7 @@ with_one_numbers n there e h = by (holds n there)
 
 added_numbers : (ns there : List ℕ) → list_all is_number ns ≡ true → list_all is_number there ≡ true → list_all is_number (added ns there) ≡ true
 added_numbers [] there e h = h
-added_numbers (n ∷ ns) there e h = let parts = both_so (is_number n) (list_all is_number ns) e in added_numbers ns (with_one n there) parts.1 (with_one_numbers n there parts.0 h)
+added_numbers (n ∷ ns) there e h = let parts = both (is_number n) (list_all is_number ns) e in added_numbers ns (with_one n there) parts.1 (with_one_numbers n there parts.0 h)
 
 sets_fine : (r : MapRule) (a : Attributes) → IsRuleInRange r → IsFine a → IsFine (with_sets r a)
 sets_fine r a in_range f =
@@ -317,7 +310,7 @@ with_router family local router a cluster e o =
         aggregator = f.aggregator;
         communities = f.communities;
         originator = unwrap_there (is_address V4) a.originator router f.originator e;
-        clusters = both (is_number (number_of_address local.cluster_id)) (list_all is_number a.clusters) cluster f.clusters;
+        clusters = and (is_number (number_of_address local.cluster_id)) (list_all is_number a.clusters) cluster f.clusters;
       };
       hop = o.hop;
     }
