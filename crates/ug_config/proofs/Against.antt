@@ -1,6 +1,6 @@
 -- What is known of tables against which there is no fault.
-use Rattle.std.proofs.Common.{◌≡◌, ℕ, ◌+◌, Bool, true, false, ◌&&◌, ◌||◌, List, [], ◌∷◌, ◌++◌, length, map, take, Option, Some, None, refl, ap, sym, ◌∙◌, subst, arith, append_assoc, length-append, nat_lt}
-use Rattle.std.specs.Prelude.{nat_le, not, codes, if◌then◌else◌}
+use Rattle.std.proofs.Common.{◌≡◌, ℕ, ◌+◌, ◌==◌, Bool, true, false, ◌||◌, List, [], ◌∷◌, ◌++◌, length, map, take, Option, Some, None, refl, ap, sym, ◌∙◌, arith, append_assoc, length-append, nat_lt}
+use Rattle.std.specs.Prelude.{nat_le, not, codes}
 use Rattle.std.specs.List.{list_all, list_any}
 use Rattle.std.specs.Option.{option_or}
 use Rattle.std.specs.Cmp.Lexicographic.{nat_list_eq_equiv}
@@ -9,6 +9,7 @@ use Rattle.std.proofs.lemmas.Bool.Decides.{nat_tests}
 use Rattle.std.proofs.Math.Seq.{take-append_seam}
 use Rattle.ug_types.specs.declared.named.Named.{Named}
 use Rattle.ug_prefixlist.specs.Named.{same_name}
+use Rattle.ug_prefixlist.specs.Order.{repeats}
 use Rattle.ug_world.specs.Names.{is_name_among, are_distinct}
 use Rattle.ug_world.specs.Parts.{are_few, names_of}
 use Rattle.ug_fields.specs.Reads.{Refusal, way_into}
@@ -44,30 +45,28 @@ or_false : (a b : Bool) → a ≡ false → b ≡ false → (a || b) ≡ false
 or_false false b e f = f
 or_false true b e f = absurd cc
 
-left_false : (a b : Bool) → (a || b) ≡ false → a ≡ false
+pub left_false : (a b : Bool) → (a || b) ≡ false → a ≡ false
 left_false false b e = refl
 left_false true b e = absurd cc
 
-right_false : (a b : Bool) → (a || b) ≡ false → b ≡ false
+pub right_false : (a b : Bool) → (a || b) ≡ false → b ≡ false
 right_false false b e = e
 right_false true b e = absurd cc
 
-was_false : (b : Bool) → not b ≡ true → b ≡ false
+pub was_false : (b : Bool) → not b ≡ true → b ≡ false
 was_false true h = absurd cc
 was_false false h = refl
 
-among_more : (ns : List (List ℕ)) (x n : List ℕ) → is_name_among ns n ≡ false → same_name x n ≡ false → is_name_among (ns ++ x ∷ []) n ≡ false
-among_more [] x n h e = or_false (same_name x n) false e refl
-among_more (m ∷ ns) x n h e =
-    or_false (same_name m n) (is_name_among (ns ++ x ∷ []) n) (left_false (same_name m n) (is_name_among ns n) h)
-    (among_more ns x n (right_false (same_name m n) (is_name_among ns n) h) e)
+none_more : {A : Type 0} (p : A → Bool) (xs : List A) (x : A) → list_any p xs ≡ false → p x ≡ false → list_any p (xs ++ x ∷ []) ≡ false
+none_more p [] x h e = or_false (p x) false e refl
+none_more p (y ∷ ys) x h e = or_false (p y) (list_any p (ys ++ x ∷ [])) (left_false (p y) (list_any p ys) h) (none_more p ys x (right_false (p y) (list_any p ys) h) e)
 
 distinct_more : (ns : List (List ℕ)) (x : List ℕ) → are_distinct ns ≡ true → is_name_among ns x ≡ false → are_distinct (ns ++ x ∷ []) ≡ true
 distinct_more [] x h e = refl
 distinct_more (n ∷ ns) x h e =
     let apart : same_name x n ≡ false = nat_list_eq_equiv.symm x n ∙ left_false (same_name n x) (is_name_among ns x) e in
     both (not (is_name_among (ns ++ x ∷ []) n)) (are_distinct (ns ++ x ∷ []))
-    (ap not (among_more ns x n (was_false (is_name_among ns n) (first_of (not (is_name_among ns n)) (are_distinct ns) h)) apart))
+    (ap not (none_more (λ (m : List ℕ). same_name m n) ns x (was_false (is_name_among ns n) (first_of (not (is_name_among ns n)) (are_distinct ns) h)) apart))
     (distinct_more ns x (second_of (not (is_name_among ns n)) (are_distinct ns) h) (right_false (same_name n x) (is_name_among ns x) e))
 
 distinct_from : (array : List ℕ) (seen rest : List (List ℕ)) → first_fault (repeated_name array (seen ++ rest)) (length seen) rest ≡ None → are_distinct seen ≡ true → are_distinct (seen ++ rest) ≡ true
@@ -101,3 +100,39 @@ few name xs array differ h =
     let within : nat_lt 64 (length xs) ≡ false = not_refused _ _ _ h in
     let same : length (map name xs) ≡ length xs = length-map xs name in
     both (are_distinct (map name xs)) (nat_le (length (map name xs)) 64) differ (grind (arith, nat_tests))
+
+-- ---- sequence numbers that differ
+
+module _ {E : Type 0} (seq : E → ℕ) where
+  abbrev has_number : ℕ → E → Bool
+  has_number n e = seq e == n
+
+  symmetric : (x y : E) → has_number (seq x) y ≡ has_number (seq y) x
+  symmetric x y = grind (arith, nat_tests)
+
+  repeats_no_more : (es : List E) (x : E) → repeats seq es ≡ false → list_any (has_number (seq x)) es ≡ false → repeats seq (es ++ x ∷ []) ≡ false
+  repeats_no_more [] x h none = refl
+  repeats_no_more (e ∷ es) x h none =
+      let other : has_number (seq e) x ≡ false = symmetric e x ∙ left_false (has_number (seq x) e) (list_any (has_number (seq x)) es) none in
+      or_false (list_any (has_number (seq e)) (es ++ x ∷ [])) (repeats seq (es ++ x ∷ []))
+      (none_more (has_number (seq e)) es x (left_false (list_any (has_number (seq e)) es) (repeats seq es) h) other)
+      (repeats_no_more es x (right_false (list_any (has_number (seq e)) es) (repeats seq es) h) (right_false (has_number (seq x) e) (list_any (has_number (seq x)) es) none))
+
+  unrepeated_from : (array : List ℕ) (seen rest : List E) → first_fault (repeated_sequence seq array (seen ++ rest)) (length seen) rest ≡ None → repeats seq seen ≡ false → repeats seq (seen ++ rest) ≡ false
+  unfolding repeated_sequence
+  unrepeated_from array seen [] h good = rw append-nil good
+  unrepeated_from array seen (e ∷ rest) h good =
+      let here = none_left (repeated_sequence seq array (seen ++ e ∷ rest) (length seen) e) (first_fault (repeated_sequence seq array (seen ++ e ∷ rest)) (length seen + 1) rest) h in
+      let later = none_right (repeated_sequence seq array (seen ++ e ∷ rest) (length seen) e) (first_fault (repeated_sequence seq array (seen ++ e ∷ rest)) (length seen + 1) rest) h in
+      let new : list_any (has_number (seq e)) (take (length seen) (seen ++ e ∷ rest)) ≡ false = not_refused _ _ _ here in
+      let apart : list_any (has_number (seq e)) seen ≡ false = ap (λ (es : List E). list_any (has_number (seq e)) es) (sym (take-append_seam seen (e ∷ rest))) ∙ new in
+      let whole : (seen ++ e ∷ []) ++ rest ≡ seen ++ e ∷ rest = append_assoc seen (e ∷ []) rest in
+      let more : length (seen ++ e ∷ []) ≡ length seen + 1 = length-append seen (e ∷ []) in
+      let next : first_fault (repeated_sequence seq array ((seen ++ e ∷ []) ++ rest)) (length (seen ++ e ∷ [])) rest ≡ None =
+      ap (λ (es : List E). first_fault (repeated_sequence seq array es) (length (seen ++ e ∷ [])) rest) whole ∙ ap (λ (k : ℕ). first_fault (repeated_sequence seq array (seen ++ e ∷ rest)) k rest) more ∙ later in
+      sym (ap (repeats seq) whole) ∙ unrepeated_from array (seen ++ e ∷ []) rest next (repeats_no_more seen e good apart)
+
+  -- the entries of a list or a map have different sequence numbers
+  pub unrepeated : (array : List ℕ) (names : List (List ℕ)) (place : ℕ) (x : Named (List E)) → repeated_in seq array names place x ≡ None → not (repeats seq x.value) ≡ true
+  unfolding repeated_in
+  unrepeated array names place x h = ap not (unrepeated_from (way_into array place ++ codes "entry") [] x.value (none_right _ _ h) refl)

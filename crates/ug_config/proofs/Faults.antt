@@ -1,5 +1,5 @@
 -- The first fault of some.
-use Rattle.std.proofs.Common.{◌≡◌, ℕ, ◌+◌, List, [], ◌∷◌, Option, Some, None, Result, Ok, Err, refl}
+use Rattle.std.proofs.Common.{◌≡◌, ℕ, ◌+◌, List, ◌∷◌, Option, Some, None, refl}
 use Rattle.std.specs.Option.{option_or}
 use Rattle.ug_fields.specs.declared.refusals.ConfigRefusal.{ConfigRefusal}
 use Rattle.ug_fields.specs.declared.refusals.ConfigRefusal.TheVariants as refusals

@@ -1,5 +1,5 @@
 -- What a field that was read is known to be, by its row.
-use Rattle.std.proofs.Common.{◌≡◌, ℕ, Bool, true, false, ◌&&◌, List, [], ◌∷◌, ◌++◌, Option, Some, None, Result, Ok, Err, refl, ap, sym, ◌∙◌, subst, inl, inr, ◌⊎◌}
+use Rattle.std.proofs.Common.{◌≡◌, ℕ, Bool, true, false, ◌&&◌, List, [], ◌∷◌, ◌++◌, Option, Some, None, Ok, refl, ap, sym, ◌∙◌, subst, inl, inr, ◌⊎◌}
 use Rattle.std.specs.Prelude.{nat_le, not, codes, if◌then◌else◌}
 use Rattle.toml.specs.Data.{Data, get, as_str, as_integer, as_bool}
 use Rattle.ug_types.specs.Ip.{IpAddress, IpPrefix, same_family, prefix_of, width_of, cleared}
@@ -16,7 +16,7 @@ use Rattle.ug_fields.specs.declared.kind.Kind.TheVariants as kinds
 use Rattle.ug_fields.specs.declared.given.Given.{Given}
 use Rattle.ug_fields.specs.declared.given.Given.TheVariants as givens
 use Rattle.ug_fields.specs.Rows.{FieldRow}
-use Rattle.ug_fields.specs.Reads.{Reads, ◌>>=◌, each_read, or_refused, missing, malformed}
+use Rattle.ug_fields.specs.Reads.{◌>>=◌, each_read, or_refused, missing, malformed}
 use Rattle.ug_fields.specs.Kinds.{natural, between, number_in, name, peer_name, ipv4_flag, value_as}
 use Rattle.ug_fields.specs.Tables.{Entry, default_of, given, entry}
 use Rattle.ug_fields.specs.Looks.{value_at, as_number, as_octet, as_flag, as_name, as_address, as_prefix}

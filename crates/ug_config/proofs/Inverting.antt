@@ -1,8 +1,8 @@
 -- What is known of the parts where the whole could be read.
-use Rattle.std.proofs.Common.{◌≡◌, ℕ, ◌+◌, Bool, true, false, ◌&&◌, List, [], ◌∷◌, ◌++◌, Option, Some, None, Result, Ok, Err, refl, ap, sym, ◌∙◌, subst}
+use Rattle.std.proofs.Common.{◌≡◌, ℕ, ◌+◌, Bool, true, false, ◌&&◌, List, [], ◌∷◌, Option, Some, None, Ok, Err, refl, ap, subst}
 use Rattle.std.specs.List.{list_all}
 use Rattle.ug_text.specs.Cutting.{◌>>=◌ as ◌>=>◌}
-use Rattle.ug_fields.specs.Reads.{Reads, Refusal, ◌>>=◌, each_table, way_into}
+use Rattle.ug_fields.specs.Reads.{Reads, ◌>>=◌, each_table, way_into}
 
 abbrev pub ok : {A : Type 0} → A → Reads A
 ok x = Ok x

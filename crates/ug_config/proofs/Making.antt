@@ -1,8 +1,7 @@
 -- The parts of a world that sound tables make.
-use Rattle.std.proofs.Common.{◌≡◌, ℕ, Bool, true, ◌&&◌, List, [], ◌∷◌, map, refl, ap, sym, ◌∙◌, subst}
+use Rattle.std.proofs.Common.{◌≡◌, ℕ, Bool, true, ◌&&◌, List, [], ◌∷◌, map, refl, ap, ◌∙◌}
 use Rattle.std.specs.List.{list_all}
 use Rattle.ug_types.specs.declared.named.Named.{Named}
-use Rattle.ug_prefixlist.specs.Order.{ascending}
 use Rattle.ug_prefixlist.specs.Lists.{seq_of}
 use Rattle.ug_prefixlist.specs.Named.{NamedList}
 use Rattle.ug_prefixlist.proofs.Sorting.{ascending_all}

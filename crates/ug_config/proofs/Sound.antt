@@ -1,5 +1,5 @@
 -- What is known of tables that could be read.
-use Rattle.std.proofs.Common.{◌≡◌, ℕ, ◌+◌, Bool, true, false, ◌&&◌, List, [], ◌∷◌, ◌++◌, length, map, Option, Some, None, Result, Ok, Err, refl, ap, sym, ◌∙◌, subst, inl, inr, ◌⊎◌}
+use Rattle.std.proofs.Common.{◌≡◌, ℕ, Bool, true, false, ◌&&◌, List, ◌++◌, Option, Some, None, Ok, refl, ap, ◌∙◌, subst, inl, inr}
 use Rattle.std.specs.Prelude.{nat_le, not, codes, unwrap_or, if◌then◌else◌}
 use Rattle.std.specs.List.{list_all}
 use Rattle.toml.specs.Data.{Data, as_table}
@@ -8,6 +8,8 @@ use Rattle.ug_types.specs.declared.family.Family.{Family}
 use Rattle.ug_types.specs.declared.family.Family.TheVariants.{V4, V6}
 use Rattle.ug_types.specs.declared.named.Named.{Named}
 use Rattle.ug_prefixlist.specs.Named.{same_name}
+use Rattle.ug_prefixlist.specs.declared.entry.ListEntry.{ListEntry}
+use Rattle.ug_prefixlist.specs.Lists.{is_good}
 use Rattle.ug_routemap.specs.Rules.{MapRule}
 use Rattle.ug_routemap.specs.Refusals.{is_origin, sets_origin, is_ahead}
 use Rattle.ug_outbound.specs.declared.settings.Local.{Local}
@@ -22,10 +24,9 @@ use Rattle.ug_fields.specs.Rows.{FieldRow}
 use Rattle.ug_fields.specs.Reads.{Reads, ◌>>=◌, each_read, each_table, or_refused, refused, missing, malformed}
 use Rattle.ug_fields.specs.Kinds.{family_at, tables_at}
 use Rattle.ug_fields.specs.Tables.{Entry, entry, fields, unknown, where_known}
-use Rattle.ug_fields.specs.Looks.{value_at, as_number, as_octet, as_flag, as_name, as_address, as_prefix, name_at}
-use Rattle.ug_config.specs.Rows.{local_rows, named_rows, map_entry_rows, policy_rows, peer_rows}
-use Rattle.ug_config.specs.Readings.{local, local_of, rule, rule_of, where_ahead, named, own_name, with_entries, peer, peer_of}
-use Rattle.ug_config.specs.Worlds.{sets_origins}
+use Rattle.ug_fields.specs.Looks.{value_at, as_number, as_octet, as_flag, as_address}
+use Rattle.ug_config.specs.Rows.{local_rows, named_rows, list_entry_rows, map_entry_rows, peer_rows}
+use Rattle.ug_config.specs.Readings.{local, local_of, list_entry, list_entry_of, where_good, last_bound, rule, rule_of, where_ahead, named, own_name, with_entries, peer, peer_of}
 use Rattle.ug_config.proofs.Inverting.{ok, ok_is, some_is, bound, both, second_of, all_read}
 use Rattle.ug_config.proofs.Fitting.{within, is_no_local, is_of, lies_in, may, fits, FitsRow, row_named, found}
 
@@ -128,6 +129,26 @@ rule_good way d r h =
     one q true h = ok_is q r h
     one q false h = absurd cc
 
+pub rule_ahead : (way : List ℕ) (d : Data) (r : MapRule) → rule way d ≡ ok r → is_ahead r ≡ true
+unfolding rule
+rule_ahead way d r h =
+    let es = bound (fields V4 way map_entry_rows d) (λ es. where_ahead way (rule_of es)) r h in
+    one (rule_of es.0) (is_ahead (rule_of es.0)) refl es.2
+  where
+    one : (q : MapRule) (b : Bool) → is_ahead q ≡ b → (if b then ok q else refused malformed (way ++ codes "on_match")) ≡ ok r → is_ahead r ≡ true
+    one q true e h = subst (λ (x : MapRule). is_ahead x ≡ true) (ok_is q r h) e
+    one q false e h = absurd cc
+
+pub entry_good : (way : List ℕ) (d : Data) (e : ListEntry) → list_entry way d ≡ ok e → is_good e ≡ true
+unfolding list_entry
+entry_good way d e h =
+    let es = bound (fields V4 way list_entry_rows d) (λ es. where_good way (list_entry_of es)) e h in
+    one (list_entry_of es.0) (is_good (list_entry_of es.0)) refl es.2
+  where
+    one : (q : ListEntry) (b : Bool) → is_good q ≡ b → (if b then ok q else refused malformed (way ++ last_bound q.le)) ≡ ok e → is_good e ≡ true
+    one q true same h = subst (λ (x : ListEntry). is_good x ≡ true) (ok_is q e h) same
+    one q false same h = absurd cc
+
 -- what the world asks of a peer, but that its policy is there
 abbrev pub is_peer_right : Peer → Bool
 is_peer_right p =
@@ -156,12 +177,13 @@ peer_good way d p h =
     subst (λ (x : Peer). is_peer_right x ≡ true) (ok_is (peer_of (family_at d) es.0 name.0) p name.2)
     (both _ _ own (both _ _ as_number_of (both _ _ id (both _ _ address (both _ _ local_address (both _ _ subnet orf))))))
 
--- the entries of a map set origins that have a meaning
-pub map_good : (way : List ℕ) (d : Data) (m : Named (List MapRule)) → named rule way d ≡ ok m → sets_origins m ≡ true
+-- what holds of each entry that could be read holds of all entries of a list or a map
+pub entries_good : {E : Type 0} (entry : List ℕ → Data → Reads E) (p : E → Bool) → ((way : List ℕ) (d : Data) (e : E) → entry way d ≡ ok e → p e ≡ true)
+    → (way : List ℕ) (d : Data) (x : Named (List E)) → named entry way d ≡ ok x → list_all p x.value ≡ true
 unfolding named
-map_good way d m h =
-    let es = bound (fields V4 way named_rows d) (λ es. own_name way es >>= λ name. with_entries rule way d name) m h in
-    let name = bound (own_name way es.0) (λ name. with_entries rule way d name) m es.2 in
-    let rules = bound (each_table rule (way ++ codes "entry") 0 (tables_at (codes "entry") d)) (λ rules. Ok (record { name = name.0; value = rules })) m name.2 in
-    subst (λ (x : Named (List MapRule)). sets_origins x ≡ true) (ok_is (record { name = name.0; value = rules.0 }) m rules.2)
-    (all_read rule sets_origin rule_good (way ++ codes "entry") 0 (tables_at (codes "entry") d) rules.0 rules.1)
+entries_good entry p good way d x h =
+    let es = bound (fields V4 way named_rows d) (λ es. own_name way es >>= λ name. with_entries entry way d name) x h in
+    let name = bound (own_name way es.0) (λ name. with_entries entry way d name) x es.2 in
+    let read = bound (each_table entry (way ++ codes "entry") 0 (tables_at (codes "entry") d)) (λ entries. Ok (record { name = name.0; value = entries })) x name.2 in
+    subst (λ (y : Named (List _)). list_all p y.value ≡ true) (ok_is (record { name = name.0; value = read.0 }) x read.2)
+    (all_read entry p good (way ++ codes "entry") 0 (tables_at (codes "entry") d) read.0 read.1)

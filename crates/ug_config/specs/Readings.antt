@@ -1,9 +1,9 @@
 -- What each table of a configuration says.
-use Rattle.std.specs.Prelude.{ℕ, Bool, true, false, List, [], ◌∷◌, ◌++◌, Option, Some, None, Result, Ok, Err, codes, is_some, unwrap_or, if◌then◌else◌}
+use Rattle.std.specs.Prelude.{ℕ, Bool, false, List, [], ◌++◌, Option, Some, None, Ok, codes, unwrap_or, if◌then◌else◌}
 use Rattle.toml.specs.Data.{Data, get}
 use Rattle.ug_types.specs.Ip.{IpAddress, IpPrefix, ipv4}
 use Rattle.ug_types.specs.declared.family.Family.{Family}
-use Rattle.ug_types.specs.declared.family.Family.TheVariants.{V4, V6}
+use Rattle.ug_types.specs.declared.family.Family.TheVariants.{V4}
 use Rattle.ug_types.specs.declared.named.Named.{Named}
 use Rattle.ug_prefixlist.specs.declared.entry.ListEntry.{ListEntry}
 use Rattle.ug_prefixlist.specs.Lists.{is_good}

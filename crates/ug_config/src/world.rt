@@ -6,7 +6,7 @@ ghost use Rattle.ug_prefixlist.specs.Lists.{seq_of};
 ghost use Rattle.ug_routemap.specs.Rules.{rule_of, rule_seq};
 ghost use Rattle.ug_fields.specs.Gives.{Gives};
 ghost use Rattle.ug_config.specs.Checks.{setup};
-ghost use Rattle.ug_config.specs.Worlds.{IsSound, in_order, sets_origins, world_of, config};
+ghost use Rattle.ug_config.specs.Worlds.{IsSound, in_order, is_list, is_map, world_of, config};
 
 use crate::names::names_of;
 use crate::read::read_setup;
@@ -14,8 +14,8 @@ use crate::rule::Rule;
 use crate::setup::Setup;
 use std::alloc::Global;
 use ug_fields::{ConfigRefusal, Items};
-use ug_prefixlist::{ListEntry, ListTable, PrefixList};
-use ug_routemap::{MapEntryList, MapTable, RouteMap};
+use ug_prefixlist::{ListEntry, ListRefusal, ListTable, PrefixList};
+use ug_routemap::{MapEntryList, MapRefusal, MapTable, RouteMap};
 use ug_types::{NameList, Named, NoMemory, Sequence};
 use ug_world::{World, WorldParts};
 
@@ -48,6 +48,7 @@ fn world_of(alloc: Global, setup: Setup) -> Result<World, NoMemory>
 
 /// The prefix lists of entries that may come in any order.
 fn lists_of(alloc: Global, read: Vec<Named<Items<ListEntry>>>) -> Result<ListTable, NoMemory>
+    requires { list_all is_list read.items ≡ true }
     ensures { IfOk result (λ lists. lists.items ≡ map (in_order seq_of) read.items) }
 {
     let mut lists = Vec::with_capacity(alloc, read.len())?;
@@ -58,6 +59,7 @@ fn lists_of(alloc: Global, read: Vec<Named<Items<ListEntry>>>) -> Result<ListTab
 }
 
 fn list_of(read: Named<Items<ListEntry>>) -> Result<Named<PrefixList>, NoMemory>
+    requires { is_list read ≡ true }
     ensures { IfOk result (λ list. list ≡ in_order seq_of read) }
 {
     match PrefixList::new(Sequence::from_vec(read.value.into_vec())) {
@@ -65,7 +67,8 @@ fn list_of(read: Named<Items<ListEntry>>) -> Result<Named<PrefixList>, NoMemory>
             name: read.name,
             value,
         }),
-        Err(_) => Err(NoMemory),
+        Err(ListRefusal::NoMemory) => Err(NoMemory),
+        Err(ListRefusal::Refused { .. }) => unreachable!(),
     }
 }
 
@@ -75,7 +78,7 @@ fn maps_of(
     read: Vec<Named<Items<Rule>>>,
     names: &NameList,
 ) -> Result<MapTable, NoMemory>
-    requires { list_all sets_origins read.items ≡ true }
+    requires { list_all (is_map names.now.items) read.items ≡ true }
     ensures { IfOk result (λ maps. maps.items ≡ map (in_order rule_seq) read.items) }
 {
     let mut maps = Vec::with_capacity(alloc, read.len())?;
@@ -90,7 +93,7 @@ fn map_of(
     read: Named<Items<Rule>>,
     names: &NameList,
 ) -> Result<Named<RouteMap>, NoMemory>
-    requires { sets_origins read ≡ true }
+    requires { is_map names.now.items read ≡ true }
     ensures { IfOk result (λ map. map ≡ in_order rule_seq read) }
 {
     let entries = entries_of(alloc, read.value.into_vec())?;
@@ -99,7 +102,8 @@ fn map_of(
             name: read.name,
             value,
         }),
-        Err(_) => Err(NoMemory),
+        Err(MapRefusal::NoMemory) => Err(NoMemory),
+        Err(MapRefusal::Refused { .. }) => unreachable!(),
     }
 }
 
