@@ -1,0 +1,14 @@
+//! The groups of a configuration's peers: a line for each.
+#![tactic(auto)]
+
+mod grouping;
+mod lines;
+mod member;
+mod members;
+mod stop;
+
+pub use grouping::groups;
+pub use stop::Stop;
+
+#[cfg(test)]
+mod tests;
