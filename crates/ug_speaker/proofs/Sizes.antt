@@ -10,7 +10,6 @@ use Rattle.ug_types.specs.declared.key.Key.{Key}
 use Rattle.ug_types.specs.Ip.{IpAddress, IpPrefix, width_of, same_family, cleared, bytes_for}
 use Rattle.ug_types.specs.Attributes.{Attributes}
 use Rattle.ug_types.specs.Messages.{Updates}
-use Rattle.ug_types.specs.Spelling.{attribute as attribute_here, attributes as attributes_here}
 use Rattle.ug_message.specs.Spelling.{route, routes, attribute, attributes, attributes_but_next_hop, before_next_hop, after_next_hop, mp_reach_nlri, mp_unreach_nlri, ipv6_unicast, sixteen_bytes, optional}
 use Rattle.ug_message.specs.Spellable.{is_number, is_prefix, is_route, is_key, can_be_spelled}
 use Rattle.ug_message.specs.Texts.{framed, field, withdrawing, announcing, withdrawal, announcement, written}
@@ -73,25 +72,14 @@ attribute_small flags type value =
     let small = around_small (length value) (nat_lt 255 (length value)) in
     omega arith
 
--- both spellings of attributes are one
-same_attribute : (flags type : ℕ) (value : List ℕ) → attribute_here flags type value ≡ attribute flags type value
-unfolding attribute_here attribute
-same_attribute flags type value = refl
-
-pub same_attributes : (a : Attributes) → attributes_here a ≡ attributes a
-unfolding attributes_here attributes attribute_here attribute
-same_attributes a = refl
-
 -- the attributes have at most so many bytes, and those but the next hop
-parts_small : (a : Attributes) → length (attributes_here a) ≤ 2067 → (length (attributes a) ≤ 2067) × (length (attributes_but_next_hop a) ≤ 2060)
+parts_small : (a : Attributes) → length (attributes a) ≤ 2067 → (length (attributes a) ≤ 2067) × (length (attributes_but_next_hop a) ≤ 2060)
 parts_small a small =
-    let same = ap (λ (l : List ℕ). length l) (same_attributes a) in
-    let whole : length (attributes a) ≤ 2067 = omega arith in
     let parts = length_attributes a in
     let hop = length_next_hop a in
     let but = ap (λ (l : List ℕ). length l) (but_next_hop_are a) in
     let sum = length-append (before_next_hop a) (after_next_hop a) in
-    (whole, omega arith)
+    (small, omega arith)
 
 -- ---- messages
 
@@ -128,7 +116,7 @@ withdrawing_small V6 r few =
     let un = unreach_small r in
     omega arith
 
-announcing_small : (family : Family) (a : Attributes) (r : List ℕ) → length (attributes_here a) ≤ 2067 → length r ≤ 21 → length (framed 2 (announcing family a r)) ≤ 4096
+announcing_small : (family : Family) (a : Attributes) (r : List ℕ) → length (attributes a) ≤ 2067 → length r ≤ 21 → length (framed 2 (announcing family a r)) ≤ 4096
 announcing_small V4 a r small few =
     let parts = parts_small a small in
     let whole = parts.0 in
@@ -162,7 +150,7 @@ withdrawn-alone c key e =
     (some_within c (list_all (is_key c) (key ∷ [])) (withdrawal c (key ∷ [])) (and (is_key c key) true e refl) (omega arith))
 
 -- and announced, where its attributes are not too long
-pub announced-alone : (c : Capabilities) (key : Key) (a : Attributes) → is_key c key ≡ true → can_be_spelled c.family a ≡ true → length (attributes_here a) ≤ 2067
+pub announced-alone : (c : Capabilities) (key : Key) (a : Attributes) → is_key c key ≡ true → can_be_spelled c.family a ≡ true → length (attributes a) ≤ 2067
     → is_some (written c (Updates (record { withdrawn = []; attrs = Some a; announced = key ∷ [] }))) ≡ true
 unfolding written announcement
 announced-alone c key a e spelled short =

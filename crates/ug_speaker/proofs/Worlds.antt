@@ -12,13 +12,13 @@ use Rattle.ug_types.specs.Keys.{same_prefix, prefix_cmp}
 use Rattle.ug_types.specs.declared.key.Key.{Key}
 use Rattle.ug_types.specs.declared.route.Path.{Path}
 use Rattle.ug_types.specs.declared.route.OutAttrs.{OutAttrs}
-use Rattle.ug_types.specs.Spelling.{attributes as attributes_here}
 use Rattle.ug_deeds.specs.Deeds.{Each}
 use Rattle.ug_rewrite.specs.NextHops.{told_to}
 use Rattle.ug_outbound.specs.Keys.{ends_of}
 use Rattle.ug_outbound.specs.Outbound.{out}
 use Rattle.ug_outbound.specs.Bounds.{SetsFew}
 use Rattle.ug_outbound.proofs.Bounds.{out_bytes}
+use Rattle.ug_message.specs.Spelling.{attributes}
 use Rattle.ug_message.proofs.AttributeParts.{length_attributes, length_next_hop}
 use Rattle.ug_events.specs.Events.{GivenPath, Happening, ComesUp, GoesDown, HasPaths, HasNone, HasPolicy, HasEntries, AsksAgain, SendsRequest, SendsList, IsEvent, AreGiven}
 use Rattle.ug_world.specs.declared.peer_state.PeerState.{PeerState}
@@ -32,7 +32,7 @@ use Rattle.ug_speaker.specs.Right.{IsAmong, FitAlone}
 use Rattle.ug_speaker.specs.Owes.{IsOpening, AreEvents}
 use Rattle.ug_speaker.specs.Ranges.{AreInRange}
 use Rattle.ug_speaker.proofs.Ranged.{in-range-tellable}
-use Rattle.ug_speaker.proofs.Sizes.{same_attributes, withdrawn-alone, announced-alone}
+use Rattle.ug_speaker.proofs.Sizes.{withdrawn-alone, announced-alone}
 
 -- ---- paths within bounds
 
@@ -115,31 +115,29 @@ to_within (r ∷ routes) prefix h = by (same_prefix prefix r.0) (to_within route
     by false rest = rest
 
 -- the next hop takes the same bytes, whatever it is
-same_length : (ends : _) (o : OutAttrs) → length (attributes_here (told_to ends o)) ≡ length (attributes_here o.attrs)
+same_length : (ends : _) (o : OutAttrs) → length (attributes (told_to ends o)) ≡ length (attributes o.attrs)
 same_length ends o =
-    let one = ap (λ (l : List ℕ). length l) (same_attributes (told_to ends o)) in
-    let other = ap (λ (l : List ℕ). length l) (same_attributes o.attrs) in
     let parts = length_attributes (told_to ends o) in
     let others = length_attributes o.attrs in
     let hop = length_next_hop (told_to ends o) in
     let hop' = length_next_hop o.attrs in
     omega arith
 
-route_short : (w : World) (p : ℕ) (s : PeerState) (key : Key) (a : Attributes) → IsBounded w → slice_get w.peers p ≡ Some s → private_table p w key ≡ Some a → length (attributes_here a) ≤ 2067
+route_short : (w : World) (p : ℕ) (s : PeerState) (key : Key) (a : Attributes) → IsBounded w → slice_get w.peers p ≡ Some s → private_table p w key ≡ Some a → length (attributes a) ≤ 2067
 unfolding private_table
 route_short w p s key a bounded is there =
     by_path s.up (path_at s.peer.add_path key.id (paths_to w.routes key.prefix)) refl (sym (ap (λ (o : Option PeerState). table_of_peer w o key) is) ∙ there)
   where
-    by_out : (path : Path) (o : Option OutAttrs) → out (key_in w s) w.tables w.local key.prefix path ≡ o → IsWithin path → option_map (told_to (ends_of s.peer)) o ≡ Some a → length (attributes_here a) ≤ 2067
+    by_out : (path : Path) (o : Option OutAttrs) → out (key_in w s) w.tables w.local key.prefix path ≡ o → IsWithin path → option_map (told_to (ends_of s.peer)) o ≡ Some a → length (attributes a) ≤ 2067
     by_out path (Some o) is' within e =
         let same : told_to (ends_of s.peer) o ≡ a = cc in
         let short = out_bytes (key_in w s) w.tables w.local key.prefix path o is' within (bounded.few (key_in w s).map) in
         let alike = same_length (ends_of s.peer) o in
-        let long = ap (λ (x : Attributes). length (attributes_here x)) same in
+        let long = ap (λ (x : Attributes). length (attributes x)) same in
         omega arith
     by_out path None is' within e = absurd cc
 
-    by_path : (b : Bool) (o : Option Path) → path_at s.peer.add_path key.id (paths_to w.routes key.prefix) ≡ o → (if b then option_and_then (told_of w s key) o else None) ≡ Some a → length (attributes_here a) ≤ 2067
+    by_path : (b : Bool) (o : Option Path) → path_at s.peer.add_path key.id (paths_to w.routes key.prefix) ≡ o → (if b then option_and_then (told_of w s key) o else None) ≡ Some a → length (attributes a) ≤ 2067
     by_path true (Some path) found e =
         by_out path (out (key_in w s) w.tables w.local key.prefix path) refl (at_within s.peer.add_path key.id (paths_to w.routes key.prefix) path (to_within w.routes key.prefix bounded.paths) found) e
     by_path true None found e = absurd cc
