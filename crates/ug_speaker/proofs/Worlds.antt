@@ -77,7 +77,7 @@ bounded_after w (SendsRequest name) is b = record { few = b.few; paths = b.paths
 bounded_after w (SendsList name request) is b = record { few = b.few; paths = b.paths }
 bounded_after w (HasPolicy name policy) is b = record { few = b.few; paths = b.paths }
 bounded_after w (HasEntries name entries) is b = record { few = b.few; paths = b.paths }
-bounded_after w (HasPaths prefix paths) is b = record { few = b.few; paths = inserted w.routes prefix (map (path_of w) paths) b.paths (given_within w paths is.1) }
+bounded_after w (HasPaths prefix paths) is b = record { few = b.few; paths = inserted w.routes prefix (map (path_of w) paths) b.paths (given_within w paths is.1.0) }
 bounded_after w (HasNone prefix) is b = record { few = b.few; paths = removed (same_prefix prefix) w.routes b.paths }
 
 bounded_through : (w x : World) (es : List Happening) → AreEvents es → IsBounded w → IsAmong x (worlds_through w es) → IsBounded x
