@@ -19,9 +19,10 @@ use ug_types::{Capabilities, Family, Next, NoMemory};
 /// (the message); 2 the length is below 19, above the limit (4,096 bytes, or 65,535 where extended messages are in
 /// use), below 23 in an UPDATE, or not 23 in a ROUTE-REFRESH (the length field); 3 the type is neither of these two
 /// (the type); 4 the withdrawn routes and the next length don't fit in the message (the first length field); 5 the
-/// attributes don't (the second one); 6 a prefix has over 32 bits (its length byte); 7 a route is cut short (the
-/// route); 11 to 18 a fault of the attributes, ten more than its number in `AttrFault` (the attribute, and for 17 the
-/// second length field).
+/// attributes don't (the second one); 6 a prefix has over 32 bits, or over
+/// 128 in a session of IPv6 routes (its length byte); 7 a route is cut short (the route); 9, in such a session, routes
+/// stand outside of the attributes (the message); 11 to 19 a fault of the attributes, ten more than its number in
+/// `AttrFault` (the attribute, and for 17 the second length field).
 #[derive(Drop)]
 pub struct Reader {
     alloc: Global,
