@@ -153,5 +153,30 @@ for stream in "$samples"/*.bin; do
     same "rows of $name" rows "$samples/$name.rows"
 done
 
+# ---- what `groups` lists
+
+for name in c2 route-reflector route-server spine; do
+    "$program" groups "$examples/configurations/$name.toml" > listed 2> errors
+    code=$?
+    [ "$code" = 0 ] && [ ! -s errors ] && note "groups of $name" ok || note "groups of $name" "status $code"
+    same "lines of $name" listed "$examples/configurations/$name.groups"
+done
+run groups
+ends "groups of no file" 1 "status 1 usage"
+run groups listed listed
+ends "groups of two files" 1 "status 1 usage"
+printf '[local]\nas = 65001\nrouter_id = "192.0.2.254"\n[[policy]]\nname = "p"\nroute_map = "m9"\n' > refused
+run groups refused
+ends "groups of a configuration that is refused" 2 "status 2 config 6 policy.0.route_map"
+run groups nothing
+ends "groups of a file that isn't there" 3 "status 3 read"
+said=
+"$program" groups "$examples/configurations/c2.toml" > /dev/full 2> errors
+code=$?
+ends "groups with a report that can't be written" 4 ""
+head -c 1048577 /dev/zero | tr '\0' '#' > long
+run groups long
+ends "groups of a configuration that is too long" 7 "status 7 too-long"
+
 echo "$passed passed, $failed failed"
 [ "$failed" = 0 ]

@@ -5,9 +5,10 @@ ghost use Rattle.std.specs.Prelude.{◌≡◌, ◌<◌, ◌↔◌, IfErr, true, 
 ghost use Rattle.std.specs.String.{string_bytes};
 ghost use Rattle.ug_edge.specs.Told.{Rose, IsEnded, file_told, Missing};
 ghost use Rattle.ug_rib.specs.One.{configured_world, up_p1};
-ghost use Rattle.ug_run.specs.Words.{OneCommand, CheckCommand, One, Check, command_of, is_command};
+ghost use Rattle.ug_run.specs.Words.{OneCommand, CheckCommand, GroupsCommand, One, Check, Groups, command_of, is_command};
 ghost use Rattle.ug_run.specs.Statuses.{is_fixed, is_complete, ends_unread, status_text};
 ghost use Rattle.ug_run.specs.Checked.{IsChecked};
+ghost use Rattle.ug_run.specs.Listed.{IsListed};
 ghost use Rattle.ug_run.specs.Promise.{AppendsThenStatus, IsPromised, HasMade, WireTold};
 
 use std::alloc::Global;
@@ -111,6 +112,11 @@ fn run<L: Ledger, R: Threads + Wait + Sync, E: Site, K: Sink>(
     ensures check_missing { (command : CheckCommand) → command_of (map string_bytes words.now) ≡ Some (Check command) →
         file_told (E.files site.old) command.stream ≡ Missing → ends_unread result ≡ true }
     ensures check_unmade { (command : CheckCommand) → command_of (map string_bytes words.now) ≡ Some (Check command) → E.made site.new ≡ E.made site.old }
+    ensures listed { (command : GroupsCommand) → command_of (map string_bytes words.now) ≡ Some (Groups command) →
+        IsListed (file_told (E.files site.old) command.config) result (K.held report.old) (K.held report.new) (Rose (K.faults report.old) (K.faults report.new)) }
+    ensures groups_missing { (command : GroupsCommand) → command_of (map string_bytes words.now) ≡ Some (Groups command) →
+        file_told (E.files site.old) command.config ≡ Missing → ends_unread result ≡ true }
+    ensures groups_unmade { (command : GroupsCommand) → command_of (map string_bytes words.now) ≡ Some (Groups command) → E.made site.new ≡ E.made site.old }
     ensures no_command { is_command (map string_bytes words.now) ≡ false →
         AppendsThenStatus (K.held report.old) (K.held report.new) (Rose (K.faults report.old) (K.faults report.new)) [] (status_text Status.Usage) }
     ensures unmade { is_command (map string_bytes words.now) ≡ false → E.made site.new ≡ E.made site.old }

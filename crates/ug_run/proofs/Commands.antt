@@ -3,7 +3,7 @@ use Rattle.std.proofs.Common.{◌≡◌, ℕ, suc, ◌≤◌, true, false, List,
 use Rattle.std.proofs.lemmas.Bool.{cases_lt}
 use Rattle.std.specs.Option.{option_map}
 use Rattle.ug_event.specs.Bytes.{same_bytes}
-use Rattle.ug_run.specs.Words.{is_option, positional, events_and_dir}
+use Rattle.ug_run.specs.Words.{is_option, positional, events_and_dir, config_alone}
 
 -- The positional words are at most one fewer than the words, and no more.
 abbrev IsNear : ℕ → Option (List (List ℕ)) → Type 0
@@ -37,3 +37,15 @@ not_two n (Some (a ∷ b ∷ c ∷ words)) h two three = refl
 -- too few words, or too many
 pub not_two_words : (words : List (List ℕ)) → (length words ≡ 2 → ⊥) → (length words ≡ 3 → ⊥) → option_and_then events_and_dir (positional words) ≡ None
 not_two_words words two three = not_two (length words) (positional words) (near words) two three
+
+not_one : (n : ℕ) (words : Option (List (List ℕ))) → IsNear n words → (n ≡ 1 → ⊥) → (n ≡ 2 → ⊥) → option_and_then config_alone words ≡ None
+not_one n None h one two = refl
+not_one n (Some []) h one two = refl
+not_one n (Some (a ∷ [])) h one two = elim (cases_lt 1 n) [
+  | inl lt ↦ absurd (two (omega (arith, h.0, h.1)))
+  | inr le ↦ absurd (one (omega (arith, h.0, h.1)))
+]
+not_one n (Some (a ∷ b ∷ words)) h one two = refl
+
+pub not_one_word : (words : List (List ℕ)) → (length words ≡ 1 → ⊥) → (length words ≡ 2 → ⊥) → option_and_then config_alone (positional words) ≡ None
+not_one_word words one two = not_one (length words) (positional words) (near words) one two

@@ -216,6 +216,7 @@ concluded_report status lost accepted refused before mid last held done failed c
 
     by_status : (status : Status) → IsConcluded status lost accepted refused mid last done → AppendsThenStatus last held failed [] (status_text status) → HasReport status opened counted (losses_where lost) before held failed
     by_status statuses.Usage concluded h = absurd concluded
+    by_status (statuses.Config number field) concluded h = absurd concluded
     by_status statuses.ReadFault concluded h = absurd concluded
     by_status statuses.SiteFault concluded h = absurd concluded
     by_status statuses.TooLong concluded h = absurd concluded
@@ -400,6 +401,7 @@ losses_of_one status (Some sessions) faults false messages c sent whole blamed =
 all_read : (status : Status) (lost : Bool) (accepted refused : ℕ) (mid last : Option (List ℕ)) (done : Type 0) → IsConcluded status lost accepted refused mid last done → is_read_fault status ≡ false
 all_read statuses.Ok lost accepted refused mid last done h = refl
 all_read statuses.Usage lost accepted refused mid last done h = refl
+all_read (statuses.Config number field) lost accepted refused mid last done h = refl
 all_read statuses.ReadFault lost accepted refused mid last done h = absurd h
 all_read statuses.ReportFault lost accepted refused mid last done h = refl
 all_read statuses.SiteFault lost accepted refused mid last done h = refl
@@ -411,6 +413,7 @@ all_read (statuses.Malformed cause offset) lost accepted refused mid last done h
 first_lost : (status : Status) (lost : Bool) (accepted refused : ℕ) (mid last : Option (List ℕ)) (done : Type 0) → IsConcluded status lost accepted refused mid last done → IsFirstLoss status configured_world (losses_where lost)
 first_lost statuses.Ok lost accepted refused mid last done h = ap losses_where h.0
 first_lost statuses.Usage lost accepted refused mid last done h = tt
+first_lost (statuses.Config number field) lost accepted refused mid last done h = tt
 first_lost statuses.ReadFault lost accepted refused mid last done h = tt
 first_lost statuses.ReportFault lost accepted refused mid last done h = tt
 first_lost statuses.SiteFault lost accepted refused mid last done h = tt
@@ -423,6 +426,7 @@ first_lost (statuses.Lost peer session) lost accepted refused mid last done h =
 within_limits_of : (status : Status) (lost : Bool) (accepted refused : ℕ) (mid last : Option (List ℕ)) (done : Type 0) (read : List ℕ) → IsConcluded status lost accepted refused mid last done → (IsPastLimits read → ⊥) → IsLimited status read
 within_limits_of statuses.Ok lost accepted refused mid last done read h within = within
 within_limits_of statuses.Usage lost accepted refused mid last done read h within = tt
+within_limits_of (statuses.Config number field) lost accepted refused mid last done read h within = tt
 within_limits_of statuses.ReadFault lost accepted refused mid last done read h within = absurd h
 within_limits_of statuses.ReportFault lost accepted refused mid last done read h within = tt
 within_limits_of statuses.SiteFault lost accepted refused mid last done read h within = tt
@@ -483,6 +487,7 @@ promised_read status files name before left now mid last held sessions faults lo
 abbrev IsEarly : Status → Type 0
 IsEarly statuses.Ok = ⊥
 IsEarly statuses.Usage = ⊥
+IsEarly (statuses.Config number field) = ⊥
 IsEarly statuses.ReadFault = Unit {0}
 IsEarly statuses.ReportFault = ⊥
 IsEarly statuses.SiteFault = Unit {0}
@@ -497,6 +502,7 @@ not_complete_early statuses.SiteFault h e = cc
 not_complete_early statuses.NoMemory h e = cc
 not_complete_early statuses.Ok h e = absurd h
 not_complete_early statuses.Usage h e = absurd h
+not_complete_early (statuses.Config number field) h e = absurd h
 not_complete_early statuses.ReportFault h e = absurd h
 not_complete_early statuses.TooLong h e = absurd h
 not_complete_early (statuses.Lost peer session) h e = absurd h
@@ -508,6 +514,7 @@ unread_early statuses.SiteFault h = refl
 unread_early statuses.NoMemory h = refl
 unread_early statuses.Ok h = absurd h
 unread_early statuses.Usage h = absurd h
+unread_early (statuses.Config number field) h = absurd h
 unread_early statuses.ReportFault h = absurd h
 unread_early statuses.TooLong h = absurd h
 unread_early (statuses.Lost peer session) h = absurd h
@@ -519,6 +526,7 @@ early_report statuses.SiteFault before held failed counted early none h = h
 early_report statuses.NoMemory before held failed counted early none h = rw none ([], [], refl, h)
 early_report statuses.Ok before held failed counted early none h = absurd early
 early_report statuses.Usage before held failed counted early none h = absurd early
+early_report (statuses.Config number field) before held failed counted early none h = absurd early
 early_report statuses.ReportFault before held failed counted early none h = absurd early
 early_report statuses.TooLong before held failed counted early none h = absurd early
 early_report (statuses.Lost peer session) before held failed counted early none h = absurd early
@@ -530,6 +538,7 @@ early_loss statuses.SiteFault early = tt
 early_loss statuses.NoMemory early = tt
 early_loss statuses.Ok early = absurd early
 early_loss statuses.Usage early = absurd early
+early_loss (statuses.Config number field) early = absurd early
 early_loss statuses.ReportFault early = absurd early
 early_loss statuses.TooLong early = absurd early
 early_loss (statuses.Lost peer session) early = absurd early
@@ -553,6 +562,7 @@ early_limits statuses.SiteFault early = tt
 early_limits statuses.NoMemory early = tt
 early_limits statuses.Ok early = absurd early
 early_limits statuses.Usage early = absurd early
+early_limits (statuses.Config number field) early = absurd early
 early_limits statuses.ReportFault early = absurd early
 early_limits statuses.TooLong early = absurd early
 early_limits (statuses.Lost peer session) early = absurd early
@@ -629,6 +639,7 @@ reading_begins held sessions lost origins c a r carry course c-is a-is r-is carr
 pub concluded_for : (F G : Type 0) (status : Status) (lost : Bool) (a r : ℕ) (before held : Option (List ℕ)) → (F → G) → IsConcluded status lost a r before held F → IsConcluded status lost a r before held G
 concluded_for F G statuses.Ok lost a r before held f h = h
 concluded_for F G statuses.Usage lost a r before held f h = h
+concluded_for F G (statuses.Config number field) lost a r before held f h = h
 concluded_for F G statuses.ReadFault lost a r before held f h = h
 concluded_for F G statuses.ReportFault lost a r before held f h = (f h.0, h.1)
 concluded_for F G statuses.SiteFault lost a r before held f h = h

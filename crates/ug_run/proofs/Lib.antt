@@ -9,3 +9,4 @@ mod Commands
 pub mod Opening
 pub mod Ending
 pub mod Checks
+pub mod Listings

@@ -54,5 +54,6 @@ IsChecked command file is_picked left statuses.TooLong before held failed = IsCu
 IsChecked command file is_picked left (statuses.Malformed cause offset) before held failed =
     IsCutShort command file is_picked left (stops.Malformed cause offset) × AppendsThenStatus before held failed [] (status_text (statuses.Malformed cause offset))
 IsChecked command file is_picked left statuses.Usage before held failed = ⊥
+IsChecked command file is_picked left (statuses.Config number field) before held failed = ⊥
 IsChecked command file is_picked left statuses.SiteFault before held failed = ⊥
 IsChecked command file is_picked left (statuses.Lost peer session) before held failed = ⊥

@@ -26,6 +26,7 @@ IsConcluded (statuses.Lost peer session) lost accepted refused before held faile
 IsConcluded statuses.ReportFault lost accepted refused before held failed = failed × AppendsFront before held (lost_text lost ++ counts_text accepted refused)
 IsConcluded statuses.NoMemory lost accepted refused before held failed = held ≡ before
 IsConcluded statuses.Usage lost accepted refused before held failed = ⊥
+IsConcluded (statuses.Config number field) lost accepted refused before held failed = ⊥
 IsConcluded statuses.ReadFault lost accepted refused before held failed = ⊥
 IsConcluded statuses.SiteFault lost accepted refused before held failed = ⊥
 IsConcluded statuses.TooLong lost accepted refused before held failed = ⊥

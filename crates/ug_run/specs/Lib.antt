@@ -11,3 +11,4 @@ pub mod Statuses
 pub mod Promise
 pub mod Ending
 pub mod Checked
+pub mod Listed

@@ -197,6 +197,7 @@ AppendsThenStatus before held failed text line =
 abbrev pub HasReport : Status → World → List Line → List Loss → Option (List ℕ) → Option (List ℕ) → Type 0 → Type 0
 HasReport statuses.Ok w lines lost before held failed = AppendsPiece before held (report_text w lines lost)
 HasReport statuses.Usage w lines lost before held failed = AppendsThenStatus before held failed [] (status_text statuses.Usage)
+HasReport (statuses.Config number field) w lines lost before held failed = AppendsThenStatus before held failed [] (status_text (statuses.Config number field))
 HasReport statuses.ReadFault w lines lost before held failed = AppendsThenStatus before held failed (concat (line_texts 1 w lines)) (status_text statuses.ReadFault)
 HasReport statuses.ReportFault w lines lost before held failed = AppendsFront before held (report_text w lines lost)
 HasReport statuses.SiteFault w lines lost before held failed = AppendsThenStatus before held failed [] (status_text statuses.SiteFault)
@@ -212,6 +213,7 @@ IsFirstLoss statuses.Ok w lost = lost ≡ []
 IsFirstLoss (statuses.Lost peer session) w lost =
     (others : List Loss) × (lost ≡ record { peer = name_of (slice_get w.peers peer); session = session } ∷ others)
 IsFirstLoss statuses.Usage w lost = Unit {0}
+IsFirstLoss (statuses.Config number field) w lost = Unit {0}
 IsFirstLoss statuses.ReadFault w lost = Unit {0}
 IsFirstLoss statuses.ReportFault w lost = Unit {0}
 IsFirstLoss statuses.SiteFault w lost = Unit {0}
@@ -227,6 +229,7 @@ IsLimited (statuses.Lost peer session) read = IsPastLimits read → ⊥
 IsLimited statuses.ReadFault read = IsPastLimits read → ⊥
 IsLimited statuses.TooLong read = IsPastLimits read
 IsLimited statuses.Usage read = Unit {0}
+IsLimited (statuses.Config number field) read = Unit {0}
 IsLimited statuses.ReportFault read = Unit {0}
 IsLimited statuses.SiteFault read = Unit {0}
 IsLimited statuses.NoMemory read = Unit {0}

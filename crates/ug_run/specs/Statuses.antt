@@ -9,6 +9,7 @@ use Rattle.ug_run.specs.declared.status.Status.TheVariants as statuses
 abbrev pub status_number : Status → ℕ
 status_number statuses.Ok = 0
 status_number statuses.Usage = 1
+status_number (statuses.Config number field) = 2
 status_number statuses.ReadFault = 3
 status_number statuses.ReportFault = 4
 status_number statuses.SiteFault = 5
@@ -21,10 +22,15 @@ status_number (statuses.Malformed cause offset) = 9
 unfoldable pub malformed_text : ℕ → ℕ → List ℕ
 malformed_text cause offset = codes "status 9 malformed " ++ (decimal cause ++ (codes " " ++ (decimal offset ++ codes "\n")))
 
+-- `status 2 config NUMBER FIELD`
+unfoldable pub config_text : ℕ → List ℕ → List ℕ
+config_text number field = (codes "status 2 config " ++ (decimal number ++ codes " ")) ++ field ++ codes "\n"
+
 -- The line of a status. At `Ok` and where the report failed there is none.
 unfoldable pub status_text : Status → List ℕ
 status_text statuses.Ok = []
 status_text statuses.Usage = codes "status 1 usage\n"
+status_text (statuses.Config number field) = config_text number field.items
 status_text statuses.ReadFault = codes "status 3 read\n"
 status_text statuses.ReportFault = []
 status_text statuses.SiteFault = codes "status 5 site\n"
@@ -37,6 +43,7 @@ status_text (statuses.Malformed cause offset) = malformed_text cause offset
 abbrev pub is_fixed : Status → Bool
 is_fixed statuses.Ok = true
 is_fixed statuses.Usage = true
+is_fixed (statuses.Config number field) = false
 is_fixed statuses.ReadFault = true
 is_fixed statuses.ReportFault = true
 is_fixed statuses.SiteFault = true
@@ -55,6 +62,7 @@ status_of stops.TooLong = statuses.TooLong
 abbrev pub is_read_fault : Status → Bool
 is_read_fault statuses.Ok = false
 is_read_fault statuses.Usage = false
+is_read_fault (statuses.Config number field) = false
 is_read_fault statuses.ReadFault = true
 is_read_fault statuses.ReportFault = false
 is_read_fault statuses.SiteFault = false
@@ -67,6 +75,7 @@ is_read_fault (statuses.Malformed cause offset) = false
 abbrev pub is_complete : Status → Bool
 is_complete statuses.Ok = true
 is_complete statuses.Usage = false
+is_complete (statuses.Config number field) = false
 is_complete statuses.ReadFault = false
 is_complete statuses.ReportFault = false
 is_complete statuses.SiteFault = false
@@ -79,6 +88,7 @@ is_complete (statuses.Malformed cause offset) = false
 abbrev pub made_wires : Status → Bool
 made_wires statuses.Ok = true
 made_wires statuses.Usage = false
+made_wires (statuses.Config number field) = false
 made_wires statuses.ReadFault = true
 made_wires statuses.ReportFault = true
 made_wires statuses.SiteFault = false
@@ -91,6 +101,7 @@ made_wires (statuses.Malformed cause offset) = false
 abbrev pub ends_unread : Status → Bool
 ends_unread statuses.Ok = false
 ends_unread statuses.Usage = false
+ends_unread (statuses.Config number field) = false
 ends_unread statuses.ReadFault = true
 ends_unread statuses.ReportFault = false
 ends_unread statuses.SiteFault = true

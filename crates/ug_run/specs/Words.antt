@@ -67,8 +67,17 @@ session_said c = record { family = if c.ipv6 then V6 else V4; add_path = c.add_p
 abbrev pub check_command : CheckWords → Option CheckCommand
 check_command c = option_map (λ stream. record { session = session_said c; stream = stream }) c.stream
 
+-- `groups CONFIG`
+pub record GroupsCommand : Type 0 where
+  pub config : List ℕ
+
+abbrev pub config_alone : List (List ℕ) → Option GroupsCommand
+config_alone (config ∷ []) = Some (record { config = config })
+config_alone _ = None
+
 pub data Command : Type 0 where
   One : OneCommand → Command
+  Groups : GroupsCommand → Command
   Check : CheckCommand → Command
 
 abbrev pub one_of : List (List ℕ) → Option OneCommand
@@ -77,12 +86,16 @@ one_of words = option_and_then events_and_dir (positional words)
 abbrev pub check_of : List (List ℕ) → Option CheckCommand
 check_of words = option_and_then check_command (with_words words no_words)
 
+abbrev pub groups_of : List (List ℕ) → Option GroupsCommand
+groups_of words = option_and_then config_alone (positional words)
+
 -- the command that the words are
 abbrev pub command_of : List (List ℕ) → Option Command
 command_of [] = None
 command_of (word ∷ words) =
     if same_bytes word (codes "one") then option_map One (one_of words)
-    else (if same_bytes word (codes "check") then option_map Check (check_of words) else None)
+    else (if same_bytes word (codes "check") then option_map Check (check_of words)
+    else (if same_bytes word (codes "groups") then option_map Groups (groups_of words) else None))
 
 abbrev pub is_command : List (List ℕ) → Bool
 is_command words = is_some (command_of words)

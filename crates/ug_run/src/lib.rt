@@ -4,6 +4,7 @@
 mod announce;
 mod checking;
 mod frame;
+mod grouping;
 mod intake;
 mod reader;
 mod report;

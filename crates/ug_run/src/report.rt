@@ -3,10 +3,10 @@
 ghost use Rattle.std.specs.Prelude.{◌≡◌, IfOk, codes};
 ghost use Rattle.std.specs.String.{string_bytes};
 ghost use Rattle.ug_run.specs.Report.{refusal_name, refusal_text, counts_text};
-ghost use Rattle.ug_run.specs.Statuses.{malformed_text};
+ghost use Rattle.ug_run.specs.Statuses.{malformed_text, config_text};
 
 use std::alloc::Global;
-use ug_types::NoMemory;
+use ug_types::{ByteList, NoMemory, Sequence};
 
 /// The name of a refusal.
 fn refusal_name(number: u8) -> &'static str
@@ -46,4 +46,16 @@ pub fn malformed_text(alloc: Global, cause: u8, offset: u64) -> Result<String, N
     ensures { IfOk result (λ text. string_bytes text ≡ malformed_text cause offset) }
 {
     Ok(format!(in alloc; "status 9 malformed {cause} {offset}\n")?)
+}
+
+/// The status line of a configuration that is refused.
+#[tactic(auto, unfolding(crate::specs::Statuses::config_text))]
+pub fn config_text(alloc: Global, number: u8, field: &[u8]) -> Result<ByteList, NoMemory>
+    ensures { IfOk result (λ text. text.items ≡ config_text number field.now) }
+{
+    let head = format!(in alloc; "status 2 config {number} ")?;
+    let mut text = Vec::from_slice(alloc, head.as_bytes())?;
+    text.extend_from_slice(field)?;
+    text.push(b'\n')?;
+    Ok(Sequence::from_vec(text))
 }

@@ -3,10 +3,11 @@
 ghost use Rattle.std.specs.Prelude.{◌≡◌, ◌+◌, ◌<◌, ◌≤◌, ◌++◌, [], ◌∷◌, List, ℕ, map, length, Some, None, Option, IfOk, IfErr, OnOk, OnErr, IsErrOf, true, false, codes, ◌↔◌};
 ghost use Rattle.std.specs.String.{string_bytes};
 ghost use Rattle.ug_edge.specs.Told.{Rose, HasPicked, IsEnded, IsFresh, AppendsPiece, MakesWire, file_told, Missing};
-ghost use Rattle.ug_run.specs.Words.{OneCommand, CheckCommand, One, Check, command_of, is_command};
+ghost use Rattle.ug_run.specs.Words.{OneCommand, CheckCommand, GroupsCommand, One, Check, Groups, command_of, is_command};
 ghost use Rattle.ug_rib.specs.One.{configured_world, up_p1};
 ghost use Rattle.ug_run.specs.Statuses.{status_text, is_complete, is_fixed, ends_unread};
 ghost use Rattle.ug_run.specs.Checked.{IsChecked};
+ghost use Rattle.ug_run.specs.Listed.{IsListed};
 ghost use Rattle.ug_run.specs.Promise.{AppendsThenStatus, IsPromised, HasMade};
 ghost use Rattle.ug_pieces.specs.Reporting.{AppendsFront};
 ghost use Rattle.ug_run.specs.Ending.{lost_text, IsOutcome, IsConcluded, IsUnbegun, IsUnmade};
@@ -15,6 +16,7 @@ ghost use Rattle.ug_run.specs.OriginMap.{origins_in};
 
 use crate::checking::check;
 use crate::frame::{end, pick};
+use crate::grouping::groups;
 use crate::intake::Intake;
 use crate::reader::Run;
 use crate::report::counts_text;
@@ -63,6 +65,12 @@ pub fn serve<R: Threads + Wait + Sync, E: Site, K: Sink, L: Ledger>(
     ensures check_wires { (command : CheckCommand) → command_of (map string_bytes words.now) ≡ Some (Check command) → result.wires.items ≡ [] }
     ensures check_missing { (command : CheckCommand) → command_of (map string_bytes words.now) ≡ Some (Check command) →
         file_told (E.files site.old) command.stream ≡ Missing → ends_unread result.status ≡ true }
+    ensures listed { (command : GroupsCommand) → command_of (map string_bytes words.now) ≡ Some (Groups command) →
+        IsListed (file_told (E.files site.old) command.config) result.status (K.held report.old) (K.held report.new) (Rose (K.faults report.old) (K.faults report.new)) }
+    ensures groups_wires { (command : GroupsCommand) → command_of (map string_bytes words.now) ≡ Some (Groups command) → result.wires.items ≡ [] }
+    ensures groups_missing { (command : GroupsCommand) → command_of (map string_bytes words.now) ≡ Some (Groups command) →
+        file_told (E.files site.old) command.config ≡ Missing → ends_unread result.status ≡ true }
+    ensures groups_unmade { (command : GroupsCommand) → command_of (map string_bytes words.now) ≡ Some (Groups command) → E.made site.new ≡ E.made site.old }
     // The wires given back are all that were made, in the order of the peers that they are for.
     ensures made { (command : OneCommand) → command_of (map string_bytes words.now) ≡ Some (One command) →
         HasMade (E.made site.old) (E.made site.new) command.dir configured_world (length result.wires.items) }
@@ -91,6 +99,10 @@ pub fn serve<R: Threads + Wait + Sync, E: Site, K: Sink, L: Ledger>(
         Command::One(words) => one(alloc, words.events, words.dir, site, report),
         Command::Check(words) => Done {
             status: check(alloc, &words, site, report),
+            wires: Sequence::new(alloc),
+        },
+        Command::Groups(words) => Done {
+            status: groups(alloc, &words, site, report),
             wires: Sequence::new(alloc),
         },
     }

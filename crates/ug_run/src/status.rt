@@ -4,15 +4,17 @@ ghost use Rattle.std.specs.Prelude.{◌≡◌, true};
 ghost use Rattle.ug_run.specs.Statuses.{status_number, status_text, is_fixed, status_of};
 
 use crate::stop::Stop;
-use ug_types::PeerId;
+use ug_types::{ByteList, PeerId};
 
 /// How a run ended: as it should, or for which cause.
-#[derive(Clone, Copy, Debug, PartialEq, Eq)]
+#[derive(Debug, PartialEq, Eq, Drop)]
 pub enum Status {
     /// All events were read, and no session was lost.
     Ok,
     /// The words are no command.
     Usage,
+    /// The configuration is refused: the number of the refusal, and the way to the field.
+    Config { number: u8, field: ByteList },
     /// The events could not be read.
     ReadFault,
     /// The report could not be written.
@@ -31,12 +33,13 @@ pub enum Status {
 
 impl Status {
     /// The number with which a program exits.
-    pub fn number(self) -> u8
-        ensures { result ≡ status_number self }
+    pub fn number(&self) -> u8
+        ensures { result ≡ status_number self.now }
     {
         match self {
             Status::Ok => 0,
             Status::Usage => 1,
+            Status::Config { .. } => 2,
             Status::ReadFault => 3,
             Status::ReportFault => 4,
             Status::SiteFault => 5,
@@ -49,9 +52,9 @@ impl Status {
 
     /// The status's line of the report, where it is always the same. It takes no memory.
     #[tactic(auto, unfolding(crate::specs::Statuses::status_text))]
-    pub fn text(self) -> &'static [u8]
-        requires { is_fixed self ≡ true }
-        ensures { result.now ≡ status_text self }
+    pub fn text(&self) -> &'static [u8]
+        requires { is_fixed self.now ≡ true }
+        ensures { result.now ≡ status_text self.now }
     {
         match self {
             Status::Ok => b"",
@@ -62,7 +65,7 @@ impl Status {
             Status::NoMemory => b"status 6 memory\n",
             Status::TooLong => b"status 7 too-long\n",
             Status::Lost { .. } => b"status 8 lost p1 1\n",
-            Status::Malformed { .. } => unreachable!(),
+            Status::Config { .. } | Status::Malformed { .. } => unreachable!(),
         }
     }
 }

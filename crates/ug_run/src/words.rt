@@ -4,8 +4,8 @@ ghost use Rattle.std.specs.Prelude.{◌≡◌, [], ◌∷◌, map, option_and_th
 ghost use Rattle.std.specs.String.{string_bytes};
 ghost use Rattle.ug_event.specs.Bytes.{same_bytes};
 ghost use Rattle.std.specs.Option.{option_map};
-ghost use Rattle.ug_run.specs.Words.{is_option, command_of, check_of, events_and_dir, positional, with_word, with_option, with_stream, session_said};
-ghost use Rattle.ug_run.specs.WordViews.{command_seen, one_seen, check_seen, so_far_seen};
+ghost use Rattle.ug_run.specs.Words.{is_option, command_of, check_of, events_and_dir, config_alone, groups_of, positional, with_word, with_option, with_stream, session_said};
+ghost use Rattle.ug_run.specs.WordViews.{command_seen, one_seen, check_seen, groups_seen, so_far_seen};
 
 use ug_types::{Capabilities, Family};
 
@@ -23,11 +23,18 @@ pub struct CheckWords<'a> {
     pub stream: &'a str,
 }
 
+/// `groups CONFIG`: the name of the configuration's file.
+#[derive(Drop)]
+pub struct GroupsWords<'a> {
+    pub config: &'a str,
+}
+
 /// A command.
 #[derive(Drop)]
 pub enum Command<'a> {
     One(OneWords<'a>),
     Check(CheckWords<'a>),
+    Groups(GroupsWords<'a>),
 }
 
 /// The command that the words are, the first of them its name.
@@ -44,6 +51,10 @@ pub fn read_command(words: &[String]) -> Option<Command<'_>>
     if name.as_str() == "check" {
         let check = check_words(rest)?;
         return Some(Command::Check(check));
+    }
+    if name.as_str() == "groups" {
+        let groups = groups_words(rest)?;
+        return Some(Command::Groups(groups));
     }
     None
 }
@@ -190,4 +201,38 @@ fn three<'a>(a: &'a str, b: &'a str, c: &'a str) -> Option<OneWords<'a>>
         return None;
     }
     Some(OneWords { events: a, dir: b })
+}
+
+/// The one positional word, where there is no other and no option. A word `--` ends the options.
+fn groups_words(words: &[String]) -> Option<GroupsWords<'_>>
+    ensures { option_map groups_seen result ≡ groups_of (map string_bytes words.now) }
+{
+    if words.len() == 1 {
+        return alone(words[0].as_str());
+    }
+    if words.len() == 2 {
+        return alone_of_two(words[0].as_str(), words[1].as_str());
+    }
+    None
+}
+
+fn alone<'a>(a: &'a str) -> Option<GroupsWords<'a>>
+    ensures { option_map groups_seen result ≡ option_and_then config_alone (positional (a.now ∷ [])) }
+{
+    if is_option(a) {
+        return None;
+    }
+    Some(GroupsWords { config: a })
+}
+
+fn alone_of_two<'a>(a: &'a str, b: &'a str) -> Option<GroupsWords<'a>>
+    ensures { option_map groups_seen result ≡ option_and_then config_alone (positional (a.now ∷ b.now ∷ [])) }
+{
+    if a == "--" {
+        return Some(GroupsWords { config: b });
+    }
+    if is_option(a) || b != "--" {
+        return None;
+    }
+    Some(GroupsWords { config: a })
 }
