@@ -104,6 +104,15 @@ pub failed-room :
 failed-room cs more before after was short one grew (inl rose) = omega arith
 failed-room cs more before after was short one grew (inr full) = let most = failed-most cs in omega arith
 
+-- a wire whose sessions went well has no faults still, where the call added none
+still-harmless :
+    (cs : List Course) (fate : Fate) (failed' faults faults' : ℕ)
+    → (failed cs ≡ 0 → faults ≡ 0) → (failures fate ≡ 0 → faults' ≡ faults) → failed' ≡ failed cs + failures fate → failed' ≡ 0 → faults' ≡ 0
+still-harmless cs fate failed' faults faults' was unharmed grown none =
+    let no_more : failures fate ≡ 0 = omega arith in
+    let none_before : failed cs ≡ 0 = omega arith in
+    unharmed no_more ∙ was none_before
+
 -- a session begins, and the call went well or not
 pub begun-kept :
     (fate : Fate) (n : ℕ) (cs : List Course) (ds ds' : List (Deed (List ℕ))) (told told' : Option (List (List ℕ)))
@@ -112,10 +121,10 @@ pub begun-kept :
     → sessions_of ds' ≡ sessions_of ds ++ record { number = n; handed = [] } ∷ []
     → losses ds' ≡ losses ds ++ when_noted fate n
     → BeginsSession told told' → begun' ≡ begun + 1 → begun' ≤ 4294967295
-    → failed cs + failures fate ≤ faults'
+    → failed cs + failures fate ≤ faults' → (failures fate ≡ 0 → faults' ≡ faults)
     → KeepsWire (cs ++ begun_course n fate ∷ []) ds' told' begun' faults' (when_whole fate n) (unnoted || is_unnoted fate)
 unfolding begun_course
-begun-kept fate n cs ds ds' told told' begun begun' faults faults' latest unnoted kept sessions lost begins counted short room =
+begun-kept fate n cs ds ds' told told' begun begun' faults faults' latest unnoted kept sessions lost begins counted short room unharmed =
     let c = begun_course n fate in
     let b = kept.begun in
     record {
@@ -125,6 +134,7 @@ begun-kept fate n cs ds ds' told told' begun begun' faults faults' latest unnote
       numbered = short;
       bytes = holds-begun cs n fate told told' kept.bytes begins;
       faults = omega (arith, failed-begun cs c);
+      harmless = still-harmless cs fate (failed (cs ++ begun_course n fate ∷ [])) faults faults' kept.harmless unharmed (failed-begun cs c);
       latest = sym (open-begun cs c);
       unnoted = ap (λ b. b || is_unnoted fate) kept.unnoted ∙ sym (unnoted-begun cs c);
     }
@@ -271,9 +281,9 @@ pub sent-kept :
     → sessions_of ds' ≡ hand_last n x (sessions_of ds)
     → losses ds' ≡ losses ds ++ when_noted fate n
     → Takes fate x piece → SendsPiece told told' piece → begun' ≡ begun
-    → failed cs + failures fate ≤ faults'
+    → failed cs + failures fate ≤ faults' → (failures fate ≡ 0 → faults' ≡ faults)
     → KeepsWire (change_last (handed_course n x (λ _. fate)) cs) ds' told' begun' faults' (when_whole fate n) (unnoted || is_unnoted fate)
-sent-kept fate n x piece cs ds ds' told told' begun begun' faults faults' latest unnoted kept is sessions lost took sends counted room =
+sent-kept fate n x piece cs ds ds' told told' begun begun' faults faults' latest unnoted kept is sessions lost took sends counted room unharmed =
     let at : open_session cs ≡ Some n = sym kept.latest ∙ is in
     let f = handed_course n x (λ _. fate) in
     let b = kept.begun in
@@ -285,6 +295,7 @@ sent-kept fate n x piece cs ds ds' told told' begun begun' faults faults' latest
       numbered = omega arith;
       bytes = holds-closed n x piece fate cs told told' at took kept.bytes sends;
       faults = omega (arith, failed-closed n x fate cs at);
+      harmless = still-harmless cs fate (failed (change_last f cs)) faults faults' kept.harmless unharmed (failed-closed n x fate cs at);
       latest = sym (open-closed n x fate cs at);
       unnoted = ap (λ b. b || is_unnoted fate) kept.unnoted ∙ sym (unnoted-closed n x fate cs at);
     }
@@ -382,9 +393,9 @@ closed-none : (noted : Bool) (n : ℕ) → when_whole (fate_of noted) n ≡ None
 closed-none true n = refl
 closed-none false n = refl
 
-failures-one : (noted : Bool) → failures (fate_of noted) ≡ 1
-failures-one true = refl
-failures-one false = refl
+one-not-none : (noted : Bool) → failures (fate_of noted) ≡ 0 → ⊥
+one-not-none true is = omega arith
+one-not-none false is = omega arith
 
 module _ (cs : List Course) (ds : List (Deed (List ℕ))) (told : Option (List (List ℕ))) (begun faults : ℕ) (latest : Option ℕ) (unnoted : Bool)
     (kept : KeepsWire cs ds told begun faults latest unnoted) where
@@ -405,7 +416,7 @@ module _ (cs : List Course) (ds : List (Deed (List ℕ))) (told : Option (List (
       let was = kept.faults in
       subst (λ u. KeepsWire (cs ++ begun_course n Whole ∷ []) ds' told' begun' faults' (Some n) u) (or-false unnoted)
       (begun-kept Whole n cs ds ds' told told' begun begun' faults faults' latest unnoted kept
-      (begun-sessions n ds ds' grown) (begun-losses n ds ds' grown) begins_it counted short (omega arith))
+      (begun-sessions n ds ds' grown) (begun-losses n ds ds' grown) begins_it counted short (omega arith) (λ _. unharmed))
 
   ill-room : (noted : Bool) (faults' : ℕ) → faults ≤ faults' → Rose faults faults' → failed cs + failures (fate_of noted) ≤ faults'
   ill-room noted faults' grew rose =
@@ -422,7 +433,7 @@ module _ (cs : List Course) (ds : List (Deed (List ℕ))) (told : Option (List (
       (begun-kept (fate_of noted) n cs ds ds' told told' begun begun' faults faults' latest unnoted kept
       (lost-sessions noted n ds1 ds' tells ∙ begun-sessions n ds ds1 grown)
       (lost-losses noted n ds1 ds' tells ∙ ap (λ l. l ++ when_noted (fate_of noted) n) (begun-losses n ds ds1 grown ∙ append-nil (losses ds)))
-      begins_it counted short (ill-room noted faults' grew rose))
+      begins_it counted short (ill-room noted faults' grew rose) (λ none. absurd (one-not-none noted none)))
 
   pub sent-well :
       (n : ℕ) (x : List ℕ) (ds' : List (Deed (List ℕ))) (told' : Option (List (List ℕ))) (begun' faults' : ℕ)
@@ -435,7 +446,7 @@ module _ (cs : List Course) (ds : List (Deed (List ℕ))) (told : Option (List (
       subst (λ o. KeepsWire (change_last (handed_course n x (λ _. Whole)) cs) ds' told' begun' faults' o unnoted) (sym is)
       (subst (λ u. KeepsWire (change_last (handed_course n x (λ _. Whole)) cs) ds' told' begun' faults' (Some n) u) (or-false unnoted)
       (sent-kept Whole n x x cs ds ds' told told' begun begun' faults faults' latest unnoted kept is
-      (handed-sessions n x ds ds' grown) (handed-losses n x ds ds' grown) refl sends counted (omega arith)))
+      (handed-sessions n x ds ds' grown) (handed-losses n x ds ds' grown) refl sends counted (omega arith) (λ _. unharmed)))
 
   front-taken : (noted : Bool) (x : List ℕ) (k : ℕ) → Takes (fate_of noted) x (take k x)
   unfolding Takes
@@ -452,7 +463,7 @@ module _ (cs : List Course) (ds : List (Deed (List ℕ))) (told : Option (List (
       (sent-kept (fate_of noted) n x (take sends.0 x) cs ds ds' told told' begun begun' faults faults' latest unnoted kept is
       (lost-sessions noted n ds1 ds' tells ∙ handed-sessions n x ds ds1 grown)
       (lost-losses noted n ds1 ds' tells ∙ ap (λ l. l ++ when_noted (fate_of noted) n) (handed-losses n x ds ds1 grown ∙ append-nil (losses ds)))
-      (front-taken noted x sends.0) sends.2 counted (ill-room noted faults' grew rose))
+      (front-taken noted x sends.0) sends.2 counted (ill-room noted faults' grew rose) (λ none. absurd (one-not-none noted none)))
 
   pub sent-other :
       (n : ℕ) (x : List ℕ) (ds' : List (Deed (List ℕ)))
@@ -469,6 +480,7 @@ module _ (cs : List Course) (ds : List (Deed (List ℕ))) (told : Option (List (
         numbered = kept.numbered;
         bytes = holds-other n x cs told (λ is. other (kept.latest ∙ is)) kept.bytes;
         faults = omega (arith, failed-still n x cs);
+        harmless = λ none. kept.harmless (sym (failed-still n x cs) ∙ none);
         latest = kept.latest ∙ sym (open-still n x cs);
         unnoted = kept.unnoted ∙ sym (unnoted-still n x cs);
       }
@@ -480,8 +492,8 @@ fresh-holds (Some sessions) fresh = subst (λ s. HoldsAll [] s) (sym fresh) tt
 
 pub fresh-kept :
     (ds : List (Deed (List ℕ))) (told : Option (List (List ℕ))) (begun faults : ℕ)
-    → ds ≡ [] → IsFresh told → begun ≡ 0 → KeepsWire [] ds told begun faults None false
-fresh-kept ds told begun faults none fresh zero_begun =
+    → ds ≡ [] → IsFresh told → begun ≡ 0 → faults ≡ 0 → KeepsWire [] ds told begun faults None false
+fresh-kept ds told begun faults none fresh zero_begun no_faults =
     record {
       sessions = ap sessions_of (sym none);
       noted_losses = ap losses (sym none);
@@ -489,6 +501,7 @@ fresh-kept ds told begun faults none fresh zero_begun =
       numbered = omega arith;
       bytes = fresh-holds told fresh;
       faults = omega arith;
+      harmless = λ _. no_faults;
       latest = refl;
       unnoted = refl;
     }

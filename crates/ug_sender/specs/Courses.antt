@@ -87,7 +87,7 @@ open_session (course ∷ next ∷ courses) = open_session (next ∷ courses)
 
 -- What a wire holds of what its pass was handed: its sessions are those that the pass's entries begin, in order, each
 -- with a front of what was handed out in it, and all of it where no call failed; no more sessions failed than the wire
--- has faults; and exactly the losses of the noted ones are entries of the pass.
+-- has faults, and it has none where no session failed; and exactly the losses of the noted ones are entries of the pass.
 pub record KeepsWire (courses : List Course) (deeds : List (Deed (List ℕ))) (told : Option (List (List ℕ))) (session_count fault_count : ℕ) (current : Option ℕ) (some_unnoted : Bool) : Type 0 where
   pub sessions : map (λ c. c.session) courses ≡ sessions_of deeds
   pub noted_losses : noted courses ≡ losses deeds
@@ -95,5 +95,6 @@ pub record KeepsWire (courses : List Course) (deeds : List (Deed (List ℕ))) (t
   pub numbered : session_count ≤ 4294967295
   pub bytes : Holds courses told
   pub faults : failed courses ≤ fault_count
+  pub harmless : failed courses ≡ 0 → fault_count ≡ 0
   pub latest : current ≡ open_session courses
   pub unnoted : some_unnoted ≡ has_unnoted courses

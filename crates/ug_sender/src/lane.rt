@@ -18,7 +18,7 @@ use std::sync::Wait;
 use ug_board::{Board, LaneSaid, Machine};
 use ug_edge::Wire;
 use ug_turnstile::{Pass, Turnstile};
-use ug_types::PeerId;
+use ug_types::{NoMemory, PeerId};
 
 /// The bytes of the buffer: as many as the longest message has.
 const BUFFER_SIZE: usize = 65535;
@@ -34,6 +34,22 @@ pub struct Lane<W: Wire, M: Machine> {
     latest: Option<u32>,
     unnoted: bool,
     buf: Vec<u8>,
+}
+
+/// The memory that a lane works in: room for the longest message.
+#[derive(Drop)]
+pub struct Buffer {
+    bytes: Vec<u8>,
+    ghost size: { vec_len bytes ≡ 65535 },
+}
+
+impl Buffer {
+    /// The memory of one lane.
+    pub fn new(alloc: Global) -> Result<Buffer, NoMemory> {
+        Ok(Buffer {
+            bytes: room_of(alloc, BUFFER_SIZE)?,
+        })
+    }
 }
 
 /// A wire and a pass that are given back.
@@ -67,20 +83,34 @@ impl<W: Wire, M: Machine> Lane<W, M> {
         requires none { mine (λ entry. entry.pass) pass ≡ [] }
         requires sessions { IsFresh (W.sessions wire) }
         requires begun { W.begun wire ≡ 0 }
+        requires faults { W.faults wire ≡ 0 }
         ensures ok { IfOk result (λ lane. lane ≡ fresh_lane wire pass peer) }
         ensures returned { IfErr result (λ back. (back.wire ≡ wire) × (back.pass ≡ pass)) }
     {
-        let Ok(buf) = buffer(alloc, BUFFER_SIZE) else {
+        let Ok(buffer) = Buffer::new(alloc) else {
             return Err(Returned { wire, pass });
         };
-        Ok(Lane {
+        Ok(Lane::over(buffer, wire, pass, peer))
+    }
+
+    /// The same with memory that is there already.
+    pub fn over(buffer: Buffer, wire: W, pass: Pass<Board<M>>, peer: PeerId) -> Lane<W, M>
+        requires free { pass.holds ≡ false }
+        requires none { mine (λ entry. entry.pass) pass ≡ [] }
+        requires sessions { IsFresh (W.sessions wire) }
+        requires begun { W.begun wire ≡ 0 }
+        requires faults { W.faults wire ≡ 0 }
+        ensures { result ≡ fresh_lane wire pass peer }
+    {
+        let Buffer { bytes } = buffer;
+        Lane {
             wire,
             pass,
             peer,
             latest: None,
             unnoted: false,
-            buf,
-        })
+            buf: bytes,
+        }
     }
 
     /// Asks what is next, and does it on the wire. Where a call of the wire fails the loss of the session is asked of
@@ -193,7 +223,7 @@ impl<W: Wire, M: Machine> Lane<W, M> {
 }
 
 /// A buffer of that many bytes.
-fn buffer(alloc: Global, size: usize) -> Result<Vec<u8>, AllocError>
+fn room_of(alloc: Global, size: usize) -> Result<Vec<u8>, AllocError>
     ensures { IfOk result (λ buf. vec_len buf ≡ size) }
 {
     Ok(vec![in alloc; 0u8; size]?)

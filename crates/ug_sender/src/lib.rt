@@ -8,5 +8,5 @@ mod sending;
 #[cfg(test)]
 mod tests;
 
-pub use lane::{Lane, Returned};
+pub use lane::{Buffer, Lane, Returned};
 pub use pumped::Pumped;

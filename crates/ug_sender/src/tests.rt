@@ -151,6 +151,7 @@ fn lane_over<W: Wire, L: Ledger, R: Wait + Abort>(
     requires some { 0 < blank.parts }
     requires sessions { IsFresh (W.sessions wire) }
     requires begun { W.begun wire ≡ 0 }
+    requires faults { W.faults wire ≡ 0 }
 {
     let Ok(board) = Board::new(alloc, Counter::new(0)) else {
         panic!(rt; "no memory");
@@ -243,6 +244,7 @@ fn lane_beside<L: Ledger, R: Threads + Wait + Abort + Sync>(
     requires parts { blank.parts ≡ L.parts }
     requires some { 0 < blank.parts }
     requires fresh { wire.sessions ≡ [] }
+    requires faults { wire.faults ≡ 0 }
 {
     let Ok(board) = Board::new(alloc, Counter::new(0)) else {
         panic!(rt; "no memory");

@@ -3,3 +3,5 @@ pub mod Told
 pub mod Right
 pub mod Ranges
 pub mod Owes
+pub mod Story
+pub mod StoryLaws

@@ -1,10 +1,12 @@
 //! A machine that speaks to peers.
 
-ghost use Rattle.std.specs.Prelude.{◌≡◌, true, false, IfOk, IfSome, IfNone};
+ghost use Rattle.std.specs.Prelude.{◌≡◌, true, false, IfOk, IfErr, IfSome, IfNone};
+ghost use Rattle.ug_events.specs.Events.{IsEvent};
 ghost use Rattle.ug_events.specs.Views.{event_of};
-ghost use Rattle.ug_speaker.specs.Owes.{IsSpeaker};
+ghost use Rattle.ug_speaker.specs.Owes.{IsOpening, IsSpeaker};
 ghost use Rattle.ug_speaker.specs.Speech.{Speech, TakesEvent, MarksTold, Ends, Prepares};
 
+use std::alloc::Global;
 use ug_board::Machine;
 use ug_events::Event;
 use ug_types::{Mark, NoMemory};
@@ -15,8 +17,17 @@ use ug_world::World;
 pub trait Speaker: Machine {
     ghost speech: { Speech Self.Opening Self.State Self.Job Self.Said };
 
-    /// The job that takes an event, which the job holds.
-    fn event_job(event: Event) -> Result<Self::Job, NoMemory>
+    /// A machine that begins with this world. Want of memory hands the world back.
+    fn begin_with(alloc: Global, world: World) -> Result<Self, World>
+        requires opening { IsOpening world }
+        ensures first { IfOk result (λ machine. speech.first (Self.opening machine) ≡ world) }
+        ensures state { IfOk result (λ machine. Self.state machine ≡ Self.rules.start (Self.opening machine)) }
+        ensures jobs { IfOk result (λ machine. Self.jobs machine ≡ 0) }
+        ensures returned { IfErr result (λ back. back ≡ world) };
+
+    /// The job that takes an event, which the job holds behind a pointer.
+    fn event_job(alloc: Global, event: Event) -> Result<Self::Job, NoMemory>
+        requires form { IsEvent (event_of event) }
         ensures { IfOk result (λ job. speech.purpose job ≡ TakesEvent (event_of event)) };
 
     /// The job that marks how much each live peer was told.

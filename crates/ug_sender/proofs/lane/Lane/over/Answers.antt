@@ -1,7 +1,7 @@
 use Rattle.std.proofs.Common.{[]}
 use Rattle.ug_sender.proofs.Turns.{none-own, deeds-none}
 use Rattle.ug_sender.proofs.Wires.{fresh-kept}
-use Rattle.ug_sender.proofs.lane.Lane.new.Goals as goal
+use Rattle.ug_sender.proofs.lane.Lane.over.Goals as goal
 
 pub invariant_of-result : goal.invariant_of-result
 invariant_of-result g c =
@@ -10,7 +10,7 @@ invariant_of-result g c =
         free = c.requires.free;
         own = none-own g.M.Machine.rules c.args.peer pass.number pass.seen c.requires.none;
         courses = [];
-        kept = fresh-kept _ _ _ _ (deeds-none g.M.Machine.rules pass.root pass.number pass.seen c.requires.none) c.requires.sessions c.requires.begun;
+        kept = fresh-kept _ _ _ _ (deeds-none g.M.Machine.rules pass.root pass.number pass.seen c.requires.none) c.requires.sessions c.requires.begun c.requires.faults;
       },
-      c.in-Ok.ensures,
+      c.args.buffer.size,
     )

@@ -1,0 +1,4 @@
+pub mod Marks
+pub mod Contents
+pub mod Kept
+pub mod Crew

@@ -1,0 +1,11 @@
+//! The report of a run: what it says of each line of events, of marks, and of sessions that were lost.
+#![tactic(auto)]
+
+mod endings;
+mod lines;
+
+pub use endings::{Loss, write_counts, write_lost_status, write_losses};
+pub use lines::{write_marks, write_refusal};
+
+#[cfg(test)]
+mod tests;

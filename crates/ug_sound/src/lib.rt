@@ -1,0 +1,12 @@
+//! What is known of the values that a speaker reads: what lines say is in range, and a run may begin in each world that
+//! a configuration stands for.
+#![tactic(auto)]
+
+mod laws;
+mod one;
+
+pub use laws::{configurations_open, lines_are_sound, one_opens};
+pub use one::one_world;
+
+#[cfg(test)]
+mod tests;

@@ -1,0 +1,11 @@
+//! The words of the command line: which are a command, and which one.
+#![tactic(auto)]
+
+mod command;
+mod so_far;
+mod verb;
+
+pub use command::{CheckWords, Command, GroupsWords, OneWords, RunWords, read_command};
+
+#[cfg(test)]
+mod tests;
