@@ -57,7 +57,7 @@ impl<W: Wire, M: Machine> Crew<W, M> {
     }
 
     /// A crew of these workers, with room for their lanes.
-    pub(crate) fn of(workers: Vec<Worker<W, M>>, room: Vec<Lane<W, M>>) -> Crew<W, M>
+    pub fn of(workers: Vec<Worker<W, M>>, room: Vec<Lane<W, M>>) -> Crew<W, M>
         requires none { room.items ≡ [] }
         requires room { vec_len workers ≤ vec_capacity room }
         ensures { result ≡ workers.items }
@@ -66,7 +66,7 @@ impl<W: Wire, M: Machine> Crew<W, M> {
     }
 
     /// The workers, and room for their lanes.
-    pub(crate) fn into_parts(self) -> (Vec<Worker<W, M>>, Vec<Lane<W, M>>)
+    pub fn into_parts(self) -> (Vec<Worker<W, M>>, Vec<Lane<W, M>>)
         ensures workers { result.0.items ≡ self }
         ensures none { result.1.items ≡ [] }
         ensures room { vec_len result.0 ≤ vec_capacity result.1 }
@@ -98,7 +98,7 @@ impl<W: Wire, M: Machine> Crew<W, M> {
     }
 
     /// Pumps each lane that works here, in order, until there is nothing more to send.
-    pub(crate) fn pump_to_end<R: Wait>(&mut self, rt: &R, turnstile: &Turnstile<Board<M>>)
+    pub fn pump_to_end<R: Wait>(&mut self, rt: &R, turnstile: &Turnstile<Board<M>>)
         requires here { AreHere turnstile.now.id self.old }
         ensures posts { self.new ≡ self.old }
     {

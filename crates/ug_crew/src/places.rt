@@ -10,7 +10,7 @@ use ug_edge::Wire;
 
 /// Takes out the worker at a place. There is then room for it.
 #[tactic(auto, using(crate::proofs::Seats::here_at))]
-pub(crate) fn take_out<W: Wire, M: Machine>(
+pub fn take_out<W: Wire, M: Machine>(
     workers: &mut Vec<Worker<W, M>>,
     place: usize,
 ) -> Worker<W, M>
@@ -26,7 +26,7 @@ pub(crate) fn take_out<W: Wire, M: Machine>(
 
 /// Puts a worker of the post that was taken out into its place, for which there is room. The posts are then as before.
 #[tactic(auto, using(crate::proofs::Seats::put_back))]
-pub(crate) fn put_in<W: Wire, M: Machine>(
+pub fn put_in<W: Wire, M: Machine>(
     workers: &mut Vec<Worker<W, M>>,
     place: usize,
     worker: Worker<W, M>,

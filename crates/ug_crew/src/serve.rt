@@ -51,7 +51,7 @@ pub(crate) fn pump_to_end<R: Wait, W: Wire, M: Machine>(
 
 /// The work of a thread: its lane, until there is nothing more to send. A lane whose thread was refused is handed back at
 /// once: `refused` is then its place.
-pub(crate) fn labour<R: Wait, W: Wire, M: Machine>(
+pub fn labour<R: Wait, W: Wire, M: Machine>(
     rt: &R,
     turnstile: &Turnstile<Board<M>>,
     lane: Lane<W, M>,

@@ -3,7 +3,7 @@ ghost use Rattle.ug_edge.specs.Told.{IsFresh};
 ghost use Rattle.ug_turnstile.specs.Passes.{Adds, IsSamePass, mine};
 ghost use Rattle.ug_crew.specs.Posts.{AreHere, posts};
 
-use crate::{Attendant, Crew, work_beside};
+use crate::Crew;
 use std::alloc::Global;
 use std::marker::Brand;
 use std::process::Abort;
@@ -13,7 +13,7 @@ use std::test::Fail;
 use std::thread::Threads;
 use ug_board::{Board, Machine};
 use ug_counter::{Amount, Counter, CounterJob};
-use ug_edge::{GatedSite, GatedWire, RoomWire, Site, Wire};
+use ug_edge::{RoomWire, Wire};
 use ug_sender::Lane;
 use ug_turnstile::{Pass, Turnstile};
 use ug_types::{PeerId, Sequence, Steps};
@@ -120,42 +120,6 @@ impl Adder {
     }
 }
 
-impl<L: Ledger> Attendant<RoomWire, Counter, Steps<L>, u32, bool> for Adder {
-    ghost may_attend = { λ gate adder steps done is_pumped. (adder.builder.turnstile ≡ gate.id) × (adder.builder.holds ≡ false) };
-
-    ghost has_attended = { λ adder steps done is_pumped adder' steps' done' is_pumped'. IsSamePass adder.builder adder'.builder };
-
-    fn attend<R: Threads + Wait + Sync>(
-        &mut self,
-        rt: &R,
-        turnstile: &Turnstile<Board<Counter>>,
-        crew: &mut Crew<RoomWire, Counter>,
-        steps: &mut Steps<L>,
-        done: &mut u32,
-        is_pumped: &mut bool,
-    ) {
-        self.adds_all(rt, turnstile, crew, steps, done, is_pumped);
-    }
-}
-
-impl<L: Ledger> Attendant<GatedWire, Counter, Steps<L>, u32, bool> for Adder {
-    ghost may_attend = { λ gate adder steps done is_pumped. (adder.builder.turnstile ≡ gate.id) × (adder.builder.holds ≡ false) };
-
-    ghost has_attended = { λ adder steps done is_pumped adder' steps' done' is_pumped'. IsSamePass adder.builder adder'.builder };
-
-    fn attend<R: Threads + Wait + Sync>(
-        &mut self,
-        rt: &R,
-        turnstile: &Turnstile<Board<Counter>>,
-        crew: &mut Crew<GatedWire, Counter>,
-        steps: &mut Steps<L>,
-        done: &mut u32,
-        is_pumped: &mut bool,
-    ) {
-        self.adds_all(rt, turnstile, crew, steps, done, is_pumped);
-    }
-}
-
 /// One more lane.
 fn joins<W: Wire, R: Abort>(
     rt: &R,
@@ -180,17 +144,15 @@ fn joins<W: Wire, R: Abort>(
     }
 }
 
-/// The lanes after the work beside a builder that adds packets and closes, and whether each of its jobs was done and it
-/// pumped something here.
-fn rooms_beside_adder<L: Ledger, R: Threads + Wait + Abort + Sync>(
+/// The lanes after a builder has added its packets and closed, pumping them as it goes.
+fn pumped_by_adder<L: Ledger, R: Threads + Wait + Abort>(
     rt: &R,
     alloc: Global,
     turnstile: &Turnstile<Board<Counter>>,
     lanes: Sequence<Lane<RoomWire, Counter>>,
     builder: Pass<Board<Counter>>,
-    apart: bool,
     blank: Blank,
-) -> (Sequence<Lane<RoomWire, Counter>>, bool)
+) -> Sequence<Lane<RoomWire, Counter>>
     requires name { blank.name ≡ L.name }
     requires parts { blank.parts ≡ L.parts }
     requires some { 0 < blank.parts }
@@ -198,72 +160,34 @@ fn rooms_beside_adder<L: Ledger, R: Threads + Wait + Abort + Sync>(
     requires builder { builder.turnstile ≡ turnstile.now.id }
     requires free { builder.holds ≡ false }
 {
-    let Ok(crew) = Crew::new(alloc, lanes) else {
+    let Ok(mut crew) = Crew::new(alloc, lanes) else {
         panic!(rt; "no memory");
     };
+    assert!(rt; crew.len() == 3);
     let mut adder = Adder { alloc, builder };
     let mut steps = Steps::<L>::new(blank);
     let mut done = 0u32;
     let mut is_pumped = false;
-    let lanes = work_beside(
+    adder.adds_all(
         rt,
         turnstile,
-        crew,
-        apart,
-        &mut adder,
+        &mut crew,
         &mut steps,
         &mut done,
         &mut is_pumped,
     );
+    assert!(rt; is_pumped);
     assert_eq!(rt; done, PACKETS + 3);
-    (lanes, is_pumped)
+    crew.pump_to_end(rt, turnstile);
+    crew.join(rt)
 }
 
-/// The same of lanes whose wires wait for each other.
-fn gates_beside_adder<L: Ledger, R: Threads + Wait + Abort + Sync>(
+/// A turnstile round a counter of no packets, lanes to its three peers, and the work of a builder.
+fn work_of_three<L: Ledger, R: Threads + Wait + Abort>(
     rt: &R,
     alloc: Global,
-    turnstile: &Turnstile<Board<Counter>>,
-    lanes: Sequence<Lane<GatedWire, Counter>>,
-    builder: Pass<Board<Counter>>,
-    apart: bool,
     blank: Blank,
-) -> (Sequence<Lane<GatedWire, Counter>>, bool)
-    requires name { blank.name ≡ L.name }
-    requires parts { blank.parts ≡ L.parts }
-    requires some { 0 < blank.parts }
-    requires here { AreHere turnstile.now.id (posts lanes.items) }
-    requires builder { builder.turnstile ≡ turnstile.now.id }
-    requires free { builder.holds ≡ false }
-{
-    let Ok(crew) = Crew::new(alloc, lanes) else {
-        panic!(rt; "no memory");
-    };
-    let mut adder = Adder { alloc, builder };
-    let mut steps = Steps::<L>::new(blank);
-    let mut done = 0u32;
-    let mut is_pumped = false;
-    let lanes = work_beside(
-        rt,
-        turnstile,
-        crew,
-        apart,
-        &mut adder,
-        &mut steps,
-        &mut done,
-        &mut is_pumped,
-    );
-    assert_eq!(rt; done, PACKETS + 3);
-    (lanes, is_pumped)
-}
-
-/// A turnstile round a counter of no packets, lanes to its first peers over these wires, and the work of a builder.
-fn work_of_three<L: Ledger, R: Threads + Wait + Abort + Sync>(
-    rt: &R,
-    alloc: Global,
-    apart: bool,
-    blank: Blank,
-) -> (Sequence<Lane<RoomWire, Counter>>, bool)
+) -> Sequence<Lane<RoomWire, Counter>>
     requires name { blank.name ≡ L.name }
     requires parts { blank.parts ≡ L.parts }
     requires some { 0 < blank.parts }
@@ -279,45 +203,18 @@ fn work_of_three<L: Ledger, R: Threads + Wait + Abort + Sync>(
     joins(rt, alloc, &mut lanes, room(rt, alloc), passes.remove(2), 1);
     joins(rt, alloc, &mut lanes, room(rt, alloc), passes.remove(1), 2);
     let builder = passes.remove(0);
-    rooms_beside_adder::<L, R>(rt, alloc, &turnstile, lanes, builder, apart, blank)
+    pumped_by_adder::<L, R>(rt, alloc, &turnstile, lanes, builder, blank)
 }
 
 /// A wire with room for one session of all packets.
 fn room(rt: &impl Abort, alloc: Global) -> RoomWire
-    ensures { result.sessions ≡ [] }
+    ensures sessions { result.sessions ≡ [] }
+    ensures faults { result.faults ≡ 0 }
 {
     let Ok(wire) = RoomWire::new(alloc, 1, 2000) else {
         panic!(rt; "no memory");
     };
     wire
-}
-
-/// The same of two lanes whose wires wait for each other.
-fn work_of_two<L: Ledger, R: Threads + Wait + Abort + Sync>(
-    rt: &R,
-    alloc: Global,
-    apart: bool,
-    first: GatedWire,
-    second: GatedWire,
-    blank: Blank,
-) -> Sequence<Lane<GatedWire, Counter>>
-    requires name { blank.name ≡ L.name }
-    requires parts { blank.parts ≡ L.parts }
-    requires some { 0 < blank.parts }
-    requires first { first.wire.sessions ≡ [] }
-    requires second { second.wire.sessions ≡ [] }
-{
-    let Ok(board) = Board::new(alloc, Counter::new(0)) else {
-        panic!(rt; "no memory");
-    };
-    let Ok((turnstile, mut passes)) = Turnstile::new(alloc, board, 3) else {
-        panic!(rt; "no memory");
-    };
-    let mut lanes = Sequence::new(alloc);
-    joins(rt, alloc, &mut lanes, first, passes.remove(2), 0);
-    joins(rt, alloc, &mut lanes, second, passes.remove(1), 1);
-    let builder = passes.remove(0);
-    gates_beside_adder::<L, R>(rt, alloc, &turnstile, lanes, builder, apart, blank).0
 }
 
 /// The bytes of each session to the three peers, in order: to the first two all packets, and none to the third.
@@ -338,63 +235,8 @@ fn has_sent_all(rt: &impl Abort, mut lanes: Sequence<Lane<RoomWire, Counter>>) {
     assert!(rt; lanes.is_empty());
 }
 
-/// How many bytes the sessions of the two lanes have, in order.
-fn bytes_of_two(rt: &impl Abort, mut lanes: Sequence<Lane<GatedWire, Counter>>) -> (usize, usize) {
-    let first = bytes_of_next(rt, &mut lanes);
-    let second = bytes_of_next(rt, &mut lanes);
-    (first, second)
-}
-
-fn bytes_of_next(rt: &impl Abort, lanes: &mut Sequence<Lane<GatedWire, Counter>>) -> usize {
-    if lanes.is_empty() {
-        panic!(rt; "a lane is lost");
-    }
-    let (wire, _pass) = lanes.remove(0).into_parts();
-    assert!(rt; wire.sessions() == 1);
-    wire.session(1).len()
-}
-
-/// Two wires that wait for each other.
-fn gated(rt: &impl Abort, alloc: Global) -> (GatedWire, GatedWire)
-    ensures first { result.0.wire.sessions ≡ [] }
-    ensures second { result.1.wire.sessions ≡ [] }
-{
-    let Ok(mut site) = GatedSite::new(alloc, Sequence::new(alloc)) else {
-        panic!(rt; "no memory");
-    };
-    let Ok(first) = site.wire("dir", "p") else {
-        panic!(rt; "no wire");
-    };
-    let Ok(second) = site.wire("dir", "q") else {
-        panic!(rt; "no wire");
-    };
-    (first, second)
-}
-
-#[test]
-fn lanes_work_in_threads_of_their_own(rt: HostRuntime) {
-    let (lanes, is_pumped) = work_of_three::<Brand, _>(&rt, rt.alloc(), true, Blank::new(1));
-    has_sent_all(&rt, lanes);
-    assert!(rt; !is_pumped, "none of them works here");
-}
-
 #[test]
 fn lanes_work_here(rt: HostRuntime) {
-    let (lanes, is_pumped) = work_of_three::<Brand, _>(&rt, rt.alloc(), false, Blank::new(1));
+    let lanes = work_of_three::<Brand, _>(&rt, rt.alloc(), Blank::new(1));
     has_sent_all(&rt, lanes);
-    assert!(rt; is_pumped);
-}
-
-#[test]
-fn wires_that_wait_for_each_other_are_sent_to_side_by_side(rt: HostRuntime) {
-    let (first, second) = gated(&rt, rt.alloc());
-    let lanes = work_of_two::<Brand, _>(&rt, rt.alloc(), true, first, second, Blank::new(1));
-    assert!(rt; bytes_of_two(&rt, lanes) == (2000, 2000));
-}
-
-#[test]
-fn here_a_wire_that_waits_for_the_other_fails(rt: HostRuntime) {
-    let (first, second) = gated(&rt, rt.alloc());
-    let lanes = work_of_two::<Brand, _>(&rt, rt.alloc(), false, first, second, Blank::new(1));
-    assert!(rt; bytes_of_two(&rt, lanes) == (0, 2000));
 }

@@ -15,11 +15,11 @@ use ug_turnstile::Turnstile;
 
 /// The promise of a thread that is given a lane: the lane comes back, at the same post.
 #[derive(Drop)]
-pub(crate) struct SamePost<W: Wire, M: Machine>(Snapshot<Lane<W, M>>);
+pub struct SamePost<W: Wire, M: Machine>(Snapshot<Lane<W, M>>);
 
 impl<W: Wire, M: Machine> SamePost<W, M> {
     /// The promise of the post of this lane.
-    pub(crate) fn of(lane: &Lane<W, M>) -> Self
+    pub fn of(lane: &Lane<W, M>) -> Self
         ensures { result.0.value ≡ lane.now }
     {
         SamePost(Snapshot::of(lane))
@@ -39,11 +39,11 @@ enum Place<L, H> {
     Apart(H),
 }
 
-pub(crate) type Child<W, M> = PromisedHandle<Lane<W, M>, SamePost<W, M>>;
+pub type Child<W, M> = PromisedHandle<Lane<W, M>, SamePost<W, M>>;
 
 /// A lane that works in a thread of its own, or here. Contracts see its post.
 #[derive(Drop)]
-pub(crate) struct Worker<W: Wire, M: Machine> {
+pub struct Worker<W: Wire, M: Machine> {
     place: Place<Lane<W, M>, Child<W, M>>,
 }
 
@@ -59,7 +59,7 @@ impl<W: Wire, M: Machine> Model for Worker<W, M> {
 
 impl<W: Wire, M: Machine> Worker<W, M> {
     /// A lane that works here.
-    pub(crate) fn here(lane: Lane<W, M>) -> Self
+    pub fn here(lane: Lane<W, M>) -> Self
         ensures { result ≡ post_of lane }
     {
         Worker {
@@ -68,7 +68,7 @@ impl<W: Wire, M: Machine> Worker<W, M> {
     }
 
     /// A lane that works in this thread.
-    pub(crate) fn apart(child: Child<W, M>) -> Self
+    pub fn apart(child: Child<W, M>) -> Self
         ensures { result ≡ post_of child.promise.0.value }
     {
         Worker {
@@ -77,7 +77,7 @@ impl<W: Wire, M: Machine> Worker<W, M> {
     }
 
     /// Pumps a lane that works here until there is nothing to send, and answers whether it did anything.
-    pub(crate) fn pump_out<R: Wait>(&mut self, rt: &R, turnstile: &Turnstile<Board<M>>) -> bool
+    pub fn pump_out<R: Wait>(&mut self, rt: &R, turnstile: &Turnstile<Board<M>>) -> bool
         requires here { self.old.turnstile ≡ turnstile.now.id }
         ensures post { self.new ≡ self.old }
     {
@@ -88,7 +88,7 @@ impl<W: Wire, M: Machine> Worker<W, M> {
     }
 
     /// Pumps a lane that works here until there is nothing more to send.
-    pub(crate) fn pump_to_end<R: Wait>(&mut self, rt: &R, turnstile: &Turnstile<Board<M>>)
+    pub fn pump_to_end<R: Wait>(&mut self, rt: &R, turnstile: &Turnstile<Board<M>>)
         requires here { self.old.turnstile ≡ turnstile.now.id }
         ensures post { self.new ≡ self.old }
     {
@@ -99,7 +99,7 @@ impl<W: Wire, M: Machine> Worker<W, M> {
     }
 
     /// The lane where it works here, and else the worker.
-    pub(crate) fn into_here(self) -> Result<Lane<W, M>, Self>
+    pub fn into_here(self) -> Result<Lane<W, M>, Self>
         ensures here { IfOk result (λ lane. post_of lane ≡ self) }
         ensures apart { IfErr result (λ worker. worker ≡ self) }
     {
@@ -110,7 +110,7 @@ impl<W: Wire, M: Machine> Worker<W, M> {
     }
 
     /// The lane, once its thread is done.
-    pub(crate) fn join<R: Threads>(self, rt: &R) -> Lane<W, M>
+    pub fn join<R: Threads>(self, rt: &R) -> Lane<W, M>
         ensures { post_of result ≡ self }
     {
         match self.place {

@@ -13,11 +13,11 @@ use Rattle.ug_tables.specs.Tables.{among}
 use Rattle.ug_events.specs.Events.{Happening, ComesUp, GoesDown, HasPaths, HasNone, HasPolicy, HasEntries, AsksAgain, SendsRequest, SendsList}
 use Rattle.ug_world.specs.declared.peer_state.PeerState.{PeerState}
 use Rattle.ug_world.specs.World.{Routes, World, paths_to}
-use Rattle.ug_world.specs.Private.{path_at, told_of, table_of_peer, private_table}
+use Rattle.ug_world.specs.Private.{keys_to, keys_of, path_at, told_of, table_of_peer, private_table}
 use Rattle.ug_world.specs.After.{after}
 use Rattle.ug_world.proofs.Keeping.{untouched}
 use Rattle.ug_speaker.specs.Speech.{is_request}
-use Rattle.ug_plain_rules.specs.Changes.{keys_to, keys_of, keys_at}
+use Rattle.ug_plain_rules.specs.Changes.{keys_at}
 use Rattle.ug_plain_rules.proofs.SameKeys.{prefix-is}
 use Rattle.ug_plain_rules.proofs.Bools.{both, true_or, or_true}
 

@@ -1,10 +1,7 @@
 -- What a peer is sent: for an event the messages that change its table, and when it comes up the whole table.
-use Rattle.std.specs.Prelude.{ℕ, Bool, true, false, ◌&&◌, List, [], ◌∷◌, ◌++◌, map, filter, Option, is_some, is_none}
-use Rattle.std.specs.List.{flat_map}
+use Rattle.std.specs.Prelude.{ℕ, Bool, true, false, ◌&&◌, List, [], ◌∷◌, ◌++◌, filter, Option, is_some, is_none}
 use Rattle.std.proofs.Common.{inl, inr}
-use Rattle.ug_types.specs.Ip.{IpPrefix}
 use Rattle.ug_types.specs.declared.key.Key.{Key}
-use Rattle.ug_types.specs.declared.route.Path.{Path}
 use Rattle.ug_types.specs.Attributes.{Attributes}
 use Rattle.ug_types.specs.Messages.{Message, Begins, Ends}
 use Rattle.ug_tables.specs.Tables.{Table}
@@ -12,19 +9,11 @@ use Rattle.ug_tables.specs.Decisions.{decided_option, decided_attributes}
 use Rattle.ug_outbound.specs.declared.peer.Peer.{Peer}
 use Rattle.ug_events.specs.Events.{Happening, ComesUp, GoesDown, HasPaths, HasNone, HasPolicy, HasEntries, AsksAgain, SendsRequest, SendsList}
 use Rattle.ug_world.specs.declared.peer_state.PeerState.{PeerState}
-use Rattle.ug_world.specs.World.{Routes, World, paths_to}
-use Rattle.ug_world.specs.Private.{private_table}
+use Rattle.ug_world.specs.World.{World, paths_to}
+use Rattle.ug_world.specs.Private.{keys_to, keys_of, private_table}
 use Rattle.ug_world.specs.Touches.{is_about}
 use Rattle.ug_speaker.specs.Speech.{capabilities_of, is_request}
 use Rattle.ug_plain_rules.specs.Packing.{withdrawing, withdrawals, announcements}
-
--- the keys under which the paths to a prefix can stand: identifier 0, or with ADD-PATH their own (RFC 7911)
-abbrev pub keys_to : Bool → IpPrefix → List Path → List Key
-keys_to false prefix paths = record { prefix = prefix; id = 0 } ∷ []
-keys_to true prefix paths = map (λ (path : Path). record { prefix = prefix; id = path.id }) paths
-
-abbrev pub keys_of : Bool → Routes → List Key
-keys_of add_path routes = flat_map (λ (r : IpPrefix × List Path). keys_to add_path r.0 r.1) routes
 
 -- The keys of a world that an event can change: those of its prefix, and of any other event all.
 abbrev pub keys_at : Happening → Bool → World → List Key

@@ -1,6 +1,8 @@
 -- What a peer should have of the routes in a world.
-use Rattle.std.specs.Prelude.{ℕ, ◌==◌, Bool, true, false, List, [], ◌∷◌, find, slice_get, Option, Some, None, option_and_then, if◌then◌else◌}
+use Rattle.std.specs.Prelude.{ℕ, ◌==◌, Bool, true, false, List, [], ◌∷◌, map, find, slice_get, Option, Some, None, option_and_then, if◌then◌else◌}
 use Rattle.std.specs.Option.{option_map}
+use Rattle.std.specs.List.{flat_map}
+use Rattle.ug_types.specs.Ip.{IpPrefix}
 use Rattle.ug_types.specs.Attributes.{Attributes}
 use Rattle.ug_types.specs.declared.key.Key.{Key}
 use Rattle.ug_types.specs.declared.route.Path.{Path}
@@ -11,13 +13,21 @@ use Rattle.ug_outbound.specs.Keys.{ends_of}
 use Rattle.ug_outbound.specs.declared.key.GroupKey.{GroupKey}
 use Rattle.ug_tables.specs.Tables.{Table}
 use Rattle.ug_world.specs.declared.peer_state.PeerState.{PeerState}
-use Rattle.ug_world.specs.World.{World, paths_to, key_in}
+use Rattle.ug_world.specs.World.{Routes, World, paths_to, key_in}
 
 -- Without ADD-PATH a prefix's first path stands under identifier 0; with it each path stands under its own (RFC 7911).
 abbrev pub path_at : Bool → ℕ → List Path → Option Path
 path_at false id [] = None
 path_at false id (path ∷ paths) = if id == 0 then Some path else None
 path_at true id paths = find (λ (path : Path). path.id == id) paths
+
+-- the keys under which the paths to a prefix can stand: identifier 0, or with ADD-PATH their own (RFC 7911)
+abbrev pub keys_to : Bool → IpPrefix → List Path → List Key
+keys_to false prefix paths = record { prefix = prefix; id = 0 } ∷ []
+keys_to true prefix paths = map (λ (path : Path). record { prefix = prefix; id = path.id }) paths
+
+abbrev pub keys_of : Bool → Routes → List Key
+keys_of add_path routes = flat_map (λ (r : IpPrefix × List Path). keys_to add_path r.0 r.1) routes
 
 -- What the peers of a group key should have, each but for its next hops.
 unfoldable pub wanted : GroupKey → World → Key → Option OutAttrs

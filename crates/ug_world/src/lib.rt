@@ -6,6 +6,7 @@ mod copies;
 mod fresh;
 mod good;
 mod judge;
+mod keys;
 mod laws;
 mod lists;
 mod loc_rib;

@@ -9,15 +9,17 @@ ghost use Rattle.ug_types.specs.Ip.{IpPrefix};
 ghost use Rattle.ug_types.specs.Keys.{prefix_cmp, same_prefix};
 ghost use Rattle.ug_types.specs.declared.route.Path as stored;
 ghost use Rattle.ug_world.specs.World.{paths_to};
+ghost use Rattle.ug_world.specs.Private.{keys_of};
 ghost use Rattle.ug_world.specs.Verdicts.{path_count, is_overfull};
 ghost use Rattle.ug_world.specs.Orders.{IsAfterBy, IsAfter, IsNotAfter};
 
 use crate::best::Best;
+use crate::keys::put_keys;
 use std::alloc::Global;
 use std::collections::BTreeMap;
 use std::marker::Model;
 use std::ops::Bound;
-use ug_types::{NoMemory, Path, Prefix};
+use ug_types::{Key, NoMemory, Path, Prefix};
 
 /// The Loc-RIB: each prefix that has paths, with them. Contracts see the prefixes in their order, each with its paths.
 #[derive(Drop)]
@@ -118,6 +120,17 @@ impl LocRib {
         ensures none { IfNone result ((q : IpPrefix) → IsAfter (option_copied prefix.entry) q → lookup (same_prefix q) self.now ≡ None) }
     {
         first_after(&self.rows, prefix)
+    }
+
+    /// The keys under which the paths can stand, in the order of the prefixes: identifier 0, or with ADD-PATH their own.
+    pub fn keys(&self, alloc: Global, add_path: bool) -> Result<Vec<Key>, NoMemory>
+        ensures { IfOk result (λ keys. keys.items ≡ keys_of add_path self.now) }
+    {
+        let mut keys = Vec::new(alloc);
+        for (prefix, best) in self.rows.iter() {
+            put_keys(&mut keys, add_path, prefix, best.as_slice())?;
+        }
+        Ok(keys)
     }
 
     /// Equal routes, in memory of their own.

@@ -1,0 +1,434 @@
+//! The rows and the list of waiting keys, kept together.
+ghost use Rattle.std.specs.Prelude.{◌≡◌, ◌+◌, ◌<◌, ◌^◌, nat_eq, true, false, ℕ, [], ◌∷◌, ◌++◌, length, OnOk, OnErr, IfOk, IfSome, IsSome, Some, None, option_copied, slice_get, IsTrue, ◌↔◌};
+ghost use Rattle.std.specs.Map.{remove_entry, keys_of};
+ghost use Rattle.std.specs.List.{AllByRecursion};
+ghost use Rattle.std.specs.Ordering.{nat_cmp};
+ghost use Rattle.std.specs.BTreeMap.{insert_entry, is_at};
+ghost use Rattle.ug_pending.specs.Tables.{value_at, with_value, has, rows_after};
+ghost use Rattle.ug_pending.specs.Pending.{with_desired, with_formatted, with_all_forced};
+ghost use Rattle.ug_pending.specs.Formatting.{fitting, withdrawals, alike};
+ghost use Rattle.ug_adjout.specs.Waits.{keys_for, first_announced, waiting_keys};
+ghost use Rattle.ug_adjout.specs.Stored.{is_owed, IsFree, quiet, with_change, adj_of, with_one_forced, with_each_forced, IsShown, IsStored};
+
+use crate::after::{any_forced, count_formatted, first_desired, first_formatted};
+use crate::copied::copied;
+use crate::line::Line;
+use crate::marked::Marked;
+use crate::out_key::OutKey;
+use crate::row::{Change, Row};
+use crate::waiting::Waiting;
+use std::alloc::Global;
+use std::collections::BTreeMap;
+use std::marker::Model;
+use ug_intern::AttrId;
+use ug_types::{KeyList, NoMemory, Sequence};
+
+/// The rows by key, the waiting keys by their places, and the place that the next one gets. A row waits exactly where
+/// its key has a place in the list.
+#[derive(Drop)]
+pub struct Table<K: OutKey> {
+    rows: BTreeMap<K, Row>,
+    line: Line<K>,
+    next: u64,
+}
+
+impl<K: OutKey> Model for Table<K> {
+    ghost use Rattle.ug_adjout.specs.Stored.{Stored, IsStored};
+
+    ghost Value = { Stored K };
+
+    ghost view = { λ t. record { rows = t.rows.entries; waiting = t.line; next = t.next } };
+
+    ghost invariant = { λ t. IsStored K.cmp t.rows.entries t.line t.next };
+}
+
+/// Whether a packet is owed for a key that is to be desired so.
+fn owes(row: Row, desired: Option<AttrId>) -> bool
+    ensures { result ≡ is_owed row.formatted desired row.forced }
+{
+    row.formatted != desired || (row.forced && desired.is_some())
+}
+
+impl<K: OutKey> Table<K> {
+    pub fn new(alloc: Global) -> Table<K>
+        ensures rows { result.rows ≡ [] }
+        ensures waiting { result.waiting ≡ [] }
+    {
+        Table {
+            rows: BTreeMap::new(alloc),
+            line: Line::new(alloc),
+            next: 0,
+        }
+    }
+
+    /// The key's row.
+    pub fn row(&self, key: &K) -> Option<Row>
+        ensures { result ≡ value_at K.cmp self.now.rows key.now }
+    {
+        match self.rows.get(key) {
+            Some(row) => Some(*row),
+            None => None,
+        }
+    }
+
+    /// A key that waits for nothing waits for this value from now on, at the end of the list. Want of memory changes nothing.
+    fn begin(&mut self, key: K, row: Row, desired: Option<AttrId>) -> Result<(), NoMemory>
+        requires free { IsFree (value_at K.cmp self.old.rows key) }
+        requires owed { is_owed row.formatted desired row.forced ≡ true }
+        requires numbered { self.old.next + 1 < 2 ^ 64 }
+        ensures rows { OnOk result (self.new.rows ≡ insert_entry K.cmp self.old.rows key (with_change row self.old.next desired)) }
+        ensures waiting { OnOk result (self.new.waiting ≡ insert_entry nat_cmp self.old.waiting self.old.next (record { key = key; value = desired })) }
+        ensures err { OnErr result (self.new ≡ self.old) }
+    {
+        let place = self.next;
+        self.line.put(
+            place,
+            Waiting {
+                key,
+                value: desired,
+            },
+        )?;
+        let row = Row {
+            formatted: row.formatted,
+            forced: row.forced,
+            change: Some(Change { place, desired }),
+        };
+        let Ok(_) = self.rows.insert(key, row) else {
+            self.line.remove(place);
+            return Err(NoMemory);
+        };
+        self.next += 1;
+        Ok(())
+    }
+
+    /// A key that waits waits for this value now, at its place. Want of memory changes nothing.
+    pub fn change(
+        &mut self,
+        key: K,
+        row: Row,
+        change: Change,
+        desired: Option<AttrId>,
+    ) -> Result<(), NoMemory>
+        requires waits { IfSome (value_at K.cmp self.old.rows key) (λ was. was.change ≡ Some change) }
+        requires there { IsSome (value_at K.cmp self.old.rows key) }
+        requires owed { is_owed row.formatted desired row.forced ≡ true }
+        ensures rows { OnOk result (self.new.rows ≡ insert_entry K.cmp self.old.rows key (with_change row change.place desired)) }
+        ensures waiting { OnOk result (self.new.waiting ≡ insert_entry nat_cmp self.old.waiting change.place (record { key = key; value = desired })) }
+        ensures err { OnErr result (self.new ≡ self.old) }
+    {
+        self.line.put(
+            change.place,
+            Waiting {
+                key,
+                value: desired,
+            },
+        )?;
+        let row = Row {
+            formatted: row.formatted,
+            forced: row.forced,
+            change: Some(Change {
+                place: change.place,
+                desired,
+            }),
+        };
+        let Ok(_) = self.rows.insert(key, row) else {
+            unreachable!()
+        };
+        Ok(())
+    }
+
+    /// A key that waits waits no more: it is formatted so, or stands in no table.
+    pub fn end(&mut self, key: K, change: Change, formatted: Option<AttrId>)
+        requires waits { IfSome (value_at K.cmp self.old.rows key) (λ was. was.change ≡ Some change) }
+        requires there { IsSome (value_at K.cmp self.old.rows key) }
+        ensures rows { self.new.rows ≡ with_value K.cmp self.old.rows key (quiet formatted) }
+        ensures waiting { self.new.waiting ≡ remove_entry (is_at (nat_cmp change.place)) self.old.waiting }
+    {
+        self.line.remove(change.place);
+        if formatted.is_none() {
+            self.rows.remove(&key);
+            return;
+        }
+        let row = Row {
+            formatted,
+            forced: false,
+            change: None,
+        };
+        let Ok(_) = self.rows.insert(key, row) else {
+            unreachable!()
+        };
+    }
+
+    /// A key is desired so from now on. What it was before. Want of memory changes nothing.
+    pub fn want(&mut self, key: K, desired: Option<AttrId>) -> Result<Option<AttrId>, NoMemory>
+        ensures was { IfOk result (λ was. was ≡ value_at K.cmp (adj_of self.old.rows self.old.waiting).desired key) }
+        ensures ok { OnOk result (adj_of self.new.rows self.new.waiting ≡ with_desired K.cmp nat_eq (adj_of self.old.rows self.old.waiting) key desired) }
+        ensures err { OnErr result (self.new ≡ self.old) }
+    {
+        let _next = self.next;
+        match self.row(&key) {
+            None => {
+                self.want_first(key, desired)?;
+                Ok(None)
+            }
+            Some(row) => match row.change {
+                None => {
+                    self.want_idle(key, row, desired)?;
+                    Ok(row.formatted)
+                }
+                Some(change) => {
+                    self.want_waiting(key, row, change, desired)?;
+                    Ok(change.desired)
+                }
+            },
+        }
+    }
+
+    /// The same of a key without a row.
+    fn want_first(&mut self, key: K, desired: Option<AttrId>) -> Result<(), NoMemory>
+        requires { value_at K.cmp self.old.rows key ≡ None }
+        ensures ok { OnOk result (adj_of self.new.rows self.new.waiting ≡ with_desired K.cmp nat_eq (adj_of self.old.rows self.old.waiting) key desired) }
+        ensures err { OnErr result (self.new ≡ self.old) }
+    {
+        let next = self.next;
+        match desired {
+            None => Ok(()),
+            Some(_) => {
+                if next == u64::MAX {
+                    return Err(NoMemory);
+                }
+                let row = Row {
+                    formatted: None,
+                    forced: false,
+                    change: None,
+                };
+                self.begin(key, row, desired)?;
+                Ok(())
+            }
+        }
+    }
+
+    /// The same of a key that waits for nothing.
+    fn want_idle(&mut self, key: K, row: Row, desired: Option<AttrId>) -> Result<(), NoMemory>
+        requires row { value_at K.cmp self.old.rows key ≡ Some row }
+        requires idle { row.change ≡ None }
+        ensures ok { OnOk result (adj_of self.new.rows self.new.waiting ≡ with_desired K.cmp nat_eq (adj_of self.old.rows self.old.waiting) key desired) }
+        ensures err { OnErr result (self.new ≡ self.old) }
+    {
+        let next = self.next;
+        if row.formatted == desired {
+            return Ok(());
+        }
+        if next == u64::MAX {
+            return Err(NoMemory);
+        }
+        self.begin(key, row, desired)?;
+        Ok(())
+    }
+
+    /// The same of a key that waits.
+    fn want_waiting(
+        &mut self,
+        key: K,
+        row: Row,
+        change: Change,
+        desired: Option<AttrId>,
+    ) -> Result<(), NoMemory>
+        requires row { value_at K.cmp self.old.rows key ≡ Some row }
+        requires waits { row.change ≡ Some change }
+        ensures ok { OnOk result (adj_of self.new.rows self.new.waiting ≡ with_desired K.cmp nat_eq (adj_of self.old.rows self.old.waiting) key desired) }
+        ensures err { OnErr result (self.new ≡ self.old) }
+    {
+        let _next = self.next;
+        if owes(row, desired) {
+            self.change(key, row, change, desired)?;
+            return Ok(());
+        }
+        self.end(key, change, row.formatted);
+        Ok(())
+    }
+
+    /// The key is formatted as it is desired, and forced no more.
+    pub fn mark(&mut self, key: K) -> Marked
+        requires { has K.cmp (waiting_keys self.old.waiting) key ≡ true }
+        ensures ok { adj_of self.new.rows self.new.waiting ≡ with_formatted K.cmp nat_eq (adj_of self.old.rows self.old.waiting) key }
+        ensures was { result.was ≡ value_at K.cmp (adj_of self.old.rows self.old.waiting).formatted key }
+        ensures now { result.now ≡ value_at K.cmp (adj_of self.old.rows self.old.waiting).desired key }
+    {
+        let _next = self.next;
+        let Some(row) = self.row(&key) else {
+            unreachable!()
+        };
+        let Some(change) = row.change else {
+            unreachable!()
+        };
+        self.end(key, change, change.desired);
+        Marked {
+            was: row.formatted,
+            now: change.desired,
+        }
+    }
+
+    /// All keys of both tables are forced. After want of memory some are.
+    pub fn force_all(&mut self, alloc: Global) -> Result<(), NoMemory>
+        ensures ok { OnOk result (adj_of self.new.rows self.new.waiting ≡ with_all_forced K.cmp nat_eq (adj_of self.old.rows self.old.waiting)) }
+    {
+        let keys = self.keys(alloc)?;
+        self.force_each(keys.as_slice())?;
+        Ok(())
+    }
+
+    /// The keys that have a row.
+    fn keys(&self, alloc: Global) -> Result<KeyList<K>, NoMemory>
+        ensures keys { IfOk result (λ keys. keys.items ≡ keys_of self.now.rows) }
+        ensures stored { IsStored K.cmp self.now.rows self.now.waiting self.now.next }
+    {
+        let mut keys = Sequence::new(alloc);
+        for key in self.rows.keys() {
+            let Ok(()) = keys.push(*key) else {
+                return Err(NoMemory);
+            };
+        }
+        Ok(keys)
+    }
+
+    /// These keys are forced, which all have a row.
+    fn force_each(&mut self, keys: &[K]) -> Result<(), NoMemory>
+        requires { AllByRecursion (λ key. IsShown K.cmp (adj_of self.old.rows self.old.waiting) key) keys.now }
+        ensures ok { OnOk result (adj_of self.new.rows self.new.waiting ≡ with_each_forced K.cmp (adj_of self.old.rows self.old.waiting) keys.now) }
+    {
+        for key in keys {
+            self.force(*key)?;
+        }
+        Ok(())
+    }
+
+    /// The key is forced, which has a row. Want of memory changes nothing.
+    fn force(&mut self, key: K) -> Result<(), NoMemory>
+        requires { IsShown K.cmp (adj_of self.old.rows self.old.waiting) key }
+        ensures ok { OnOk result (adj_of self.new.rows self.new.waiting ≡ with_one_forced K.cmp (adj_of self.old.rows self.old.waiting) key) }
+    {
+        let next = self.next;
+        let Some(row) = self.row(&key) else {
+            unreachable!()
+        };
+        let forced = Row {
+            formatted: row.formatted,
+            forced: true,
+            change: row.change,
+        };
+        match row.change {
+            None => {
+                if next == u64::MAX {
+                    return Err(NoMemory);
+                }
+                self.begin(key, forced, row.formatted)?;
+                Ok(())
+            }
+            Some(change) => {
+                self.change(key, forced, change, change.desired)?;
+                Ok(())
+            }
+        }
+    }
+
+    /// What was formatted for the key.
+    pub fn formatted(&self, key: &K) -> Option<AttrId>
+        ensures { result ≡ value_at K.cmp (adj_of self.now.rows self.now.waiting).formatted key.now }
+    {
+        let _next = self.next;
+        match self.row(key) {
+            Some(row) => row.formatted,
+            None => None,
+        }
+    }
+
+    /// What the key is desired with.
+    pub fn desired(&self, key: &K) -> Option<AttrId>
+        ensures { result ≡ value_at K.cmp (adj_of self.now.rows self.now.waiting).desired key.now }
+    {
+        let _next = self.next;
+        match self.row(key) {
+            Some(row) => match row.change {
+                Some(change) => change.desired,
+                None => row.formatted,
+            },
+            None => None,
+        }
+    }
+
+    /// How many keys are formatted. It looks at every row.
+    pub fn formatted_len(&self) -> usize
+        ensures { result ≡ length (adj_of self.now.rows self.now.waiting).formatted }
+    {
+        count_formatted(&self.rows)
+    }
+
+    /// Whether a key is forced. It looks at every row.
+    pub fn has_forced(&self) -> bool
+        ensures { IsTrue result ↔ (0 < length (adj_of self.now.rows self.now.waiting).forced) }
+    {
+        any_forced(&self.rows)
+    }
+
+    /// The least formatted row above the key, or the first one.
+    pub fn formatted_after(&self, key: Option<&K>) -> Option<(K, AttrId)>
+        ensures { result ≡ slice_get (rows_after K.cmp (option_copied key.entry) (adj_of self.now.rows self.now.waiting).formatted) 0 }
+    {
+        first_formatted(&self.rows, key)
+    }
+
+    /// The least desired row above the key, or the first one.
+    pub fn desired_after(&self, key: Option<&K>) -> Option<(K, AttrId)>
+        ensures { result ≡ slice_get (rows_after K.cmp (option_copied key.entry) (adj_of self.now.rows self.now.waiting).desired) 0 }
+    {
+        first_desired(&self.rows, key)
+    }
+
+    /// An equal one of its own.
+    pub fn copy(&self, alloc: Global) -> Result<Table<K>, NoMemory>
+        ensures rows { IfOk result (λ copy. copy.rows ≡ self.now.rows) }
+        ensures waiting { IfOk result (λ copy. copy.waiting ≡ self.now.waiting) }
+    {
+        Ok(Table {
+            rows: copied(alloc, &self.rows)?,
+            line: self.line.copy(alloc)?,
+            next: self.next,
+        })
+    }
+
+    /// Whether a packet is owed for the key.
+    pub fn is_pending(&self, key: &K) -> bool
+        ensures { result ≡ has K.cmp (waiting_keys self.now.waiting) key.now }
+    {
+        let _next = self.next;
+        match self.row(key) {
+            Some(row) => row.change.is_some(),
+            None => false,
+        }
+    }
+
+    /// How many keys wait.
+    pub fn waiting_len(&self) -> usize
+        ensures { result ≡ length (waiting_keys self.now.waiting) }
+    {
+        self.line.len()
+    }
+
+    /// The first keys that wait for their withdrawal, as many as have room.
+    pub fn withdrawals(&self, alloc: Global, room: usize) -> Result<KeyList<K>, NoMemory>
+        ensures { IfOk result (λ keys. keys.items ≡ fitting K.bytes room (withdrawals K.cmp (adj_of self.now.rows self.now.waiting))) }
+    {
+        self.line.first_for(alloc, None, room)
+    }
+
+    /// The first key that waits for its announcement and those of its value, as many as have room.
+    pub fn alike(&self, alloc: Global, room: usize) -> Result<KeyList<K>, NoMemory>
+        ensures { IfOk result (λ keys. keys.items ≡ fitting K.bytes room (alike K.cmp nat_eq (adj_of self.now.rows self.now.waiting))) }
+    {
+        match self.line.first_value() {
+            None => Ok(Sequence::new(alloc)),
+            Some(value) => self.line.first_for(alloc, Some(value), room),
+        }
+    }
+}

@@ -1,0 +1,4 @@
+pub mod Loads
+pub mod Fitting
+pub mod Grouping
+pub mod Running

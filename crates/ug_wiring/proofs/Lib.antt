@@ -1,0 +1,4 @@
+pub mod LaneLaws
+mod Wired
+mod Ending
+mod Starting
