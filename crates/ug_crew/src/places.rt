@@ -10,10 +10,7 @@ use ug_edge::Wire;
 
 /// Takes out the worker at a place. There is then room for it.
 #[tactic(auto, using(crate::proofs::Seats::here_at))]
-pub fn take_out<W: Wire, M: Machine>(
-    workers: &mut Vec<Worker<W, M>>,
-    place: usize,
-) -> Worker<W, M>
+pub fn take_out<W: Wire, M: Machine>(workers: &mut Vec<Worker<W, M>>, place: usize) -> Worker<W, M>
     requires within { place < vec_len workers.old }
     ensures worker { slice_get workers.old.items place ≡ Some result }
     ensures here { (id : _) → AreHere id workers.old.items → result.turnstile ≡ id }

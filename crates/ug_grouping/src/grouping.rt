@@ -49,7 +49,7 @@ pub fn groups<E: Source, K: Sink>(alloc: Global, source: &mut E, report: &mut K)
 }
 
 /// The world that a source stands for.
-fn read_world<E: Source>(alloc: Global, source: &mut E) -> Result<World, Stop>
+pub fn read_world<E: Source>(alloc: Global, source: &mut E) -> Result<World, Stop>
     ensures ok { IfOk result (λ world. IsWholly (E.left source.old) (E.left source.new) (Stands world)) }
     ensures stopped { IfErr result (λ stop. IsCause stop (E.left source.old) (E.left source.new)) }
     ensures unread { IsErrOf result Stop.Read → Rose (E.faults source.old) (E.faults source.new) }

@@ -7,7 +7,7 @@ mod member;
 mod members;
 mod stop;
 
-pub use grouping::groups;
+pub use grouping::{groups, read_world};
 pub use stop::Stop;
 
 #[cfg(test)]

@@ -21,7 +21,6 @@ use Rattle.ug_plain_rules.specs.Seats.{texts_of}
 use Rattle.ug_packing.specs.Seen.{texts_in}
 use Rattle.ug_news.specs.Slates.{IsWatch, updates_by}
 
-
 pub two_parts : (c : Capabilities) (t0 t1 t2 : List (List ℕ)) (ms ns : List Message) → t1 ≡ t0 ++ texts_in c ms → t2 ≡ t1 ++ texts_in c ns → t2 ≡ t0 ++ texts_in c (ms ++ ns)
 two_parts c t0 t1 t2 ms ns first second =
     second ∙ ap (λ (t : List (List ℕ)). t ++ texts_in c ns) first ∙ append_assoc t0 (texts_in c ms) (texts_in c ns) ∙ ap (λ (t : List (List ℕ)). t0 ++ t) (sym (map-append (text_of c) ms ns))

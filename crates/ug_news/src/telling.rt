@@ -122,7 +122,14 @@ fn put_updates(
         put_all(alloc, c, &keys[start..], &new[start..], texts)?;
         return Ok(());
     }
-    put_new(alloc, c, &keys[start..], &old[start..], &new[start..], texts)?;
+    put_new(
+        alloc,
+        c,
+        &keys[start..],
+        &old[start..],
+        &new[start..],
+        texts,
+    )?;
     Ok(())
 }
 

@@ -1,9 +1,9 @@
 -- Lines as they are cut from a piece.
-use Rattle.std.proofs.Common.{◌≡◌, ℕ, zero, suc, ◌+◌, ◌-◌, ◌<◌, ◌≤◌, Bool, true, false, cond, eqb, List, [], ◌∷◌, ◌++◌, map, length, take, Option, Some, None, refl, sym, ap, subst, ◌∙◌, append_assoc, arith}
+use Rattle.std.proofs.Common.{◌≡◌, ℕ, suc, ◌+◌, ◌-◌, ◌<◌, ◌≤◌, Bool, true, false, cond, eqb, List, [], ◌∷◌, ◌++◌, length, take, Option, Some, None, refl, sym, ap, subst, ◌∙◌, append_assoc, arith}
 use Rattle.std.proofs.lemmas.List.{append-nil, length-append, length-map, map-append}
 use Rattle.ug_text.specs.Cutting.{cut_at, with_front}
 use Rattle.ug_pieces.specs.ReadingLaws.{take_front}
-use Rattle.ug_pieces.specs.Lines.{ended_from, rest_from, where_some, kept_of, TakesSome}
+use Rattle.ug_pieces.specs.Lines.{ended_from, rest_from, where_some, kept_of}
 use Rattle.ug_pieces.specs.LineSteps.{HasTakenLines, HasStoppedWithin, HasStoppedAt, lines_from}
 use Rattle.ug_pieces.specs.declared.lines.LineStop.{LineStop}
 use Rattle.ug_pieces.specs.declared.lines.LineStop.TheVariants as stops

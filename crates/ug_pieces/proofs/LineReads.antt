@@ -1,5 +1,5 @@
 -- A source that is read line by line, and what its lines come to.
-use Rattle.std.proofs.Common.{◌≡◌, ℕ, ◌+◌, ◌-◌, ◌<◌, ◌≤◌, List, [], ◌∷◌, ◌++◌, length, take, Option, refl, sym, ap, subst, ◌∙◌, append_assoc, arith}
+use Rattle.std.proofs.Common.{◌≡◌, ℕ, ◌+◌, ◌-◌, ◌<◌, ◌≤◌, List, [], ◌∷◌, ◌++◌, length, take, inl, inr, Option, refl, sym, ap, subst, ◌∙◌, arith}
 use Rattle.std.specs.Global.{Vec}
 use Rattle.std.specs.Vec.{vec_len}
 use Rattle.std.proofs.lemmas.List.{append-nil, length-append, length-map, map-append}
@@ -13,41 +13,37 @@ use Rattle.ug_pieces.specs.LineSteps.{HasTakenLines, HasStoppedWithin, HasStoppe
 use Rattle.ug_pieces.specs.LineLaws.{kept_some}
 use Rattle.ug_pieces.specs.declared.lines.LineStop.{LineStop}
 use Rattle.ug_pieces.specs.declared.lines.LineStop.TheVariants as stops
-use Rattle.ug_pieces.specs.declared.line_halt.LineHalt.{LineHalt}
 use Rattle.ug_pieces.specs.declared.line_halt.LineHalt.TheVariants as halts
 
 lines_kept : (k : ℕ) (bytes : List ℕ) → kept_of k (lines_of bytes) ≡ kept_of k (ended_from [] bytes) ++ kept_of k (where_some (rest_from [] bytes))
 lines_kept k bytes = map-append (take k) (ended_from [] bytes) (where_some (rest_from [] bytes))
 
--- a front of the lines that are ended is one of all lines
-some_of_all : (P : List (List ℕ) → Type 0) (k : ℕ) (r bytes : List ℕ) → r ≡ [] → TakesSome P (kept_of k (ended_from r bytes)) → TakesSome P (kept_of k (lines_of bytes))
-some_of_all P k r bytes none some =
-    let last = kept_of k (where_some (rest_from [] bytes)) in
-    let is : kept_of k (ended_from [] bytes) ≡ some.0 ++ some.1 = subst (λ (f : List ℕ). kept_of k (ended_from f bytes) ≡ some.0 ++ some.1) none some.2 in
-    (some.0, some.1 ++ last, lines_kept k bytes ∙ ap (λ (ls : List (List ℕ)). ls ++ last) is ∙ append_assoc some.0 some.1 last, some.3)
+-- a front of the lines that are ended, where none was begun before
+some_ended : (P : List (List ℕ) → Type 0) (k : ℕ) (r bytes : List ℕ) → r ≡ [] → TakesSome P (kept_of k (ended_from r bytes)) → TakesSome P (kept_of k (ended_from [] bytes))
+some_ended P k r bytes none some = subst (λ (f : List ℕ). TakesSome P (kept_of k (ended_from f bytes))) none some
 
 module _ {S : Type 0} (P : List (List ℕ) → Type 0) (Qs : List (List ℕ) → S → Type 0) (k m limit : ℕ) (r : List ℕ) (none : r ≡ []) (left now : Option (List ℕ)) where
   -- memory was wanting before anything was read
   unread :
       (r' : List ℕ) (n n' k' m' : ℕ)
       → HasRead left now (λ read. (read ≡ []) × HasTakenLines P k m r r' n n' k' m' read)
-      → HasRead left now (IsLineHalt {S = S} halts.NoMemory limit m k P Qs)
+      → HasRead left now (IsLineHalt {S = S} halts.NoMemory limit m k P Qs now)
   unread r' n n' k' m' h =
       let none_read : take limit h.read ≡ h.read = take_past limit h.read (let e = ap length h.so.0 in omega arith) in
       record {
         read = h.read;
         taken = h.taken;
-        so = subst (λ (bytes : List ℕ). TakesSome P (kept_of k (lines_of bytes))) (sym none_read)
-            (some_of_all P k r h.read none (kept_of k (ended_from r h.read), [], sym (append-nil (kept_of k (ended_from r h.read))), h.so.1.took));
+        so = subst (λ (bytes : List ℕ). TakesSome P (kept_of k (ended_from [] bytes))) (sym none_read)
+            (some_ended P k r h.read none (kept_of k (ended_from r h.read), [], sym (append-nil (kept_of k (ended_from r h.read))), h.so.1.took));
       }
 
-  starved : (n : ℕ) → HasRead left now (λ read. HasStoppedWithin {S = S} stops.NoMemory P Qs k m r n (take limit read)) → HasRead left now (IsLineHalt {S = S} halts.NoMemory limit m k P Qs)
-  starved n h = record { read = h.read; taken = h.taken; so = some_of_all P k r (take limit h.read) none h.so }
+  starved : (n : ℕ) → HasRead left now (λ read. HasStoppedWithin {S = S} stops.NoMemory P Qs k m r n (take limit read)) → HasRead left now (IsLineHalt {S = S} halts.NoMemory limit m k P Qs now)
+  starved n h = record { read = h.read; taken = h.taken; so = some_ended P k r (take limit h.read) none h.so }
 
-  stopped : (stop : S) (n : ℕ) → HasRead left now (λ read. HasStoppedWithin (stops.Stopped stop) P Qs k m r n (take limit read)) → HasRead left now (IsLineHalt (halts.Stopped stop) limit m k P Qs)
-  stopped stop n h = record { read = h.read; taken = h.taken; so = some_of_all (λ (ls : List (List ℕ)). Qs ls stop) k r (take limit h.read) none h.so }
+  stopped : (stop : S) (n : ℕ) → HasRead left now (λ read. HasStoppedWithin (stops.Stopped stop) P Qs k m r n (take limit read)) → HasRead left now (IsLineHalt (halts.Stopped stop) limit m k P Qs now)
+  stopped stop n h = record { read = h.read; taken = h.taken; so = inl (some_ended (λ (ls : List (List ℕ)). Qs ls stop) k r (take limit h.read) none h.so) }
 
-  too_many : (n : ℕ) → n ≡ 0 → HasRead left now (λ read. HasStoppedWithin {S = S} stops.TooMany P Qs k m r n (take limit read)) → HasRead left now (IsLineHalt {S = S} halts.TooMany limit m k P Qs)
+  too_many : (n : ℕ) → n ≡ 0 → HasRead left now (λ read. HasStoppedWithin {S = S} stops.TooMany P Qs k m r n (take limit read)) → HasRead left now (IsLineHalt {S = S} halts.TooMany limit m k P Qs now)
   too_many n zero h =
       let at = λ (f : List ℕ) (j : ℕ). (m < j + length (lines_from f (take limit h.read))) × P (take (m - j) (kept_of k (lines_from f (take limit h.read)))) in
       let so : (m < 0 + length (lines_of (take limit h.read))) × P (take (m - 0) (kept_of k (lines_of (take limit h.read)))) = subst (λ (j : ℕ). at [] j) zero (subst (λ (f : List ℕ). at f n) none h.so) in
@@ -94,16 +90,13 @@ module _ (P : List (List ℕ) → Type 0) (k m limit : ℕ) (r r' : List ℕ) (n
   at_last :
       {S : Type 0} (R : List (List ℕ) → Type 0) (Rs : List (List ℕ) → S → Type 0) (stop : S) → ((front : List (List ℕ)) → P front → Rs (front ++ where_some r') stop)
       → HasRead left now (λ read. IsEnded now × (length read ≤ limit) × HasTakenLines P k m r r' n n' k' m' read)
-      → HasRead left now (IsLineHalt (halts.Stopped stop) limit m k R Rs)
+      → HasRead left now (IsLineHalt (halts.Stopped stop) limit m k R Rs now)
   at_last R Rs stop join h =
       let is = last_kept h.read h.so.2 in
-      let whole : take limit h.read ≡ h.read = take_past limit h.read h.so.1 in
-      let all = kept_of k (ended_from r h.read) ++ where_some r' in
       record {
         read = h.read;
         taken = h.taken;
-        so = subst (λ (bytes : List ℕ). TakesSome (λ (ls : List (List ℕ)). Rs ls stop) (kept_of k (lines_of bytes))) (sym whole)
-            (all, [], sym is ∙ sym (append-nil all), join (kept_of k (ended_from r h.read)) h.so.2.took);
+        so = inr (h.so.0, h.so.1, subst (λ (ls : List (List ℕ)). Rs ls stop) is (join (kept_of k (ended_from r h.read)) h.so.2.took));
       }
 
   pub last_stopped :
@@ -111,7 +104,7 @@ module _ (P : List (List ℕ) → Type 0) (k m limit : ℕ) (r r' : List ℕ) (n
       → ((front : List (List ℕ)) (s : S) → P front → Qs (where_some r') s → Rs (front ++ where_some r') s)
       → HasStoppedAt stop ⊥ ⊥ (Qs (where_some r'))
       → HasRead left now (λ read. IsEnded now × (length read ≤ limit) × HasTakenLines P k m r r' n n' k' m' read)
-      → HasRead left now (IsLineHalt (halt_of_stop stop) limit m k R Rs)
+      → HasRead left now (IsLineHalt (halt_of_stop stop) limit m k R Rs now)
   last_stopped R Qs Rs stops.NoMemory join at h = absurd at
   last_stopped R Qs Rs stops.TooMany join at h = absurd at.0
   last_stopped R Qs Rs (stops.Stopped s) join at h = at_last R Rs s (λ front took. join front s took at) h
@@ -121,7 +114,7 @@ module _ {S : Type 0} (P : List (List ℕ) → Type 0) (Qs : List (List ℕ) →
   pub read_halted :
       (halt : Halt (LineStop S))
       → HasRead left now (IsHalt halt limit (HasTakenLines P k m r r' n n' k' m') (λ bytes stop. HasStoppedWithin stop P Qs k m r n bytes))
-      → HasRead left now (IsLineHalt (halt_of_pieces halt) limit m k P Qs)
+      → HasRead left now (IsLineHalt (halt_of_pieces halt) limit m k P Qs now)
   read_halted piece_halts.Read h =
       let none_ended : ended_from r h.read ≡ ended_from [] h.read = ap (λ (f : List ℕ). ended_from f h.read) none in
       let is = last_kept P k m limit r r' n n' k' m' none zero some left now h.read h.so.1 in
@@ -135,10 +128,15 @@ module _ {S : Type 0} (P : List (List ℕ) → Type 0) (Qs : List (List ℕ) →
       }
   read_halted piece_halts.NoMemory h = unread P Qs k m limit r none left now r' n n' k' m' h
   read_halted piece_halts.TooLong h =
+      let within = take limit h.read in
+      let is = last_kept P k m limit r r' n n' k' m' none zero some left now within h.so.1 in
+      let size : length (lines_of within) ≡ length (ended_from r within) + length (where_some r') =
+      sym (length-map (lines_of within) (take k)) ∙ sym (ap length is) ∙ length-append (kept_of k (ended_from r within)) (where_some r')
+      ∙ ap (λ (j : ℕ). j + length (where_some r')) (length-map (ended_from r within) (take k)) in
       record {
         read = h.read;
         taken = h.taken;
-        so = (h.so.0, subst (λ (f : List ℕ). P (kept_of k (ended_from f (take limit h.read)))) none h.so.1.took);
+        so = (h.so.0, omega (arith, size, room, h.so.1.counted, h.so.1.most_is, zero), subst (λ (f : List ℕ). P (kept_of k (ended_from f within))) none h.so.1.took);
       }
   read_halted (piece_halts.Stopped stops.NoMemory) h = starved P Qs k m limit r none left now n h
   read_halted (piece_halts.Stopped stops.TooMany) h = too_many P Qs k m limit r none left now n zero h

@@ -1,8 +1,8 @@
 -- Laws of lines: they may be cut from bytes that come piece by piece, and of each line the front that is kept is enough.
-use Rattle.std.proofs.Common.{◌≡◌, ℕ, zero, suc, ◌+◌, ◌-◌, ◌<◌, ◌≤◌, Bool, true, false, eqb, List, [], ◌∷◌, ◌++◌, map, length, take, refl, sym, ap, subst, ◌∙◌, append_assoc, arith}
+use Rattle.std.proofs.Common.{◌≡◌, ℕ, zero, suc, ◌+◌, ◌-◌, ◌<◌, ◌≤◌, Bool, true, false, eqb, List, [], ◌∷◌, ◌++◌, length, take, refl, sym, ap, subst, ◌∙◌, append_assoc, arith}
 use Rattle.std.specs.Global.{Vec}
 use Rattle.std.specs.Vec.{vec_len}
-use Rattle.std.proofs.lemmas.List.{append-nil, length-append, length-map, map-append}
+use Rattle.std.proofs.lemmas.List.{length-append, length-map, map-append}
 use Rattle.ug_pieces.specs.ReadingLaws.{take_front}
 use Rattle.ug_pieces.specs.Lines.{ended_from, rest_from, where_some, kept_of, TakesSome}
 use Rattle.ug_pieces.specs.LineSteps.{HasTakenLines, HasStoppedWithin, lines_from}

@@ -1,5 +1,6 @@
 -- Bytes as lines: they are cut at each newline, and bytes behind the last newline are a line where there are any.
-use Rattle.std.specs.Prelude.{◌≡◌, ℕ, ◌+◌, ◌<◌, ◌≤◌, ◌==◌, List, [], ◌∷◌, ◌++◌, map, length, take, if◌then◌else◌}
+use Rattle.std.specs.Prelude.{◌≡◌, ℕ, ◌<◌, ◌≤◌, ◌⊎◌, ◌==◌, List, [], ◌∷◌, ◌++◌, Option, map, length, take, if◌then◌else◌}
+use Rattle.ug_edge.specs.Told.{IsEnded}
 use Rattle.ug_pieces.specs.declared.line_halt.LineHalt.{LineHalt}
 use Rattle.ug_pieces.specs.declared.line_halt.LineHalt.TheVariants as halts
 
@@ -29,13 +30,20 @@ kept_of most lines = map (take most) lines
 abbrev pub TakesSome : (List (List ℕ) → Type 0) → List (List ℕ) → Type 0
 TakesSome takes lines = (front : List (List ℕ)) × (more : List (List ℕ)) × (lines ≡ front ++ more) × takes front
 
--- What holds of the bytes that were read where reading ended early. `lines` and `kept` are the most lines and the most
--- bytes of one; at a fault all lines that a newline ends were taken.
-abbrev pub IsLineHalt : {S : Type 0} → LineHalt S → ℕ → ℕ → ℕ → (List (List ℕ) → Type 0) → (List (List ℕ) → S → Type 0) → List ℕ → Type 0
-IsLineHalt halts.Read limit lines kept taken stopped read =
+-- At the end of the source, at its last line, what takes them stopped.
+abbrev pub IsStoppedAtEnd : ℕ → ℕ → (List (List ℕ) → Type 0) → Option (List ℕ) → List ℕ → Type 0
+IsStoppedAtEnd limit kept stopped now read = IsEnded now × (length read ≤ limit) × stopped (kept_of kept (lines_of read))
+
+-- What holds of the bytes that were read where reading ended early, and of what is left then. `lines` and `kept` are the
+-- most lines and the most bytes of one. Before the end of the source a line is taken only where a newline ends it, and at
+-- a fault all of those were taken.
+abbrev pub IsLineHalt : {S : Type 0} → LineHalt S → ℕ → ℕ → ℕ → (List (List ℕ) → Type 0) → (List (List ℕ) → S → Type 0) → Option (List ℕ) → List ℕ → Type 0
+IsLineHalt halts.Read limit lines kept taken stopped now read =
     (length read ≤ limit) × (length (lines_of read) ≤ lines) × taken (kept_of kept (ended_from [] read))
-IsLineHalt halts.NoMemory limit lines kept taken stopped read = TakesSome taken (kept_of kept (lines_of (take limit read)))
-IsLineHalt halts.TooLong limit lines kept taken stopped read = (limit < length read) × taken (kept_of kept (ended_from [] (take limit read)))
-IsLineHalt halts.TooMany limit lines kept taken stopped read =
+IsLineHalt halts.NoMemory limit lines kept taken stopped now read = TakesSome taken (kept_of kept (ended_from [] (take limit read)))
+IsLineHalt halts.TooLong limit lines kept taken stopped now read =
+    (limit < length read) × (length (lines_of (take limit read)) ≤ lines) × taken (kept_of kept (ended_from [] (take limit read)))
+IsLineHalt halts.TooMany limit lines kept taken stopped now read =
     (lines < length (lines_of (take limit read))) × taken (take lines (kept_of kept (lines_of (take limit read))))
-IsLineHalt (halts.Stopped stop) limit lines kept taken stopped read = TakesSome (λ front. stopped front stop) (kept_of kept (lines_of (take limit read)))
+IsLineHalt (halts.Stopped stop) limit lines kept taken stopped now read =
+    TakesSome (λ front. stopped front stop) (kept_of kept (ended_from [] (take limit read))) ⊎ IsStoppedAtEnd limit kept (λ front. stopped front stop) now read

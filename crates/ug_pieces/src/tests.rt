@@ -88,128 +88,30 @@ fn a_text_is_written_whole(rt: HostRuntime) -> Result<(), Fail> {
     Ok(())
 }
 
-/// Lines one behind the other, each with a bar behind it. It stops at an empty line where it is told to.
-#[derive(Drop)]
-struct Bars {
-    stops: bool,
-    bars: ByteList,
-}
-
-impl LineTaker<()> for Bars {
-    type Stop = NoMemory;
-
-    ghost has_taken = { λ t _ u _ lines. Unit {0} };
-
-    ghost has_stopped = { λ t _ u _ lines _. Unit {0} };
-
-    fn take_line(&mut self, line: &[u8], _context: &mut ()) -> Result<(), NoMemory> {
-        if self.stops && line.is_empty() {
-            return Err(NoMemory);
-        }
-        self.bars.extend_from_slice(line)?;
-        self.bars.extend_from_slice(b"|")
-    }
-
-    ghost takes_none = { λ t c. tt };
-
-    ghost takes_more = { λ t u v c d e front more first then. tt };
-
-    ghost stops_later = { λ t u v c d e front more stop first then. tt };
-}
-
-/// Bytes, how many lines are taken of them, what was taken, and why not more.
-struct Case {
-    bytes: &'static [u8],
-    lines: usize,
-    stops: bool,
-    bars: &'static [u8],
-    ended: Result<(), LineHalt<NoMemory>>,
-}
-
-const CASES: [Case; 9] = [
-    Case {
-        bytes: b"",
-        lines: 0,
-        stops: false,
-        bars: b"",
-        ended: Ok(()),
-    },
-    Case {
-        bytes: b"a",
-        lines: 1,
-        stops: false,
-        bars: b"a|",
-        ended: Ok(()),
-    },
-    Case {
-        bytes: b"a\n",
-        lines: 1,
-        stops: false,
-        bars: b"a|",
-        ended: Ok(()),
-    },
-    Case {
-        bytes: b"a\n\nb",
-        lines: 3,
-        stops: false,
-        bars: b"a||b|",
-        ended: Ok(()),
-    },
-    Case {
-        bytes: b"a\n\nb",
-        lines: 2,
-        stops: false,
-        bars: b"a||",
-        ended: Err(LineHalt::TooMany),
-    },
-    Case {
-        bytes: b"\n",
-        lines: 0,
-        stops: false,
-        bars: b"",
-        ended: Err(LineHalt::TooMany),
-    },
-    Case {
-        bytes: b"12345\n67890\n",
-        lines: 2,
-        stops: false,
-        bars: b"1234|6789|",
-        ended: Ok(()),
-    },
-    Case {
-        bytes: b"a\n\nb",
-        lines: 3,
-        stops: true,
-        bars: b"a|",
-        ended: Err(LineHalt::Stopped(NoMemory)),
-    },
-    Case {
-        bytes: b"a\n345678901234",
-        lines: 9,
-        stops: false,
-        bars: b"a|",
-        ended: Err(LineHalt::TooLong),
-    },
-];
+/// What is kept of a line as its bytes come: so many bytes at most.
+const KEPT: [(&[u8], &[u8]); 4] = [(b"", b""), (b"12", b"12"), (b"34", b"123"), (b"5", b"123")];
 
 #[test]
-fn lines_are_cut(rt: HostRuntime) -> Result<(), Fail> {
-    let alloc = rt.alloc();
-    for case in CASES.iter() {
-        let call = CallKind::Read;
-        let mut site = site_of(alloc, case.bytes, FailAt { call, number: 9 })?;
-        let limits = LineLimits {
-            bytes: 12,
-            lines: case.lines,
-            kept: 4,
-        };
-        let taker = Bars {
-            stops: case.stops,
-            bars: Sequence::new(alloc),
-        };
-        let (taker, ended) = read_lines(alloc, limits, &mut site, taker, &mut ());
-        assert_eq!(rt; taker.bars.as_slice(), case.bars);
-        assert_eq!(rt; ended, case.ended);
+fn a_front_of_a_line_is_kept(rt: HostRuntime) -> Result<(), Fail> {
+    let mut rest = Vec::new(rt.alloc());
+    for (bytes, kept) in KEPT.iter() {
+        assert!(rt; rest.len() <= 3);
+        assert_eq!(rt; keep_front(&mut rest, 3, *bytes), Ok(()));
+        assert_eq!(rt; rest.as_slice(), *kept);
     }
+    Ok(())
+}
+
+#[test]
+fn halts_are_told_apart(rt: HostRuntime) -> Result<(), Fail> {
+    assert_eq!(rt;
+        halt_of_pieces(Halt::<LineStop<u8>>::TooLong),
+        LineHalt::TooLong
+    );
+    assert_eq!(rt;
+        halt_of_pieces(Halt::Stopped(LineStop::Stopped(7u8))),
+        LineHalt::Stopped(7u8)
+    );
+    assert_eq!(rt; halt_of_stop(LineStop::<u8>::TooMany), LineHalt::TooMany);
     Ok(())
 }

@@ -4,7 +4,7 @@
 mod endings;
 mod lines;
 
-pub use endings::{Loss, write_counts, write_lost_status, write_losses};
+pub use endings::{Loss, write_counts, write_losses, write_lost_status};
 pub use lines::{write_marks, write_refusal};
 
 #[cfg(test)]

@@ -73,7 +73,11 @@ fn hand(seat: &mut Seat, sessions: u32, closed: bool, buf: &mut [u8]) -> LaneSai
 fn rest(closed: bool) -> LaneSaid
     ensures { result ≡ at_rest closed }
 {
-    if closed { LaneSaid::Stop } else { LaneSaid::Idle }
+    if closed {
+        LaneSaid::Stop
+    } else {
+        LaneSaid::Idle
+    }
 }
 
 /// Puts a text at the front of the buffer, as far as a buffer holds it, and answers how many bytes that are.

@@ -19,12 +19,16 @@ fn spelled(alloc: Global, line: &str) -> Result<String, Fail> {
     Ok(match read_command(words.as_slice()) {
         None => String::from_str(alloc, "none")?,
         Some(Command::One(OneWords { events, dir })) => format!(in alloc; "one {events} {dir}")?,
-        Some(Command::Run(RunWords {
-            config,
-            events,
-            dir,
-            apart,
-        })) => format!(in alloc; "run {config} {events} {dir} {apart}")?,
+        Some(
+            Command::Run(
+                RunWords {
+                    config,
+                    events,
+                    dir,
+                    apart,
+                },
+            ),
+        ) => format!(in alloc; "run {config} {events} {dir} {apart}")?,
         Some(Command::Check(CheckWords { session, stream })) => {
             let add_path = session.add_path;
             let extended = session.extended;

@@ -1,7 +1,7 @@
-use Rattle.std.proofs.Common.{◌≡◌, ℕ, ◌+◌, ◌-◌, List, length, take, refl, ap, subst, ◌∙◌, arith, rules}
+use Rattle.std.proofs.Common.{◌≡◌, ℕ, ◌-◌, List, length, take, refl, ap, subst, ◌∙◌, arith, rules}
 use Rattle.ug_edge.specs.Told.{Rose}
 use Rattle.ug_pieces.specs.ReadingLaws.{taken_none, piece_within, buffer_back}
-use Rattle.ug_pieces.proofs.PieceSteps.{begins, goes_on, stops_at, passes_limit, not_read, reads_all}
+use Rattle.ug_pieces.proofs.PieceSteps.{begins, goes_on, stops_at, passes_limit, reads_all}
 use Rattle.ug_pieces.proofs.pieces.read_pieces.Goals as goal
 
 pub loop-count-init : goal.loop-count-init

@@ -1,0 +1,9 @@
+pub mod Turning
+pub mod Worlds
+pub mod Telling
+pub mod Standings
+pub mod Passes
+pub mod Builders
+pub mod Kept
+pub mod Readings
+pub mod FilesRead

@@ -1,0 +1,9 @@
+use Rattle.std.proofs.Common.{◌∙◌}
+use Rattle.ug_builder.proofs.Passes.{goes-over}
+use Rattle.ug_builder.proofs.turns.conclude_in_turn.Goals as goal
+
+pub returns-clause-history : goal.returns-clause-history
+returns-clause-history g c =
+    goes-over g.S.Machine.rules g.S.Speaker.speech c.args.pass.now c.take-turn.result c.state.result.now c.conclude-concluded.new.board c.give.new.pass.root c.give.new.pass.seen
+    c.requires.number c.take-turn.ensures.agrees c.state.ensures.value c.conclude-concluded.ensures.opening (c.give.ensures.same.2 ∙ c.take-turn.ensures.same.2) c.give.ensures.seen
+    c.conclude-concluded.ensures.history

@@ -1,0 +1,6 @@
+pub mod Turns
+pub mod Standing
+pub mod StandingLaws
+pub mod Files
+pub mod Reading
+pub mod FreshLaws

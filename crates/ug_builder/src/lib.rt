@@ -1,0 +1,25 @@
+//! The builder of a run: it takes the lines of events, one by one, onto a board that lanes work on beside it.
+#![tactic(auto)]
+
+mod begun;
+mod beside;
+mod board;
+mod builder;
+mod came;
+mod files;
+mod grammar;
+mod lines;
+mod reading;
+mod stop;
+mod tally;
+#[cfg(test)]
+mod tests;
+mod turns;
+
+pub use beside::read_beside;
+pub use builder::Builder;
+pub use came::Came;
+pub use grammar::Grammar;
+pub use reading::{End, Reading};
+pub use stop::Stop;
+pub use tally::Tally;

@@ -1,0 +1,4 @@
+pub mod Files
+pub mod Statuses
+pub mod Checked
+pub mod Listed

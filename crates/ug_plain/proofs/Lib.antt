@@ -1,0 +1,10 @@
+pub mod Placed
+pub mod Handing
+pub mod Marked
+pub mod Paths
+pub mod Within
+pub mod Untold
+pub mod Told
+pub mod Watched
+pub mod Pushed
+pub mod Taken

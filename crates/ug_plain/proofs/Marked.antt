@@ -1,0 +1,53 @@
+-- Marks beside the peers whose they are.
+use Rattle.std.proofs.Common.{◌≡◌, ℕ, zero, suc, ◌+◌, ◌<◌, ◌≤◌, Bool, ◌&&◌, List, [], ◌∷◌, ◌++◌, length, drop, Some, refl, sym, ap, ◌∙◌, arith}
+use Rattle.std.specs.Prelude.{slice_get}
+use Rattle.std.specs.Option.{option_map}
+use Rattle.std.proofs.lemmas.List.{append_assoc}
+use Rattle.ug_types.specs.declared.mark.Mark.{Mark}
+use Rattle.ug_deeds.specs.Deeds.{when}
+use Rattle.ug_outbound.specs.declared.peer.Peer.{Peer}
+use Rattle.ug_world.specs.declared.peer_state.PeerState.{PeerState}
+use Rattle.ug_plain_rules.specs.Seats.{Plain}
+use Rattle.ug_plain_rules.specs.Plain.{is_live, mark_at, marks_at}
+
+there_is : {T : Type 0} (xs : List T) (p : ℕ) → p < length xs → (x : T) × (slice_get xs p ≡ Some x) × (drop p xs ≡ x ∷ drop (p + 1) xs)
+there_is [] p inside = absurd (omega arith)
+there_is (x ∷ xs) zero inside = (x, refl, refl)
+there_is (x ∷ xs) (suc p) inside =
+    let e : suc p + 1 ≡ suc (p + 1) = omega arith in
+    rw e (there_is xs p (omega arith))
+
+drop_end : {T : Type 0} (xs : List T) (n : ℕ) → length xs ≤ n → drop n xs ≡ []
+drop_end [] zero le = refl
+drop_end [] (suc n) le = refl
+drop_end (x ∷ xs) zero le = absurd (omega arith)
+drop_end (x ∷ xs) (suc n) le = drop_end xs n (omega arith)
+
+none_more : {T : Type 0} (xs : List T) → xs ++ [] ≡ xs
+none_more [] = refl
+none_more {T} (x ∷ xs) = ap (λ (rest : List T). x ∷ rest) (none_more xs)
+
+module _ (test : PeerState → Bool) (plain : Plain) (peers : List PeerState) (p : ℕ) where
+  -- The marks so far grow by that of one peer, where it has one.
+  pub mark_step : (old new all : List Mark) → p < length peers
+      → ((s : PeerState) → slice_get peers p ≡ Some s → new ≡ old ++ when (test s && is_live p s plain.seats) (mark_at p s plain ∷ []))
+      → old ++ marks_at test p (drop p peers) plain ≡ all → new ++ marks_at test (p + 1) (drop (p + 1) peers) plain ≡ all
+  mark_step old new all inside pushed so =
+      let found = there_is peers p inside in
+      let s = found.0 in
+      let more = marks_at test (p + 1) (drop (p + 1) peers) plain in
+      ap (λ (marks : List Mark). marks ++ more) (pushed s found.1)
+      ∙ append_assoc old (when (test s && is_live p s plain.seats) (mark_at p s plain ∷ [])) more
+      ∙ ap (λ (left : List PeerState). old ++ marks_at test p left plain) (sym found.2)
+      ∙ so
+
+  -- no peer is left
+  pub mark_end : (marks all : List Mark) → length peers ≤ p → marks ++ marks_at test p (drop p peers) plain ≡ all → marks ≡ all
+  mark_end marks all past so = sym (none_more marks) ∙ ap (λ (left : List PeerState). marks ++ marks_at test p left plain) (sym (drop_end peers p past)) ∙ so
+
+peer_is : (s : PeerState) (peer : Peer) → Some s.peer ≡ Some peer → s.peer.name ≡ peer.name
+peer_is s peer e = let is : s.peer ≡ peer = cc in ap (λ (p : Peer). p.name) is
+
+-- the name of the peer at a place
+pub name_there : (peers : List PeerState) (p : ℕ) (s : PeerState) (peer : Peer) → slice_get peers p ≡ Some s → option_map (λ s. s.peer) (slice_get peers p) ≡ Some peer → s.peer.name ≡ peer.name
+name_there peers p s peer is had = peer_is s peer (ap (option_map (λ (t : PeerState). t.peer)) (sym is) ∙ had)
