@@ -276,7 +276,8 @@ fn lane_beside<L: Ledger, R: Threads + Wait + Abort + Sync>(
 
 /// A wire in memory of which a call fails once it has taken 150 bytes.
 fn cut_wire(alloc: Global) -> Result<MemWire, Fail>
-    ensures { IfOk result (λ wire. wire.sessions ≡ []) }
+    ensures sessions { IfOk result (λ wire. wire.sessions ≡ []) }
+    ensures faults { IfOk result (λ wire. wire.faults ≡ 0) }
 {
     let mut peer = Sequence::new(alloc);
     peer.extend_from_slice(b"p")?;
