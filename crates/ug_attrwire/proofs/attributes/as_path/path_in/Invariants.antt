@@ -3,7 +3,7 @@ use Rattle.std.specs.List.{list_all}
 use Rattle.ug_types.specs.Attributes.{is_segment, segment_of}
 use Rattle.ug_message.specs.Walking.{walk, with_one}
 use Rattle.ug_message.specs.AttributesRead.{segment_at, path_in}
-use Rattle.ug_attrwire.proofs.read_values.path_in.Given as goal
+use Rattle.ug_attrwire.proofs.attributes.as_path.path_in.Given as goal
 
 -- walking on from here gives what walking from the start gives
 abbrev pub invariant-loop-place : goal.invariant-loop-place

@@ -7,7 +7,7 @@ use Rattle.ug_types.specs.Attributes.{segment_of}
 use Rattle.ug_message.specs.AttributesRead.{segment_at}
 use Rattle.ug_message.proofs.Walks.{collect_from}
 use Rattle.ug_attrwire.proofs.Faults.{path_fails}
-use Rattle.ug_attrwire.proofs.read_values.path_in.Goals as goal
+use Rattle.ug_attrwire.proofs.attributes.as_path.path_in.Goals as goal
 
 pub loop-place-preserved : goal.loop-place-preserved
 loop-place-preserved c =
