@@ -5,7 +5,6 @@ use Rattle.std.specs.Int.{w32, to_be_bytes}
 use Rattle.ug_types.specs.declared.attrs.Aggregator.{Aggregator}
 use Rattle.ug_types.specs.Attributes.{Attributes}
 use Rattle.ug_message.specs.Spelling.{attribute, numbers, where_present, where_some, four_bytes, origin, as_path, multi_exit_disc, local_pref, atomic_aggregate, aggregator, communities, originator_id, cluster_list, before_next_hop, after_next_hop}
-use Rattle.ug_message.specs.Heads.{size_around}
 use Rattle.ug_message.specs.Lengths.{HasShortValues}
 use Rattle.ug_message.proofs.Heads.{length_attribute}
 
@@ -45,10 +44,10 @@ seven m l t g c r k h1 h2 h3 h4 h5 h6 h7 =
 pub behind_fits : (a : Attributes) → HasShortValues a → length (after_next_hop a) < 2 ^ 19
 behind_fits a short =
     seven (multi_exit_disc a) (local_pref a) (atomic_aggregate a) (aggregator a) (communities a) (originator_id a) (cluster_list a)
-    (where_there _ a.med (λ n. one 128 4 (to_be_bytes w32 n) (omega arith)))
-    (where_there _ a.local_pref (λ n. one 64 5 (to_be_bytes w32 n) (omega arith)))
+    (where_there (λ n. attribute 128 4 (to_be_bytes w32 n)) a.med (λ n. one 128 4 (to_be_bytes w32 n) (omega arith)))
+    (where_there (λ n. attribute 64 5 (to_be_bytes w32 n)) a.local_pref (λ n. one 64 5 (to_be_bytes w32 n) (omega arith)))
     (flag a.atomic)
-    (where_there _ a.aggregator (λ (g : Aggregator). one 192 7 (to_be_bytes w32 g.asn ++ four_bytes g.addr) (omega arith)))
-    (where_any _ a.communities (one 192 8 (numbers a.communities) short.communities))
-    (where_there _ a.originator (λ r. one 128 9 (four_bytes r) (omega arith)))
-    (where_any _ a.clusters (one 128 10 (numbers a.clusters) short.clusters))
+    (where_there (λ (g : Aggregator). attribute 192 7 (to_be_bytes w32 g.asn ++ four_bytes g.addr)) a.aggregator (λ g. one 192 7 (to_be_bytes w32 g.asn ++ four_bytes g.addr) (omega arith)))
+    (where_any (λ ns. attribute 192 8 (numbers ns)) a.communities (one 192 8 (numbers a.communities) short.communities))
+    (where_there (λ r. attribute 128 9 (four_bytes r)) a.originator (λ r. one 128 9 (four_bytes r) (omega arith)))
+    (where_any (λ ns. attribute 128 10 (numbers ns)) a.clusters (one 128 10 (numbers a.clusters) short.clusters))

@@ -1,6 +1,6 @@
 ghost use Rattle.std.specs.Prelude.{◌≡◌, true, ◌+◌, ◌^◌, ◌<◌, ◌≤◌, ◌++◌, length, OnOk, OnErr, IfOk};
 ghost use Rattle.ug_types.specs.Attributes.{attributes_of, IsAttributes};
-ghost use Rattle.ug_message.specs.Spelling.{before_next_hop, after_next_hop, attributes, attributes_but_next_hop, next_hop_place};
+ghost use Rattle.ug_message.specs.Spelling.{before_next_hop, next_hop, after_next_hop, attributes, attributes_but_next_hop, next_hop_place};
 ghost use Rattle.ug_message.specs.Spellable.{has_ipv4_addresses, can_be_spelled};
 ghost use Rattle.ug_message.specs.Lengths.{HasShortValues};
 
@@ -8,16 +8,16 @@ use crate::attributes::next_hop::NextHop;
 use crate::formed::know;
 use crate::row::Spelled;
 use crate::table::{Before, Behind};
-use ug_types::{Attrs, ByteList, NoMemory};
+use ug_types::{AttrParts, Attrs, ByteList, NoMemory};
 
 /// How many bytes the attributes take in a message.
-#[tactic(auto, using(ug_message::proofs::AttributeParts::attributes_steps, crate::proofs::Sizes::before_fits, crate::proofs::Sizes::behind_fits))]
+#[tactic(auto, using(ug_message::proofs::AttributeParts::attributes_steps))]
 pub fn size_of(attrs: &Attrs) -> usize
     requires { HasShortValues attrs.now }
     ensures { result ≡ length (attributes attrs.now) }
 {
     let parts = attrs.parts();
-    Before::size(parts) + NextHop::size(parts) + Behind::size(parts)
+    before_size(parts) + next_hop_size(parts) + behind_size(parts)
 }
 
 /// Adds the attributes at the end, by ascending type, and answers where the value of NEXT_HOP stands in the list.
@@ -43,13 +43,13 @@ pub fn write_attrs(out: &mut ByteList, attrs: &Attrs) -> Result<usize, NoMemory>
 }
 
 /// How many bytes all attributes but NEXT_HOP take.
-#[tactic(auto, using(ug_message::proofs::AttributeParts::but_next_hop_steps, crate::proofs::Sizes::before_fits, crate::proofs::Sizes::behind_fits))]
+#[tactic(auto, using(ug_message::proofs::AttributeParts::but_next_hop_steps))]
 pub fn size_but_next_hop(attrs: &Attrs) -> usize
     requires { HasShortValues attrs.now }
     ensures { result ≡ length (attributes_but_next_hop attrs.now) }
 {
     let parts = attrs.parts();
-    Before::size(parts) + Behind::size(parts)
+    before_size(parts) + behind_size(parts)
 }
 
 /// Adds all attributes but NEXT_HOP at the end, by ascending type, as before routes that stand among them. Want of memory
@@ -67,4 +67,28 @@ pub fn write_but_next_hop(out: &mut ByteList, attrs: &Attrs) -> Result<(), NoMem
     Before::put(out, parts);
     Behind::put(out, parts);
     Ok(())
+}
+
+fn before_size(parts: &AttrParts) -> usize
+    requires { HasShortValues (attributes_of parts.now) }
+    ensures size { result ≡ length (before_next_hop (attributes_of parts.now)) }
+    ensures small { result < 2 ^ 18 }
+{
+    Before::size(parts)
+}
+
+fn next_hop_size(parts: &AttrParts) -> usize
+    requires { HasShortValues (attributes_of parts.now) }
+    ensures size { result ≡ length (next_hop (attributes_of parts.now)) }
+    ensures small { result ≡ 7 }
+{
+    NextHop::size(parts)
+}
+
+fn behind_size(parts: &AttrParts) -> usize
+    requires { HasShortValues (attributes_of parts.now) }
+    ensures size { result ≡ length (after_next_hop (attributes_of parts.now)) }
+    ensures small { result < 2 ^ 19 }
+{
+    Behind::size(parts)
 }
