@@ -1,173 +1,41 @@
 //! Reading the attributes of one message.
 
-ghost use Rattle.std.specs.Prelude.{◌≡◌, ◌+◌, ◌<◌, ◌≤◌, ◌^◌, true, List, ℕ, length, drop, IfOk, IfErr};
-ghost use Rattle.ug_types.specs.declared.family.Family.TheVariants.{V6};
+ghost use Rattle.std.specs.Prelude.{◌≡◌, ◌+◌, ◌≤◌, true, false, List, ℕ, length, drop, IfOk, IfErr};
 ghost use Rattle.ug_message.specs.Walking.{walk_all};
-ghost use Rattle.ug_message.specs.AttributesRead.{attribute_at, head_size, value_size, is_known, are_flags, flags_of, is_length, with_value, with_known, with_attribute, one_attribute, attribute_step, nothing_read, with_mandatory, at_end, read_attributes, read_multiprotocol};
+ghost use Rattle.ug_message.specs.AttributesRead.{is_known, with_known, with_attribute, one_attribute, attribute_step, nothing_read, with_mandatory, at_end, read_attributes, read_multiprotocol};
 ghost use Rattle.ug_attrwire.specs.Views.{so_far, standing, StandsAt, placed, multiprotocol_of, Gives, GivesOne, HasNumber, IsWithin};
 
-use crate::attributes::{
-    AGGREGATOR, AS_PATH, ATOMIC_AGGREGATE, CLUSTER_LIST, COMMUNITIES, LOCAL_PREF, MULTI_EXIT_DISC,
-    NEXT_HOP, OPTIONAL, OPTIONAL_TRANSITIVE, ORIGIN, ORIGINATOR_ID, WELL_KNOWN,
-};
 use crate::fault::{AttrFault, AttributeFault};
 use crate::found::{Found, Standing};
+use crate::head::attribute_at;
 use crate::multiprotocol::{
-    MP_REACH_NLRI, MP_UNREACH_NLRI, Multiprotocol, announced_in, has_routes, is_alone, next_hop_in,
-    reach_in, unreach_in, withdrawn_in,
+    Multiprotocol, announced_in, has_routes, is_alone, next_hop_in, withdrawn_in,
 };
-use crate::read_values::{address_in, aggregator_in, number_in, numbers_in, origin_in, path_in};
-use byteorder::{BigEndian, ByteOrder};
+use crate::row::OPTIONAL;
+use crate::table::{Ipv4, Ipv6, Table};
 use std::alloc::Global;
 use ug_types::{Addr, AttrParts, Attrs, Family, Sequence};
 
-/// Set by a router that passed the attribute on without knowing it.
-const PARTIAL: u8 = 32;
-
-/// Set where the length of the value has two bytes.
-const EXTENDED: u8 = 16;
-
-/// The attribute that the bytes begin with, and how many of them it takes.
-#[tactic(auto, unfolding(ug_message::specs::AttributesRead::attribute_at))]
-fn attribute_at(place: usize, bytes: &[u8]) -> Result<(Standing<'_>, usize), AttributeFault>
-    requires { place + length bytes.now < 2 ^ 64 }
-    ensures exact { GivesOne (λ x. standing x.0) result (attribute_at place bytes.now) }
-    ensures value { IfOk result (λ x. x.0.place + length x.0.value.now ≤ place + length bytes.now) }
-    ensures size { IfOk result (λ x. x.1 ≡ head_size bytes.now + value_size bytes.now) }
-    ensures within { IfOk result (λ x. (1 ≤ x.1) × (x.1 ≤ length bytes.now)) }
-    ensures number { IfErr result HasNumber }
-{
-    let passes_the_end = AttributeFault::Refused(1);
-    if bytes.len() < 3 {
-        return Err(passes_the_end);
-    }
-    let flags = bytes[0];
-    let kind = bytes[1];
-    let mut head = 3;
-    let mut len = bytes[2] as usize;
-    if flags & EXTENDED != 0 {
-        if bytes.len() < 4 {
-            return Err(passes_the_end);
-        }
-        head = 4;
-        len = BigEndian::read_u16(&bytes[2..]) as usize;
-    }
-    if bytes.len() < head + len {
-        return Err(passes_the_end);
-    }
-    let value = &bytes[head..head + len];
-    let place = place + head;
-    let standing = Standing {
-        flags,
-        kind,
-        place,
-        value,
-    };
-    Ok((standing, head + len))
-}
-
-/// Whether a known type may have these flags. The lower four bits say nothing.
-fn are_flags(kind: u8, flags: u8) -> bool
-    ensures { result ≡ are_flags kind flags }
-{
-    let is_optional_transitive = kind == AGGREGATOR || kind == COMMUNITIES;
-    flags & OPTIONAL_TRANSITIVE == flags_of(kind)
-        && (is_optional_transitive || flags & PARTIAL == 0)
-}
-
-fn flags_of(kind: u8) -> u8
-    ensures { result ≡ flags_of kind }
-{
-    match kind {
-        MULTI_EXIT_DISC | ORIGINATOR_ID | CLUSTER_LIST | MP_REACH_NLRI | MP_UNREACH_NLRI => {
-            OPTIONAL
-        },
-        AGGREGATOR | COMMUNITIES => OPTIONAL_TRANSITIVE,
-        _ => WELL_KNOWN,
-    }
-}
-
-/// Whether a known type has values of this length.
-fn is_length(kind: u8, len: usize) -> bool
-    ensures { result ≡ is_length kind len }
-{
-    match kind {
-        ORIGIN => len == 1,
-        AS_PATH | MP_REACH_NLRI | MP_UNREACH_NLRI => true,
-        ATOMIC_AGGREGATE => len == 0,
-        AGGREGATOR => len == 8,
-        COMMUNITIES | CLUSTER_LIST => len % 4 == 0,
-        _ => len == 4,
-    }
-}
-
-/// Puts the value of a known type, which stands at that place of all attributes, where it belongs.
-fn read_value(
-    alloc: Global,
-    found: &mut Found,
-    kind: u8,
-    all: &[u8],
-    place: usize,
-    value: &[u8],
-) -> Result<(), AttributeFault>
-    requires known { is_known V6 kind ≡ true }
-    requires sized { is_length kind (length value.now) ≡ true }
-    requires within { place + length value.now ≤ length all.now }
-    requires stands { StandsAt all.now place value.now }
-    requires limit { found.old.limit ≡ length all.now }
-    ensures exact { GivesOne (λ _. so_far all.now found.new) result (with_value kind place value.now (so_far all.now found.old)) }
-    ensures limit { found.new.limit ≡ found.old.limit }
-    ensures number { IfErr result HasNumber }
-{
-    match kind {
-        ORIGIN => found.origin = Some(origin_in(value)?),
-        AS_PATH => found.path = Some(path_in(alloc, value)?),
-        NEXT_HOP => found.next_hop = Some(address_in(value)),
-        MULTI_EXIT_DISC => found.med = Some(number_in(value)),
-        LOCAL_PREF => found.local_pref = Some(number_in(value)),
-        ATOMIC_AGGREGATE => found.atomic = true,
-        AGGREGATOR => found.aggregator = Some(aggregator_in(value)),
-        COMMUNITIES => found.communities = numbers_in(alloc, value)?,
-        ORIGINATOR_ID => found.originator = Some(address_in(value)),
-        CLUSTER_LIST => found.clusters = numbers_in(alloc, value)?,
-        MP_REACH_NLRI => found.reach = Some(reach_in(all, place, value)?),
-        _ => found.unreach = Some(unreach_in(all, place, value)?),
-    }
-    Ok(())
-}
-
-#[tactic(auto, unfolding(ug_message::specs::AttributesRead::with_known))]
+/// Reads the attribute if it is one of those that messages of the family have, and answers whether it is.
 fn read_known(
     alloc: Global,
+    family: Family,
     found: &mut Found,
     all: &[u8],
     a: Standing<'_>,
-) -> Result<(), AttributeFault>
-    requires known { is_known V6 a.kind ≡ true }
+) -> Result<bool, AttributeFault>
     requires within { a.place + length a.value.now ≤ length all.now }
     requires stands { StandsAt all.now a.place a.value.now }
     requires limit { found.old.limit ≡ length all.now }
-    ensures exact { GivesOne (λ _. so_far all.now found.new) result (with_known (standing a.entry) (so_far all.now found.old)) }
+    ensures known { IfOk result (λ known. known ≡ is_known family a.entry.kind) }
+    ensures exact { is_known family a.entry.kind ≡ true → GivesOne (λ _. so_far all.now found.new) result (with_known (standing a.entry) (so_far all.now found.old)) }
+    ensures other { is_known family a.entry.kind ≡ false → (result ≡ Ok false) × (so_far all.now found.new ≡ so_far all.now found.old) }
     ensures limit { found.new.limit ≡ found.old.limit }
     ensures number { IfErr result HasNumber }
 {
-    if !are_flags(a.kind, a.flags) {
-        return Err(AttributeFault::Refused(3));
-    }
-    if !is_length(a.kind, a.value.len()) {
-        return Err(AttributeFault::Refused(4));
-    }
-    read_value(alloc, found, a.kind, all, a.place, a.value)
-}
-
-/// Whether the type is one of those that UPDATEs of the family have.
-fn is_known(family: Family, kind: u8) -> bool
-    ensures { result ≡ is_known family kind }
-{
-    match kind {
-        ORIGIN..=CLUSTER_LIST => true,
-        MP_REACH_NLRI | MP_UNREACH_NLRI => family == Family::V6,
-        _ => false,
+    match family {
+        Family::V4 => Ipv4::read(alloc, found, all, a),
+        Family::V6 => Ipv6::read(alloc, found, all, a),
     }
 }
 
@@ -189,15 +57,12 @@ fn read_attribute(
     if found.types.as_slice().contains(&a.kind) {
         return Err(AttributeFault::Refused(2));
     }
-    let is_known = is_known(family, a.kind);
-    if !is_known && a.flags & OPTIONAL == 0 {
-        return Err(AttributeFault::Refused(8));
-    }
     if found.types.push(a.kind).is_err() {
         return Err(AttributeFault::NoMemory);
     }
-    if is_known {
-        read_known(alloc, found, all, a)?;
+    let is_known = read_known(alloc, family, found, all, a)?;
+    if !is_known && a.flags & OPTIONAL == 0 {
+        return Err(AttributeFault::Refused(8));
     }
     Ok(())
 }

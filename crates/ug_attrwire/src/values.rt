@@ -1,26 +1,59 @@
-//! The parts of values: numbers, addresses and the segments of a path.
+//! The parts of values: numbers and addresses.
 
-ghost use Rattle.std.specs.Prelude.{◌≡◌, ◌+◌, ◌≤◌, ◌++◌, true, length, map};
-ghost use Rattle.std.specs.List.{list_all};
-ghost use Rattle.ug_types.specs.Attributes.{is_segment, segment_of};
-ghost use Rattle.ug_message.specs.Spelling.{numbers, four_bytes, sixteen_bytes, segment, segments};
+ghost use Rattle.std.specs.Prelude.{◌≡◌, ◌+◌, ◌/◌, ◌≤◌, ◌++◌, length, IfOk};
+ghost use Rattle.ug_message.specs.Spelling.{numbers, four_bytes, sixteen_bytes};
+ghost use Rattle.ug_message.specs.AttributesRead.{number_in, address_in, numbers_in};
 
-use ug_message::{put, put_u32};
-use ug_types::{Addr, ByteList, Segment};
-
-/// The four bytes of an IPv4 address.
-pub fn four_bytes(addr: &Addr) -> [u8; 4]
-    ensures { result ≡ four_bytes addr.now }
-{
-    let bytes = addr.bits.to_be_bytes();
-    [bytes[0], bytes[1], bytes[2], bytes[3]]
-}
+use byteorder::{BigEndian, ByteOrder};
+use std::alloc::{AllocError, Global};
+use ug_message::put_u32;
+use ug_types::{Addr, ByteList, NumberList, Sequence};
 
 /// The sixteen bytes of an IPv6 address.
 pub fn sixteen_bytes(addr: &Addr) -> [u8; 16]
     ensures { result ≡ sixteen_bytes addr.now }
 {
-    addr.bits.to_be_bytes()
+    let mut bytes = [0; 16];
+    BigEndian::write_u128(&mut bytes, addr.bits);
+    bytes
+}
+
+/// The four bytes of an IPv4 address.
+pub fn four_bytes(addr: &Addr) -> [u8; 4]
+    ensures { result ≡ four_bytes addr.now }
+{
+    let bytes = sixteen_bytes(addr);
+    [bytes[0], bytes[1], bytes[2], bytes[3]]
+}
+
+/// The number of the first four bytes.
+pub fn number_in(bytes: &[u8]) -> u32
+    requires { 4 ≤ length bytes.now }
+    ensures { result ≡ number_in bytes.now }
+{
+    BigEndian::read_u32(bytes)
+}
+
+/// The IPv4 address of the first four bytes.
+pub fn address_in(bytes: &[u8]) -> Addr
+    requires { 4 ≤ length bytes.now }
+    ensures { result ≡ address_in bytes.now }
+{
+    Addr::v4(number_in(bytes))
+}
+
+/// The numbers of four bytes each.
+pub fn numbers_in(alloc: Global, bytes: &[u8]) -> Result<NumberList, AllocError>
+    ensures exact { IfOk result (λ list. list.items ≡ numbers_in bytes.now) }
+    ensures count { IfOk result (λ list. length list.items ≡ length bytes.now / 4) }
+{
+    let mut numbers = Vec::with_capacity(alloc, bytes.len() / 4)?;
+    let mut rest = bytes;
+    while let [_, _, _, _, after @ ..] = rest {
+        numbers.push(BigEndian::read_u32(rest))?;
+        rest = after;
+    }
+    Ok(Sequence::from_vec(numbers))
 }
 
 /// Adds numbers of four bytes each.
@@ -31,42 +64,5 @@ pub fn put_numbers(out: &mut ByteList, list: &[u32])
 {
     for number in list {
         put_u32(out, *number);
-    }
-}
-
-/// How many bytes the segments of a path take.
-#[tactic(auto, using(ug_message::proofs::Heads::length_numbers, std::proofs::lemmas::Grind::common_steps))]
-pub fn segments_size(path: &[Segment]) -> usize
-    requires { length (segments (map segment_of path.now)) ≤ 65535 }
-    ensures { result ≡ length (segments (map segment_of path.now)) }
-{
-    let mut size = 0;
-    for segment in path {
-        size += 2 + 4 * segment.numbers.len();
-    }
-    size
-}
-
-/// Adds a segment: 1 for a set, 2 for a sequence, how many numbers, and the numbers.
-fn put_segment(out: &mut ByteList, part: &Segment)
-    requires count { is_segment (segment_of part.now) ≡ true }
-    requires room { length (segment (segment_of part.now)) ≤ out.old.spare }
-    ensures items { out.new.items ≡ out.old.items ++ segment (segment_of part.now) }
-    ensures spare { out.old.spare ≤ out.new.spare + length (segment (segment_of part.now)) }
-{
-    let kind = if part.is_set { 1 } else { 2 };
-    put(out, &[kind, part.numbers.len() as u8]);
-    put_numbers(out, part.numbers.as_slice());
-}
-
-/// Adds the segments of a path.
-pub fn put_segments(out: &mut ByteList, path: &[Segment])
-    requires counts { list_all is_segment (map segment_of path.now) ≡ true }
-    requires room { length (segments (map segment_of path.now)) ≤ out.old.spare }
-    ensures items { out.new.items ≡ out.old.items ++ segments (map segment_of path.now) }
-    ensures spare { out.old.spare ≤ out.new.spare + length (segments (map segment_of path.now)) }
-{
-    for part in path {
-        put_segment(out, part);
     }
 }

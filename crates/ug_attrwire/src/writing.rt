@@ -1,11 +1,13 @@
 ghost use Rattle.std.specs.Prelude.{◌≡◌, true, ◌+◌, ◌^◌, ◌<◌, ◌≤◌, ◌++◌, length, OnOk, OnErr, IfOk};
 ghost use Rattle.ug_types.specs.Attributes.{attributes_of, IsAttributes};
-ghost use Rattle.ug_message.specs.Spelling.{before_next_hop, after_next_hop, attributes, attributes_but_next_hop, next_hop_place};
+ghost use Rattle.ug_message.specs.Spelling.{before_next_hop, next_hop, after_next_hop, attributes, attributes_but_next_hop, next_hop_place};
 ghost use Rattle.ug_message.specs.Spellable.{has_ipv4_addresses, can_be_spelled};
 ghost use Rattle.ug_message.specs.Lengths.{HasShortValues};
 
-use crate::attributes::*;
+use crate::attributes::next_hop::NextHop;
 use crate::formed::know;
+use crate::row::Spelled;
+use crate::table::{Before, Behind};
 use ug_types::{AttrParts, Attrs, ByteList, NoMemory};
 
 /// How many bytes the attributes take in a message.
@@ -15,7 +17,7 @@ pub fn size_of(attrs: &Attrs) -> usize
     ensures { result ≡ length (attributes attrs.now) }
 {
     let parts = attrs.parts();
-    before_next_hop_size(parts) + NEXT_HOP_SIZE + after_next_hop_size(parts)
+    before_size(parts) + next_hop_size(parts) + behind_size(parts)
 }
 
 /// Adds the attributes at the end, by ascending type, and answers where the value of NEXT_HOP stands in the list.
@@ -32,11 +34,11 @@ pub fn write_attrs(out: &mut ByteList, attrs: &Attrs) -> Result<usize, NoMemory>
     know(attrs);
     let parts = attrs.parts();
     out.reserve(size_of(attrs))?;
-    put_before_next_hop(out, parts);
-    put_next_hop(out, parts);
+    Before::put(out, parts);
+    NextHop::put(out, parts);
     // Its value has the last four bytes so far.
     let place = out.len() - 4;
-    put_after_next_hop(out, parts);
+    Behind::put(out, parts);
     Ok(place)
 }
 
@@ -47,7 +49,7 @@ pub fn size_but_next_hop(attrs: &Attrs) -> usize
     ensures { result ≡ length (attributes_but_next_hop attrs.now) }
 {
     let parts = attrs.parts();
-    before_next_hop_size(parts) + after_next_hop_size(parts)
+    before_size(parts) + behind_size(parts)
 }
 
 /// Adds all attributes but NEXT_HOP at the end, by ascending type, as before routes that stand among them. Want of memory
@@ -62,56 +64,31 @@ pub fn write_but_next_hop(out: &mut ByteList, attrs: &Attrs) -> Result<(), NoMem
     know(attrs);
     let parts = attrs.parts();
     out.reserve(size_but_next_hop(attrs))?;
-    put_before_next_hop(out, parts);
-    put_after_next_hop(out, parts);
+    Before::put(out, parts);
+    Behind::put(out, parts);
     Ok(())
 }
 
-fn put_before_next_hop(out: &mut ByteList, parts: &AttrParts)
-    requires well_formed { IsAttributes (attributes_of parts.now) }
-    requires short { HasShortValues (attributes_of parts.now) }
-    requires room { length (before_next_hop (attributes_of parts.now)) ≤ out.old.spare }
-    ensures items { out.new.items ≡ out.old.items ++ before_next_hop (attributes_of parts.now) }
-    ensures spare { out.old.spare ≤ out.new.spare + length (before_next_hop (attributes_of parts.now)) }
-{
-    put_origin(out, parts);
-    put_as_path(out, parts);
-}
-
-fn put_after_next_hop(out: &mut ByteList, parts: &AttrParts)
-    requires short { HasShortValues (attributes_of parts.now) }
-    requires room { length (after_next_hop (attributes_of parts.now)) ≤ out.old.spare }
-    ensures items { out.new.items ≡ out.old.items ++ after_next_hop (attributes_of parts.now) }
-    ensures spare { out.old.spare ≤ out.new.spare + length (after_next_hop (attributes_of parts.now)) }
-{
-    put_multi_exit_disc(out, parts);
-    put_local_pref(out, parts);
-    put_atomic_aggregate(out, parts);
-    put_aggregator(out, parts);
-    put_communities(out, parts);
-    put_originator_id(out, parts);
-    put_cluster_list(out, parts);
-}
-
-#[tactic(auto, using(ug_message::proofs::Heads::size_steps, std::proofs::lemmas::Grind::common_steps))]
-fn before_next_hop_size(parts: &AttrParts) -> usize
+fn before_size(parts: &AttrParts) -> usize
     requires { HasShortValues (attributes_of parts.now) }
     ensures size { result ≡ length (before_next_hop (attributes_of parts.now)) }
     ensures small { result < 2 ^ 18 }
 {
-    ORIGIN_SIZE + as_path_size(parts)
+    Before::size(parts)
 }
 
-fn after_next_hop_size(parts: &AttrParts) -> usize
+fn next_hop_size(parts: &AttrParts) -> usize
+    requires { HasShortValues (attributes_of parts.now) }
+    ensures size { result ≡ length (next_hop (attributes_of parts.now)) }
+    ensures small { result ≡ 7 }
+{
+    NextHop::size(parts)
+}
+
+fn behind_size(parts: &AttrParts) -> usize
     requires { HasShortValues (attributes_of parts.now) }
     ensures size { result ≡ length (after_next_hop (attributes_of parts.now)) }
-    ensures small { result < 2 ^ 18 }
+    ensures small { result < 2 ^ 19 }
 {
-    multi_exit_disc_size(parts)
-        + local_pref_size(parts)
-        + atomic_aggregate_size(parts)
-        + aggregator_size(parts)
-        + communities_size(parts)
-        + originator_id_size(parts)
-        + cluster_list_size(parts)
+    Behind::size(parts)
 }

@@ -11,7 +11,8 @@ use Rattle.ug_types.specs.contracts.key.KeyOrd.TheImpl as key_ord
 use Rattle.ug_types.specs.declared.capabilities.Capabilities.{Capabilities}
 use Rattle.ug_update.specs.Readers.{ReaderState}
 use Rattle.ug_receiver.specs.Rows.{Rows}
-use Rattle.ug_check.specs.Decoded.{key_cmp, row_texts, totals_text}
+use Rattle.ug_types.specs.Orders.{key_cmp}
+use Rattle.ug_check.specs.Decoded.{row_texts, totals_text}
 use Rattle.ug_check.specs.Checks.{IsDone}
 use Rattle.ug_check.specs.Checkers.{HasReadAll}
 use Rattle.ug_check.proofs.Streams.{settled_stream}

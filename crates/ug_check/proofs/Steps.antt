@@ -15,7 +15,7 @@ use Rattle.ug_update.specs.Readers.{ReaderState, Gives, answer_at, front, behind
 use Rattle.ug_message.proofs.Fronts.{says_first}
 use Rattle.ug_update.proofs.Goes.{one_given}
 use Rattle.ug_receiver.specs.Rows.{Rows, reading_of}
-use Rattle.ug_check.specs.Decoded.{EachSpells, ends_of_rib}
+use Rattle.ug_check.specs.Decoded.{EachSpells, end_of_rib_texts}
 use Rattle.ug_check.specs.Checkers.{HasChecked}
 
 -- ---- answers
@@ -61,10 +61,10 @@ sum_more n all before last e = omega (arith, e)
 sum_one : (n k l : ℕ) → n ≡ k → l ≡ k + 1 → n + 1 ≡ l
 sum_one n k l e f = omega (arith, e, f)
 
-ends_push : (family : Family) (texts : List (List ℕ)) (text : List ℕ) → ends_of_rib family (texts ++ text ∷ []) ≡ ends_of_rib family texts + (if ends_rib family text then 1 else 0)
+ends_push : (family : Family) (texts : List (List ℕ)) (text : List ℕ) → end_of_rib_texts family (texts ++ text ∷ []) ≡ end_of_rib_texts family texts + (if ends_rib family text then 1 else 0)
 ends_push family [] text = sum_none (if ends_rib family text then 1 else 0)
 ends_push family (t ∷ texts) text =
-    sum_more (if ends_rib family t then 1 else 0) (ends_of_rib family (texts ++ text ∷ [])) (ends_of_rib family texts) (if ends_rib family text then 1 else 0) (ends_push family texts text)
+    sum_more (if ends_rib family t then 1 else 0) (end_of_rib_texts family (texts ++ text ∷ [])) (end_of_rib_texts family texts) (if ends_rib family text then 1 else 0) (ends_push family texts text)
 
 concat_push : (texts : List (List ℕ)) (text : List ℕ) → concat (texts ++ text ∷ []) ≡ concat texts ++ text
 concat_push texts text = concat-append texts (text ∷ []) ∙ ap (λ (t : List ℕ). concat texts ++ t) (append-nil text)

@@ -9,7 +9,7 @@ use Rattle.ug_edge.specs.Told.{TakesFront, IsEnded}
 use Rattle.ug_message.specs.Received.{IsUnfinished, IsFaultyAt}
 use Rattle.ug_update.specs.Readers.{ReaderState, HasRead}
 use Rattle.ug_receiver.specs.Rows.{Rows, reading_of}
-use Rattle.ug_check.specs.Decoded.{EachSpells, ends_of_rib}
+use Rattle.ug_check.specs.Decoded.{EachSpells, end_of_rib_texts}
 use Rattle.ug_check.specs.Checks.{most_bytes}
 use Rattle.ug_check.specs.declared.stop.Stop.{Stop}
 use Rattle.ug_check.specs.declared.stop.Stop.TheVariants as stops
@@ -24,7 +24,7 @@ pub record HasChecked (reader : ReaderState) (table : Rows) (messages eors : ℕ
   pub rows : (key : Key) → (reading_of table).table key ≡ (reading_from nothing_read given).table key
   pub stale : (key : Key) → (reading_of table).stale key ≡ (reading_from nothing_read given).stale key
   pub messages_are : messages ≡ length given
-  pub eors_are : eors ≡ ends_of_rib reader.session.family texts
+  pub eors_are : eors ≡ end_of_rib_texts reader.session.family texts
 
 -- Beside that no whole message is left.
 pub record IsSettled (reader : ReaderState) (table : Rows) (messages eors : ℕ) (stream : List ℕ) : Type 0 where

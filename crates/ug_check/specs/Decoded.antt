@@ -4,12 +4,10 @@ use Rattle.std.specs.List.{concat}
 use Rattle.std.specs.List.Sorted.{IsStrictlySortedBy}
 use Rattle.std.specs.Map.{keys_of}
 use Rattle.std.specs.Fmt.{decimal}
-use Rattle.std.specs.declared.cmp.Ordering.{Ordering}
-use Rattle.std.specs.Ordering.{nat_cmp, ordering_then}
 use Rattle.ug_types.specs.declared.capabilities.Capabilities.{Capabilities}
 use Rattle.ug_types.specs.declared.family.Family.{Family}
 use Rattle.ug_types.specs.declared.key.Key.{Key}
-use Rattle.ug_types.specs.Keys.{prefix_cmp}
+use Rattle.ug_types.specs.Orders.{key_cmp}
 use Rattle.ug_types.specs.Attributes.{Attributes}
 use Rattle.ug_types.specs.Messages.{Message}
 use Rattle.ug_tables.specs.Tables.{Table, table_of}
@@ -25,14 +23,10 @@ EachSpells session [] (m ∷ ms) = ⊥
 EachSpells session (text ∷ texts) [] = ⊥
 EachSpells session (text ∷ texts) (m ∷ ms) = Spells session text m × EachSpells session texts ms
 
--- how many of these messages of a session are End-of-RIB
-abbrev pub ends_of_rib : Family → List (List ℕ) → ℕ
-ends_of_rib family [] = 0
-ends_of_rib family (text ∷ texts) = (if ends_rib family text then 1 else 0) + ends_of_rib family texts
-
--- keys order by prefix, and then by identifier
-abbrev pub key_cmp : Key → Key → Ordering
-key_cmp a b = ordering_then (prefix_cmp a.prefix b.prefix) (nat_cmp a.id b.id)
+-- how many of these texts of a session are End-of-RIB
+abbrev pub end_of_rib_texts : Family → List (List ℕ) → ℕ
+end_of_rib_texts family [] = 0
+end_of_rib_texts family (text ∷ texts) = (if ends_rib family text then 1 else 0) + end_of_rib_texts family texts
 
 -- The rows are those of the table, in key order, each key once.
 pub record AreRows (rows : List (Key × Attributes)) (table : Table) : Type 0 where
@@ -57,4 +51,4 @@ row_texts rows = map (λ (row : Key × Attributes). row_text row.0 row.1) rows
 
 -- the report on a stream of such a session, line by line
 abbrev pub check_lines : Family → List (List ℕ) → List Message → List ℕ → List (Key × Attributes) → List (List ℕ)
-check_lines family texts messages rest rows = row_texts rows ++ totals_text (length messages) (ends_of_rib family texts) (length rows) (length rest) ∷ []
+check_lines family texts messages rest rows = row_texts rows ++ totals_text (length messages) (end_of_rib_texts family texts) (length rows) (length rest) ∷ []

@@ -3,7 +3,7 @@
 ghost use Rattle.std.specs.Prelude.{◌≡◌, ◌+◌, ◌<◌, length, OnOk};
 
 use super::*;
-use crate::tests::{key, plain};
+use crate::tests::{bytes_of, key, plain};
 use std::alloc::Global;
 use std::process::Abort;
 use ug_types::{
@@ -18,31 +18,6 @@ struct Outcome {
     eors: usize,
     rest: usize,
     bad: Option<(u8, u64)>,
-}
-
-/// The bytes that the text spells in hexadecimal; M is a marker, and other signs are passed over.
-fn bytes_of(alloc: Global, text: &str) -> Result<Vec<u8>, NoMemory> {
-    let mut bytes = Vec::new(alloc);
-    let mut high: Option<u8> = None;
-    for sign in text.as_bytes() {
-        let digit = match *sign {
-            b'M' => {
-                bytes.extend_from_slice(&[255; 16])?;
-                continue;
-            }
-            b'0'..=b'9' => *sign - b'0',
-            b'A'..=b'F' => *sign - b'A' + 10,
-            _ => continue,
-        };
-        high = match high {
-            None => Some(digit),
-            Some(first) => {
-                bytes.push((first << 4) | digit)?;
-                None
-            }
-        };
-    }
-    Ok(bytes)
 }
 
 /// Takes all messages that have come.
@@ -121,7 +96,7 @@ fn gives(
     text: &str,
     expected: Expected,
 ) -> Result<(), NoMemory> {
-    let stream = bytes_of(alloc, text)?;
+    let stream = bytes_of(rt, alloc, text)?;
     let whole = run(alloc, add_path, stream.as_slice(), 1000000)?;
     let found = (whole.items.len(), whole.eors, whole.rest, whole.bad);
     assert_eq!(rt; found, expected, "{text}");
@@ -297,7 +272,7 @@ fn other_speakers(rt: HostRuntime) -> Result<(), NoMemory> {
         900F0006 0002 01 09FFFF 8F3F02ABCD 400304C0000201 500200060201 0000FDE9 4F010102 80040400000007 \
         M 0017 05 0002 01 01 M 0017 05 0001 01 01 M 0017 05 0002 00 01 M 0017 05 0002 02 01 M 001D 02 0000 0006 800F03000201 M 001D";
     gives(&rt, alloc, false, text, (6, 1, 18, None))?;
-    let stream = bytes_of(alloc, text)?;
+    let stream = bytes_of(&rt, alloc, text)?;
     let outcome = run(alloc, false, stream.as_slice(), 50)?;
     let update = Update {
         withdrawn: one_key(alloc, key(0xFF80000000000000, 9, 0))?,
@@ -342,6 +317,7 @@ fn agrees(rt: &impl Abort, alloc: Global, stream: &[u8]) -> Result<(), NoMemory>
 fn any_byte_changed(rt: HostRuntime) -> Result<(), NoMemory> {
     let alloc = rt.alloc();
     let mut stream = bytes_of(
+        &rt,
         alloc,
         "M 0043 02 0000 002C 40010100 40020602010000FDE9 800E1C 0002 01 10 20010DB8000000000000000000000001 00 3020010DB8000A \
         M 0024 02 0000 000D 800F0A 0002 01 3020010DB8000A M 001D 02 0000 0006 800F03000201 M 0017 05 0002 01 01",

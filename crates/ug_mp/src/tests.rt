@@ -15,31 +15,26 @@ use ug_types::{
     Addr, Aggregator, AttrParts, Attrs, Family, Key, NoMemory, Prefix, Segment, Sequence, Written,
 };
 
-/// Whether the bytes are the marker and then those that the text spells in hexadecimal; other signs are passed over.
-fn are_marked(bytes: &[u8], text: &str) -> bool {
-    if bytes.len() < 16 || bytes[..16] != [255; 16] {
-        return false;
-    }
-    let mut place: usize = 16;
-    let mut high: Option<u8> = None;
-    for sign in text.as_bytes() {
-        let digit = match *sign {
-            b'0'..=b'9' => *sign - b'0',
-            b'A'..=b'F' => *sign - b'A' + 10,
-            _ => continue,
+/// The bytes that words of hexadecimal digits spell; M is a marker.
+pub fn bytes_of(rt: &impl Abort, alloc: Global, text: &str) -> Result<Vec<u8>, NoMemory> {
+    let mut bytes = Vec::new(alloc);
+    for word in text.split(' ') {
+        if word == "M" {
+            bytes.extend_from_slice(&[255; 16])?;
+            continue;
+        }
+        let Ok(piece) = hex::decode(alloc, word) else {
+            panic!(rt; "no digits, or no memory: {word}");
         };
-        high = match high {
-            None => Some(digit),
-            Some(first) => {
-                if bytes.get(place).copied() != Some((first << 4) | digit) {
-                    return false;
-                }
-                place = place.wrapping_add(1);
-                None
-            }
-        };
+        bytes.extend_from_slice(piece.as_slice())?;
     }
-    place == bytes.len() && high.is_none()
+    Ok(bytes)
+}
+
+fn spells(rt: &impl Abort, alloc: Global, message: &[u8], text: &str) -> Result<(), NoMemory> {
+    let bytes = bytes_of(rt, alloc, text)?;
+    assert!(rt; message == bytes.as_slice(), "{text}");
+    Ok(())
 }
 
 /// The prefix whose first 64 bits are these.
@@ -175,7 +170,7 @@ fn announces(
     requires { HasShortValues attrs.now }
 {
     let message = announced(rt, alloc, attrs, keys)?;
-    assert!(rt; are_marked(message.bytes.as_slice(), text));
+    spells(rt, alloc, message.bytes.as_slice(), text)?;
     assert_eq!(rt; message.place, place);
     Ok(())
 }
@@ -184,8 +179,7 @@ fn announces(
 fn withdraws(rt: &impl Abort, alloc: Global, keys: &[Key], text: &str) -> Result<(), NoMemory> {
     assert!(rt; !keys.is_empty() && are_alike(keys) && fit(keys, 5000) && are_ipv6(keys));
     let message = write_withdraw6(alloc, keys)?;
-    assert!(rt; are_marked(message.as_slice(), text));
-    Ok(())
+    spells(rt, alloc, message.as_slice(), text)
 }
 
 /// End-of-RIB, and a route that is announced and withdrawn, without and with an identifier.
@@ -193,7 +187,12 @@ fn withdraws(rt: &impl Abort, alloc: Global, keys: &[Key], text: &str) -> Result
 fn one_route(rt: HostRuntime) -> Result<(), NoMemory> {
     let alloc = rt.alloc();
     let end = write_eor6(alloc)?;
-    assert!(rt; are_marked(end.as_slice(), "001D 02 0000 0006 800F03000201"));
+    spells(
+        &rt,
+        alloc,
+        end.as_slice(),
+        "M 001D 02 0000 0006 800F03000201",
+    )?;
     let attrs = attrs(&rt, plain(alloc)?);
     let keys = [key(0x20010DB8000A0000, 48, 0)];
     announces(
@@ -201,14 +200,14 @@ fn one_route(rt: HostRuntime) -> Result<(), NoMemory> {
         alloc,
         &attrs,
         &keys,
-        "0043 02 0000 002C 40010100 40020602010000FDE9 800E1C 0002 01 10 20010DB8000000000000000000000001 00 3020010DB8000A",
+        "M 0043 02 0000 002C 40010100 40020602010000FDE9 800E1C 0002 01 10 20010DB8000000000000000000000001 00 3020010DB8000A",
         43,
     )?;
     withdraws(
         &rt,
         alloc,
         &keys,
-        "0024 02 0000 000D 800F0A 0002 01 3020010DB8000A",
+        "M 0024 02 0000 000D 800F0A 0002 01 3020010DB8000A",
     )?;
     let keys = [key(0x20010DB8000A0000, 48, 7), key(0, 0, 4294967295)];
     announces(
@@ -216,14 +215,14 @@ fn one_route(rt: HostRuntime) -> Result<(), NoMemory> {
         alloc,
         &attrs,
         &keys,
-        "004C 02 0000 0035 40010100 40020602010000FDE9 800E25 0002 01 10 20010DB8000000000000000000000001 00 000000073020010DB8000A FFFFFFFF00",
+        "M 004C 02 0000 0035 40010100 40020602010000FDE9 800E25 0002 01 10 20010DB8000000000000000000000001 00 000000073020010DB8000A FFFFFFFF00",
         43,
     )?;
     withdraws(
         &rt,
         alloc,
         &keys,
-        "002D 02 0000 0016 800F13 0002 01 000000073020010DB8000A FFFFFFFF00",
+        "M 002D 02 0000 0016 800F13 0002 01 000000073020010DB8000A FFFFFFFF00",
     )
 }
 
@@ -260,7 +259,7 @@ fn everything(rt: HostRuntime) -> Result<(), NoMemory> {
         alloc,
         &attrs,
         &keys,
-        "00A6 02 0000 008F 40010102 40020602010000FDE9 80040400000005 400504000000C8 400600 C007080000FC000A000002 C00808FDE80001FFFFFF01 8009040A000001 800A040A000003 \
+        "M 00A6 02 0000 008F 40010102 40020602010000FDE9 80040400000005 400504000000C8 400600 C007080000FC000A000002 C00808FDE80001FFFFFF01 8009040A000001 800A040A000003 \
         800E4A 0002 01 10 20010DB8000000000000000000000001 00 00 0180 08FF 09FF80 3FFFFFFFFFFFFFFFFE 40FFFFFFFFFFFFFFFF 41FFFFFFFFFFFFFFFF00 80FFFFFFFFFFFFFFFF0000000000000000",
         96,
     )

@@ -5,6 +5,7 @@ ghost use Rattle.ug_types.specs.Keys.{weight_of};
 ghost use Rattle.ug_message.specs.Spelling.{route};
 ghost use Rattle.ug_message.specs.Spellable.{is_route};
 
+use byteorder::{BigEndian, ByteOrder};
 use ug_message::{put, put_u32};
 use ug_types::{ByteList, Key, NoMemory, Prefix};
 
@@ -49,8 +50,17 @@ fn put_prefix(out: &mut ByteList, prefix: &Prefix)
     ensures { out.new.items ≡ out.old.items ++ prefix.now.len ∷ take (bytes_for prefix.now.len) (to_be_bytes w128 prefix.now.bits) }
 {
     put(out, &[prefix.len]);
-    let bytes = prefix.bits.to_be_bytes();
+    let bytes = sixteen_bytes(prefix.bits);
     put(out, &bytes[..(prefix.len as usize + 7) / 8]);
+}
+
+/// The bytes of a number, the highest first.
+fn sixteen_bytes(bits: u128) -> [u8; 16]
+    ensures { result ≡ to_be_bytes w128 bits }
+{
+    let mut bytes = [0; 16];
+    BigEndian::write_u128(&mut bytes, bits);
+    bytes
 }
 
 /// A key is one of its prefix's family.

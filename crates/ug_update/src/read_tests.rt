@@ -3,6 +3,7 @@
 ghost use Rattle.std.specs.Prelude.{◌≡◌, ◌+◌, ◌<◌, ◌≤◌, length, OnOk};
 
 use super::*;
+use crate::tests::bytes_of;
 use std::alloc::Global;
 use std::process::Abort;
 use ug_types::{
@@ -17,31 +18,6 @@ struct Outcome {
     eors: usize,
     rest: usize,
     bad: Option<(u8, u64)>,
-}
-
-/// The bytes that the text spells in hexadecimal; M is a marker, and other signs are passed over.
-fn bytes_of(alloc: Global, text: &str) -> Result<Vec<u8>, NoMemory> {
-    let mut bytes = Vec::new(alloc);
-    let mut high: Option<u8> = None;
-    for sign in text.as_bytes() {
-        let digit = match *sign {
-            b'M' => {
-                bytes.extend_from_slice(&[255; 16])?;
-                continue;
-            }
-            b'0'..=b'9' => *sign - b'0',
-            b'A'..=b'F' => *sign - b'A' + 10,
-            _ => continue,
-        };
-        high = match high {
-            None => Some(digit),
-            Some(first) => {
-                bytes.push((first << 4) | digit)?;
-                None
-            }
-        };
-    }
-    Ok(bytes)
 }
 
 /// Takes all messages that have come.
@@ -130,7 +106,7 @@ fn gives(
     text: &str,
     expected: Expected,
 ) -> Result<(), NoMemory> {
-    let stream = bytes_of(alloc, text)?;
+    let stream = bytes_of(rt, alloc, text)?;
     let whole = run(alloc, false, extended, stream.as_slice(), 1000000)?;
     let found = (whole.items.len(), whole.eors, whole.rest, whole.bad);
     assert_eq!(rt; found, expected, "{text}");
@@ -270,7 +246,7 @@ fn other_speakers(rt: HostRuntime) -> Result<(), NoMemory> {
         M 001B 02 0000 0004 40010100 M 0017";
     gives(&rt, alloc, false, text, (9, 2, 18, None))?;
     gives(&rt, alloc, true, text, (9, 2, 18, None))?;
-    let stream = bytes_of(alloc, text)?;
+    let stream = bytes_of(&rt, alloc, text)?;
     let outcome = run(alloc, false, false, stream.as_slice(), 50)?;
     let attrs = foreign(&rt, alloc)?;
     let announced = key(0x0A000000, 8, 0);
@@ -291,7 +267,7 @@ fn identifiers(rt: HostRuntime) -> Result<(), NoMemory> {
     let alloc = rt.alloc();
     let text =
         "M 0045 02 0007 00000009 090AFF 0021 400304C0000201 8F3F02ABCD 500200060201 0000FDE9 4F010102 80040400000007 00000007 080A";
-    let stream = bytes_of(alloc, text)?;
+    let stream = bytes_of(&rt, alloc, text)?;
     let outcome = run(alloc, true, false, stream.as_slice(), 7)?;
     assert_eq!(rt;
         (outcome.items.len(), outcome.rest, outcome.bad),
@@ -306,15 +282,15 @@ fn identifiers(rt: HostRuntime) -> Result<(), NoMemory> {
         key(0x0A000000, 8, 7),
         key(0x0A800000, 9, 9),
     );
-    let stream = bytes_of(alloc, "M 001D 02 0006 00000009 210A 0000")?;
+    let stream = bytes_of(&rt, alloc, "M 001D 02 0006 00000009 210A 0000")?;
     let outcome = run(alloc, true, false, stream.as_slice(), 7)?;
     assert_eq!(rt; outcome.bad, Some((6, 25)));
     Ok(())
 }
 
 /// A message of 4,097 bytes, which withdraws the default route again and again.
-fn long_message(alloc: Global) -> Result<Vec<u8>, NoMemory> {
-    let mut stream = bytes_of(alloc, "M 1001 02 0FEA")?;
+fn long_message(rt: &impl Abort, alloc: Global) -> Result<Vec<u8>, NoMemory> {
+    let mut stream = bytes_of(rt, alloc, "M 1001 02 0FEA")?;
     for _ in 0..4074 {
         stream.push(0)?;
     }
@@ -325,7 +301,7 @@ fn long_message(alloc: Global) -> Result<Vec<u8>, NoMemory> {
 #[test]
 fn extended(rt: HostRuntime) -> Result<(), NoMemory> {
     let alloc = rt.alloc();
-    let stream = long_message(alloc)?;
+    let stream = long_message(&rt, alloc)?;
     assert_eq!(rt; stream.len(), 4097);
     let plain = run(alloc, false, false, stream.as_slice(), 4096)?;
     assert_eq!(rt;
@@ -345,6 +321,7 @@ fn extended(rt: HostRuntime) -> Result<(), NoMemory> {
 fn long_stream(rt: HostRuntime) -> Result<(), NoMemory> {
     let alloc = rt.alloc();
     let one = bytes_of(
+        &rt,
         alloc,
         "M 0017 02 0000 0000 M 003D 02 0003 090AFF 0021 400304C0000201 8F3F02ABCD 500200060201 0000FDE9 4F010102 80040400000007 080A",
     )?;
@@ -368,7 +345,7 @@ fn long_stream(rt: HostRuntime) -> Result<(), NoMemory> {
 #[test]
 fn faults_stay(rt: HostRuntime) -> Result<(), NoMemory> {
     let alloc = rt.alloc();
-    let stream = bytes_of(alloc, "M 0013 04")?;
+    let stream = bytes_of(&rt, alloc, "M 0013 04")?;
     let mut reader = Reader::new(alloc, false, false);
     reader.feed(stream.as_slice())?;
     assert!(rt;
@@ -416,6 +393,7 @@ fn agrees(rt: &impl Abort, alloc: Global, stream: &[u8]) -> Result<(), NoMemory>
 fn any_byte_changed(rt: HostRuntime) -> Result<(), NoMemory> {
     let alloc = rt.alloc();
     let mut stream = bytes_of(
+        &rt,
         alloc,
         "M 002D 02 0000 0014 40010100 40020602010000FDE9 400304C0000201 080A M 0019 02 0002 080A 0000 M 0017 05 0001 01 01",
     )?;

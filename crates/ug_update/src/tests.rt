@@ -17,31 +17,26 @@ use ug_types::{
     Segment, SegmentList, Sequence, Written,
 };
 
-/// Whether the bytes are the marker and then those that the text spells in hexadecimal; other signs are passed over.
-fn are_marked(bytes: &[u8], text: &str) -> bool {
-    if bytes.len() < 16 || bytes[..16] != [255; 16] {
-        return false;
-    }
-    let mut place: usize = 16;
-    let mut high: Option<u8> = None;
-    for sign in text.as_bytes() {
-        let digit = match *sign {
-            b'0'..=b'9' => *sign - b'0',
-            b'A'..=b'F' => *sign - b'A' + 10,
-            _ => continue,
+/// The bytes that words of hexadecimal digits spell; M is a marker.
+pub fn bytes_of(rt: &impl Abort, alloc: Global, text: &str) -> Result<Vec<u8>, NoMemory> {
+    let mut bytes = Vec::new(alloc);
+    for word in text.split(' ') {
+        if word == "M" {
+            bytes.extend_from_slice(&[255; 16])?;
+            continue;
+        }
+        let Ok(piece) = hex::decode(alloc, word) else {
+            panic!(rt; "no digits, or no memory: {word}");
         };
-        high = match high {
-            None => Some(digit),
-            Some(first) => {
-                if bytes.get(place).copied() != Some((first << 4) | digit) {
-                    return false;
-                }
-                place = place.wrapping_add(1);
-                None
-            }
-        };
+        bytes.extend_from_slice(piece.as_slice())?;
     }
-    place == bytes.len() && high.is_none()
+    Ok(bytes)
+}
+
+fn spells(rt: &impl Abort, alloc: Global, message: &[u8], text: &str) -> Result<(), NoMemory> {
+    let bytes = bytes_of(rt, alloc, text)?;
+    assert!(rt; message == bytes.as_slice(), "{text}");
+    Ok(())
 }
 
 fn key(bits: u32, len: u8, id: u32) -> Key
@@ -183,7 +178,7 @@ fn announces(
     assert!(rt; !keys.is_empty() && are_alike(keys) && fit(keys, 500));
     assert!(rt; are_ipv4(keys) && has_ipv4(attrs));
     let message = write_update(alloc, attrs, keys)?;
-    assert!(rt; are_marked(message.bytes.as_slice(), text));
+    spells(rt, alloc, message.bytes.as_slice(), text)?;
     assert_eq!(rt; message.place, place);
     Ok(())
 }
@@ -192,8 +187,7 @@ fn announces(
 fn withdraws(rt: &impl Abort, alloc: Global, keys: &[Key], text: &str) -> Result<(), NoMemory> {
     assert!(rt; !keys.is_empty() && are_alike(keys) && fit(keys, 500) && are_ipv4(keys));
     let message = write_withdraw(alloc, keys)?;
-    assert!(rt; are_marked(message.as_slice(), text));
-    Ok(())
+    spells(rt, alloc, message.as_slice(), text)
 }
 
 /// ORIGIN IGP, an AS_PATH of 65001, and NEXT_HOP 192.0.2.1.
@@ -215,10 +209,10 @@ fn one_route(rt: HostRuntime) -> Result<(), NoMemory> {
         alloc,
         &attrs,
         keys.as_slice(),
-        "002D 02 0000 0014 40010100 40020602010000FDE9 400304C0000201 080A",
+        "M 002D 02 0000 0014 40010100 40020602010000FDE9 400304C0000201 080A",
         39,
     )?;
-    withdraws(&rt, alloc, keys.as_slice(), "0019 02 0002 080A 0000")
+    withdraws(&rt, alloc, keys.as_slice(), "M 0019 02 0002 080A 0000")
 }
 
 #[test]
@@ -231,7 +225,7 @@ fn identifiers(rt: HostRuntime) -> Result<(), NoMemory> {
         alloc,
         &attrs,
         keys.as_slice(),
-        "0037 02 0000 0014 40010100 40020602010000FDE9 400304C0000201 00000007080A 00000009080A",
+        "M 0037 02 0000 0014 40010100 40020602010000FDE9 400304C0000201 00000007080A 00000009080A",
         39,
     )?;
     let second = tens(alloc, &[9])?;
@@ -239,28 +233,28 @@ fn identifiers(rt: HostRuntime) -> Result<(), NoMemory> {
         &rt,
         alloc,
         second.as_slice(),
-        "001D 02 0006 00000009080A 0000",
+        "M 001D 02 0006 00000009080A 0000",
     )
 }
 
 #[test]
 fn end_of_rib(rt: HostRuntime) -> Result<(), NoMemory> {
-    let message = write_eor(rt.alloc())?;
-    assert!(rt; are_marked(message.as_slice(), "0017 02 0000 0000"));
-    Ok(())
+    let alloc = rt.alloc();
+    let message = write_eor(alloc)?;
+    spells(&rt, alloc, message.as_slice(), "M 0017 02 0000 0000")
 }
 
 /// The begin and the end of a refresh.
 #[test]
 fn marks(rt: HostRuntime) -> Result<(), NoMemory> {
     for (family, begin, text) in [
-        (Family::V4, true, "0017 05 0001 01 01"),
-        (Family::V4, false, "0017 05 0001 02 01"),
-        (Family::V6, true, "0017 05 0002 01 01"),
-        (Family::V6, false, "0017 05 0002 02 01"),
+        (Family::V4, true, "M 0017 05 0001 01 01"),
+        (Family::V4, false, "M 0017 05 0001 02 01"),
+        (Family::V6, true, "M 0017 05 0002 01 01"),
+        (Family::V6, false, "M 0017 05 0002 02 01"),
     ] {
         let message = write_mark(rt.alloc(), family, begin)?;
-        assert!(rt; are_marked(message.as_slice(), text));
+        spells(&rt, rt.alloc(), message.as_slice(), text)?;
     }
     Ok(())
 }
@@ -281,12 +275,12 @@ fn long_path(rt: HostRuntime) -> Result<(), NoMemory> {
 fn long_text(alloc: Global) -> Result<String, NoMemory> {
     let mut text = String::from_str(
         alloc,
-        "042C 02 0000 0413 40010100 5002 0404 0201 0000FDE9 02FF",
+        "M 042C 02 0000 0413 40010100 5002 0404 0201 0000FDE9 02FF",
     )?;
     for _ in 0..255 {
         text.push_str("0000FDF2")?;
     }
-    text.push_str("400304C0000201 080A")?;
+    text.push_str(" 400304C0000201 080A")?;
     Ok(text)
 }
 
@@ -305,7 +299,7 @@ fn reflected(rt: HostRuntime) -> Result<(), NoMemory> {
         alloc,
         &attrs,
         keys.as_slice(),
-        "003C 02 0000 0023 40010100 400200 400304CB007109 40050400000064 8009040A000001 800A04C00002FE 080A",
+        "M 003C 02 0000 0023 40010100 400200 400304CB007109 40050400000064 8009040A000001 800A04C00002FE 080A",
         33,
     )
 }
@@ -346,7 +340,7 @@ fn everything(rt: HostRuntime) -> Result<(), NoMemory> {
         alloc,
         &attrs,
         &keys,
-        "008B 02 0000 0057 40010101 400210 02010000FC00 01020000FC010000FC02 400304C6336401 80040400000005 400504000000C8 400600 C007080000FC000A000002 C00808FDE80001FFFFFF01 8009040A000001 800A080A0000030A000004 00 0180 07FE 08FF 09FF80 18FFFFFF 19FFFFFF80 1FFFFFFFFE 20FFFFFFFF",
+        "M 008B 02 0000 0057 40010101 400210 02010000FC00 01020000FC010000FC02 400304C6336401 80040400000005 400504000000C8 400600 C007080000FC000A000002 C00808FDE80001FFFFFF01 8009040A000001 800A080A0000030A000004 00 0180 07FE 08FF 09FF80 18FFFFFF 19FFFFFF80 1FFFFFFFFE 20FFFFFFFF",
         49,
     )
 }

@@ -1,4 +1,4 @@
-use Rattle.std.proofs.Common.{◌≡◌, true, List, ℕ, map, sym, ap, subst, ◌∙◌}
+use Rattle.std.proofs.Common.{◌≡◌, true, List, ℕ, map, subst}
 use Rattle.std.specs.List.{list_all}
 use Rattle.ug_types.specs.declared.attrs.Segment.{Segment}
 use Rattle.ug_types.specs.Attributes.{attributes_of, segment_of}

@@ -1,4 +1,4 @@
-use Rattle.std.proofs.Common.{◌+◌, ◌-◌, ◌≤◌, refl, ◌∙◌, ap, Result, ℕ, arith, length, drop}
+use Rattle.std.proofs.Common.{◌+◌, ◌≤◌, refl, ◌∙◌, ap, Result, ℕ, arith, length, drop}
 use Rattle.std.proofs.lemmas.List.{length-drop}
 use Rattle.ug_message.specs.Walking.{at}
 use Rattle.ug_message.specs.AttributesRead.{ReadSoFar, attribute_step}

@@ -11,5 +11,5 @@ joined old one two bytes p first second is =
 
 pub returns : goal.returns
 returns c =
-    let whole = joined c.args.out.now.items c.put.new.out.items c.put-2.new.out.items c.to_be_bytes-bytes.result (record { family = c.prefix.inside.family; bits = c.prefix.inside.bits; len = c.prefix.inside.len }) c.put.ensures.items c.put-2.ensures.items c.to_be_bytes-bytes.ensures in
+    let whole = joined c.args.out.now.items c.put.new.out.items c.put-2.new.out.items c.sixteen_bytes-bytes.result (record { family = c.prefix.inside.family; bits = c.prefix.inside.bits; len = c.prefix.inside.len }) c.put.ensures.items c.put-2.ensures.items c.sixteen_bytes-bytes.ensures in
     subst (λ (p : IpPrefix). c.put-2.new.out.items ≡ c.args.out.now.items ++ p.len ∷ take (bytes_for p.len) (to_be_bytes w128 p.bits)) c.prefix.view_is whole
