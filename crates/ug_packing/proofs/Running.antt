@@ -2,7 +2,7 @@
 use Rattle.std.proofs.Common.{◌≡◌, ℕ, zero, suc, ◌+◌, ◌-◌, ◌<◌, ◌≤◌, Bool, true, false, List, [], ◌∷◌, ◌++◌, length, map, take, drop, refl, sym, ap, subst, ◌∙◌, arith}
 use Rattle.std.specs.Prelude.{slice_index_or, if◌then◌else◌}
 use Rattle.ug_types.specs.declared.key.Key.{Key}
-use Rattle.ug_plain_rules.specs.Packing.{runs_from, runs}
+use Rattle.ug_packing.specs.Packing.{runs_from, runs}
 
 -- the keys from one place up to another
 abbrev pub between : {T : Type 0} → ℕ → ℕ → List T → List T

@@ -7,7 +7,7 @@ use Rattle.ug_board.specs.declared.steps.LaneSaid.TheVariants.{Begun, Hand, Idle
 use Rattle.ug_board.specs.Rules.{IsMachine, IsNext, LeavesHanded, says_more}
 use Rattle.ug_plain_rules.specs.Seats.{Seat, Plain}
 use Rattle.ug_plain_rules.specs.Plain.{plain_rules, front_of, texts_at, lane_reply, after_lane, seats_due}
-use Rattle.ug_seats.specs.Seen.{Leaves}
+use Rattle.ug_plain.specs.Seated.{Leaves}
 
 pub leaves : (said : LaneSaid) (t : Seat) (buf : List ℕ) (p : ℕ) (s : Plain) → slice_get s.seats p ≡ Some t → Leaves t said buf → LeavesHanded plain_rules (Next p) said s buf
 leaves (Hand session made len) t buf p s there is = is ∙ ap (λ (x : Option Seat). front_of (texts_at x)) (sym there)

@@ -5,8 +5,8 @@ use Rattle.std.specs.Option.{option_map}
 use Rattle.ug_world.specs.declared.peer_state.PeerState.{PeerState}
 use Rattle.ug_world.specs.World.{World}
 use Rattle.ug_plain_rules.specs.Seats as rules
-use Rattle.ug_seats.specs.declared.seat.Seat.{Seat}
-use Rattle.ug_seats.specs.Seen.{seat_of, seats_of, HasRoom, HaveRoom}
+use Rattle.ug_plain.specs.declared.seat.Seat.{Seat}
+use Rattle.ug_plain.specs.Seated.{seat_of, seats_of, HasRoom, HaveRoom}
 
 pub few : (peers : List PeerState) (seats : List Seat) → HaveRoom peers seats → length seats ≤ length peers
 few peers [] room = omega arith

@@ -8,8 +8,8 @@ use Rattle.ug_world.specs.declared.peer_state.PeerState.{PeerState}
 use Rattle.ug_world.specs.World.{World}
 use Rattle.ug_plain_rules.specs.Seats as rules
 use Rattle.ug_plain_rules.specs.Seats.{with_event, with_event_from}
-use Rattle.ug_seats.specs.declared.seat.Seat.{Seat}
-use Rattle.ug_seats.specs.Seen.{seat_of, seats_of}
+use Rattle.ug_plain.specs.declared.seat.Seat.{Seat}
+use Rattle.ug_plain.specs.Seated.{seat_of, seats_of}
 use Rattle.ug_plain.specs.declared.knowing.Known.{Known}
 use Rattle.ug_plain.specs.Knowing.{IsKnown, AreKnown, seat_known}
 

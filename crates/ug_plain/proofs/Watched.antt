@@ -9,8 +9,8 @@ use Rattle.ug_world.specs.declared.peer_state.PeerState.{PeerState}
 use Rattle.ug_world.specs.World.{World}
 use Rattle.ug_world.specs.After.{after}
 use Rattle.ug_plain_rules.specs.Changes.{keys_at}
-use Rattle.ug_news.specs.declared.watch.Watch.{Watch}
-use Rattle.ug_news.specs.Slates.{IsBefore, IsWatch, HasAddPath, changes_keys}
+use Rattle.ug_plain.specs.declared.watch.Watch.{Watch}
+use Rattle.ug_plain.specs.Slates.{IsBefore, IsWatch, HasAddPath, changes_keys}
 use Rattle.ug_plain.specs.Knowing.{AreKeysWithin}
 use Rattle.ug_plain.proofs.Untold.{add_path_kept}
 
