@@ -12,8 +12,8 @@ use ug_config::ConfigRefusal;
 use ug_plain::Plain;
 use ug_types::{NoMemory, Steps};
 
-/// What comes of the first turn of which something else has to come, on a board in the world of a configuration; None
-/// where there is no such turn. Spaces in what has to come are for reading.
+/// The place of the first turn of which something else has to come, counted from 0, and what comes of it, on a board in
+/// the world of a configuration; None where there is no such turn. Spaces in what has to come are for reading.
 pub fn difference<L: Ledger>(
     alloc: Global,
     config: &[u8],
@@ -22,11 +22,11 @@ pub fn difference<L: Ledger>(
 ) -> Result<Option<String>, ConfigRefusal> {
     let mut board = board_of(alloc, config)?;
     let mut buf = buffer(alloc)?;
-    for (turn, wanted) in turns {
+    for (place, (turn, wanted)) in turns.iter().enumerate() {
         let said = said_to(alloc, &mut board, *turn, &mut buf, steps)?;
         let wanted = without_spaces(alloc, wanted)?;
         if said.as_str() != wanted.as_str() {
-            return Ok(Some(said));
+            return Ok(Some(format!(in alloc; "{place}: {said}")?));
         }
     }
     Ok(None)
