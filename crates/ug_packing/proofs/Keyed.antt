@@ -7,7 +7,7 @@ use Rattle.ug_types.specs.Attributes.{Attributes}
 use Rattle.ug_tables.specs.Tables.{Table}
 use Rattle.ug_tables.specs.Decisions.{decided_attributes, decided_option}
 use Rattle.ug_packing.specs.Seen.{key_where}
-use Rattle.ug_packing.proofs.Running.{drop_one}
+use Rattle.ug_packing.proofs.Running.{drop_one, all_of, length_drop}
 use Rattle.ug_packing.specs.Packing.{Shared, are_same, with_route, by_attributes, is_gone, is_new, differ}
 
 -- the value under a key at a place
@@ -21,12 +21,6 @@ filter_on {T} test xs i x inside is passes = ap (filter test) (drop_one xs i x i
 
 pub filter_off : {T : Type 0} (test : T → Bool) (xs : List T) (i : ℕ) (x : T) → i < length xs → x ≡ slice_index_or xs i x → test x ≡ false → filter test (drop i xs) ≡ filter test (drop (i + 1) xs)
 filter_off {T} test xs i x inside is fails = ap (filter test) (drop_one xs i x inside is) ∙ (rw fails refl)
-
-drop_all : {T : Type 0} (xs : List T) (n : ℕ) → length xs ≤ n → drop n xs ≡ []
-drop_all [] zero le = refl
-drop_all [] (suc n) le = refl
-drop_all (x ∷ xs) zero le = absurd (omega arith)
-drop_all (x ∷ xs) (suc n) le = drop_all xs n (omega arith)
 
 where_filter : (b : Bool) (key : Key) (rest : List Key) → (if b then key ∷ rest else rest) ≡ key_where b key ++ rest
 where_filter true key rest = refl
@@ -69,9 +63,6 @@ module _ (keys : List Key) (old new : List (Option Attributes)) (i : ℕ) (key :
       ∙ new_where groups (is_new before after key)
       ∙ ap (λ (b : Bool). by_attributes after (if b then with_route n key groups else groups) (filter (is_new before after) (drop (i + 1) keys))) (sym new_is_so)
 
-pub no_keys : (keys : List Key) (n : ℕ) → length keys ≤ n → drop n keys ≡ []
-no_keys keys n le = drop_all keys n le
-
 -- ---- same attributes
 
 differ_by : (x y : Attributes) (d : (x ≡ y) ⊎ (x ≡ y → ⊥)) (e : (Some x ≡ Some y) ⊎ (Some x ≡ Some y → ⊥)) → not (elim d [ inl same ↦ true | inr other ↦ false ]) ≡ (elim e [ inl same ↦ false | inr other ↦ true ])
@@ -110,18 +101,6 @@ dropped routes table keys n is = ap (drop n) is ∙ map_drop table n keys
 -- what stands from a place on, as a slice
 abbrev pub rest_from : {T : Type 0} → ℕ → List T → List T
 rest_from n xs = take (length xs - n) (drop n xs)
-
-all_of : {T : Type 0} (xs : List T) (n : ℕ) → length xs ≤ n → take n xs ≡ xs
-all_of [] zero le = refl
-all_of [] (suc n) le = refl
-all_of (x ∷ xs) zero le = absurd (omega arith)
-all_of {T} (x ∷ xs) (suc n) le = ap (λ (l : List T). x ∷ l) (all_of xs n (omega arith))
-
-length_drop : {T : Type 0} (xs : List T) (n : ℕ) → length (drop n xs) ≡ length xs - n
-length_drop [] zero = refl
-length_drop [] (suc n) = omega arith
-length_drop (x ∷ xs) zero = omega arith
-length_drop (x ∷ xs) (suc n) = omega (arith, length_drop xs n)
 
 pub rest_is : {T : Type 0} (n : ℕ) (xs : List T) → rest_from n xs ≡ drop n xs
 rest_is n xs = all_of (drop n xs) (length xs - n) (omega (arith, length_drop xs n))

@@ -2,15 +2,10 @@
 use Rattle.std.proofs.Common.{◌≡◌, inl, inr, ℕ, zero, suc, ◌+◌, ◌<◌, ◌≤◌, List, [], ◌∷◌, ◌++◌, length, take, drop, min, refl, sym, ap, ◌∙◌, arith}
 use Rattle.std.proofs.lemmas.Bool.{cases_lt}
 use Rattle.std.proofs.lemmas.List.{length-take, take_at}
+use Rattle.ug_packing.proofs.Running.{all_of}
 
 pub front_size : (n k : ℕ) (text : List ℕ) → n ≡ min (length text) k → n ≡ length (take k text)
 front_size n k text is = omega (arith, is, length-take k text)
-
-all_of : {T : Type 0} (xs : List T) (n : ℕ) → length xs ≤ n → take n xs ≡ xs
-all_of [] zero le = refl
-all_of [] (suc n) le = refl
-all_of (x ∷ xs) zero le = absurd (omega arith)
-all_of {T} (x ∷ xs) (suc n) le = ap (λ (l : List T). x ∷ l) (all_of xs n (omega arith))
 
 front_same : (n k : ℕ) (text : List ℕ) → n ≡ min (length text) k → take n text ≡ take k text
 front_same n k text is =

@@ -20,6 +20,7 @@ use Rattle.ug_plain_rules.specs.Changes.{keys_at, in_marks, messages_by, changes
 use Rattle.ug_plain_rules.specs.Seats.{texts_of}
 use Rattle.ug_packing.specs.Seen.{texts_in}
 use Rattle.ug_plain.specs.Slates.{IsWatch, updates_by}
+use Rattle.ug_plain.proofs.Watched.{peer_is}
 
 pub two_parts : (c : Capabilities) (t0 t1 t2 : List (List ℕ)) (ms ns : List Message) → t1 ≡ t0 ++ texts_in c ms → t2 ≡ t1 ++ texts_in c ns → t2 ≡ t0 ++ texts_in c (ms ++ ns)
 two_parts c t0 t1 t2 ms ns first second =
@@ -50,15 +51,11 @@ messages_are : (b : Bool) (peer : Peer) (old new : Table) (before now : List Key
 messages_are true peer old new before now = refl
 messages_are false peer old new before now = refl
 
-peer_is : (x : Option PeerState) (s : PeerState) (peer : Peer) → x ≡ Some s → option_map (λ t. t.peer) x ≡ Some peer → peer ≡ s.peer
-peer_is None s peer e f = absurd cc
-peer_is (Some t) s peer e f = let same : t ≡ s = cc in let of : t.peer ≡ peer = cc in sym of ∙ ap (λ (u : PeerState). u.peer) same
-
 module _ (e : Happening) (p : ℕ) (s : PeerState) (old world : World) (again : Bool) (peer : Peer) (c : Capabilities) (before now : List Key) (world_is : world ≡ after old e) (there : slice_get world.peers p ≡ Some s)
     (peer_there : option_map (λ t. t.peer) (slice_get world.peers p) ≡ Some peer) (caps : c ≡ capabilities_of peer) (again_is : again ≡ (is_request e && is_about e s))
     (before_are : before ≡ keys_at e s.peer.add_path old) (now_are : now ≡ keys_at e s.peer.add_path (after old e)) where
   same_peer : peer ≡ s.peer
-  same_peer = peer_is (slice_get world.peers p) s peer there peer_there
+  same_peer = sym (peer_is (slice_get world.peers p) s peer there peer_there)
 
   pub changes_are : texts_in c (in_marks (again && peer.enhanced_refresh) (updates_by again c (private_table p old) (private_table p world) before now)) ≡ texts_of s (changes e p s old world)
   unfolding changes
@@ -78,7 +75,7 @@ module _ (p : ℕ) (s : PeerState) (world : World) (peer : Peer) (c : Capabiliti
   whole_is =
       ap (λ (d : Capabilities). texts_in d (announcements d (private_table p world) keys ++ withdrawing [] ∷ [])) caps
       ∙ ap (λ (l : List Key). texts_in (capabilities_of peer) (announcements (capabilities_of peer) (private_table p world) l ++ withdrawing [] ∷ [])) keys_are
-      ∙ ap (λ (q : Peer). texts_in (capabilities_of q) (announcements (capabilities_of q) (private_table p world) (keys_of q.add_path world.routes) ++ withdrawing [] ∷ [])) (peer_is (slice_get world.peers p) s peer there peer_there)
+      ∙ ap (λ (q : Peer). texts_in (capabilities_of q) (announcements (capabilities_of q) (private_table p world) (keys_of q.add_path world.routes) ++ withdrawing [] ∷ [])) (sym (peer_is (slice_get world.peers p) s peer there peer_there))
 
   pub same_add_path : keys_of peer.add_path world.routes ≡ keys_of s.peer.add_path world.routes
-  same_add_path = ap (λ (q : Peer). keys_of q.add_path world.routes) (peer_is (slice_get world.peers p) s peer there peer_there)
+  same_add_path = ap (λ (q : Peer). keys_of q.add_path world.routes) (sym (peer_is (slice_get world.peers p) s peer there peer_there))

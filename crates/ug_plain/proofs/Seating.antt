@@ -3,18 +3,13 @@ use Rattle.std.proofs.Common.{◌≡◌, ℕ, zero, suc, ◌+◌, ◌<◌, ◌�
 use Rattle.std.specs.Prelude.{slice_get, slice_index_or}
 use Rattle.std.specs.Option.{option_map}
 use Rattle.ug_world.specs.declared.peer_state.PeerState.{PeerState}
+use Rattle.ug_packing.proofs.Running.{none_left}
 use Rattle.ug_plain_rules.specs.Seats as rules
 use Rattle.ug_plain_rules.specs.Plain.{seat_due, seats_due, is_quiet, are_quiet}
 use Rattle.ug_plain.specs.declared.seat.Seat.{Seat}
 use Rattle.ug_plain.specs.Seated.{seat_of, seats_of, HasRoom, HaveRoom}
 
-drop_end : {T : Type 0} (xs : List T) (n : ℕ) → length xs ≤ n → drop n xs ≡ []
-drop_end [] zero le = refl
-drop_end [] (suc n) le = refl
-drop_end (x ∷ xs) zero le = absurd (omega arith)
-drop_end (x ∷ xs) (suc n) le = drop_end xs n (omega arith)
-
-sessions_is : (s : PeerState) (n : ℕ) → Some s.sessions ≡ Some n → s.sessions ≡ n
+pub sessions_is : (s : PeerState) (n : ℕ) → Some s.sessions ≡ Some n → s.sessions ≡ n
 sessions_is s n e = cc
 
 -- what is due from a place on
@@ -52,13 +47,13 @@ due_none : (peers : List PeerState) → seats_due peers [] ≡ 0
 due_none peers = refl
 
 pub due_end : (peers : List PeerState) (seats : List Seat) (p : ℕ) → length seats ≤ p → seats_due (drop p peers) (seats_of (drop p seats)) ≡ 0
-due_end peers seats p le = ap (λ (rest : List Seat). seats_due (drop p peers) (seats_of rest)) (drop_end seats p le) ∙ due_none (drop p peers)
+due_end peers seats p le = ap (λ (rest : List Seat). seats_due (drop p peers) (seats_of rest)) (none_left seats p le) ∙ due_none (drop p peers)
 
 quiet_none : (peers : List PeerState) → are_quiet peers [] ≡ true
 quiet_none peers = refl
 
 pub quiet_end : (peers : List PeerState) (seats : List Seat) (p : ℕ) → length seats ≤ p → are_quiet (drop p peers) (seats_of (drop p seats)) ≡ true
-quiet_end peers seats p le = ap (λ (rest : List Seat). are_quiet (drop p peers) (seats_of rest)) (drop_end seats p le) ∙ quiet_none (drop p peers)
+quiet_end peers seats p le = ap (λ (rest : List Seat). are_quiet (drop p peers) (seats_of rest)) (none_left seats p le) ∙ quiet_none (drop p peers)
 
 -- ---- fresh seats, one peer more
 
@@ -74,7 +69,7 @@ there_is [] p n e = absurd cc
 there_is (s ∷ peers) zero n e = (s, refl, sessions_is s n e)
 there_is (s ∷ peers) (suc p) n e = there_is peers p n e
 
-map_push : {A B : Type 0} (f : A → B) (xs : List A) (x : A) → map f (xs ++ x ∷ []) ≡ map f xs ++ f x ∷ []
+pub map_push : {A B : Type 0} (f : A → B) (xs : List A) (x : A) → map f (xs ++ x ∷ []) ≡ map f xs ++ f x ∷ []
 map_push f [] x = refl
 map_push {A} {B} f (y ∷ xs) x = ap (λ (l : List B). f y ∷ l) (map_push f xs x)
 

@@ -99,7 +99,7 @@ not_about (HasNone prefix) s s' is up same not = refl
 pub becomes : (e : Happening) (w : World) (p : ℕ) (s s' : PeerState) → slice_get w.peers p ≡ Some s → slice_get (after w e).peers p ≡ Some s' → Some s' ≡ Some (peer_after e s)
 becomes e w p s s' there later = sym later ∙ peers-after e w p ∙ ap (option_map (peer_after e)) there
 
-same_some : (s t : PeerState) → Some s ≡ Some t → s ≡ t
+pub same_some : (s t : PeerState) → Some s ≡ Some t → s ≡ t
 same_some s t e = cc
 
 pub name_kept : (e : Happening) (w : World) (p : ℕ) (s s' : PeerState) → slice_get w.peers p ≡ Some s → slice_get (after w e).peers p ≡ Some s' → s'.peer.name ≡ s.peer.name

@@ -5,7 +5,8 @@ use Rattle.ug_types.specs.Attributes.{Attributes}
 use Rattle.ug_tables.specs.Tables.{Table}
 use Rattle.ug_packing.specs.Packing.{Shared, by_attributes, is_gone, is_new}
 use Rattle.ug_packing.specs.Seen.{key_where}
-use Rattle.ug_packing.proofs.Keyed.{gone_step, all_step, new_step, no_keys}
+use Rattle.ug_packing.proofs.Running.{none_left}
+use Rattle.ug_packing.proofs.Keyed.{all_step}
 use Rattle.ug_packing.proofs.putting.all_grouped.Goals as goal
 
 pub loop-place-preserved : goal.loop-place-preserved
@@ -19,4 +20,4 @@ loop-place-preserved c = λ after n.
 
 pub returns : goal.returns
 returns c = λ after n.
-    ap (by_attributes after c.loop-place.groups) (sym (no_keys c.args.keys.now c.loop-place.place c.loop-place-test.false)) ∙ c.loop-place.invariant after n
+    ap (by_attributes after c.loop-place.groups) (sym (none_left c.args.keys.now c.loop-place.place c.loop-place-test.false)) ∙ c.loop-place.invariant after n

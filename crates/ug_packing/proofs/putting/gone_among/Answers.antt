@@ -5,7 +5,8 @@ use Rattle.ug_types.specs.Attributes.{Attributes}
 use Rattle.ug_tables.specs.Tables.{Table}
 use Rattle.ug_packing.specs.Packing.{Shared, by_attributes, is_gone, is_new}
 use Rattle.ug_packing.specs.Seen.{key_where}
-use Rattle.ug_packing.proofs.Keyed.{gone_step, all_step, new_step, no_keys}
+use Rattle.ug_packing.proofs.Running.{none_left}
+use Rattle.ug_packing.proofs.Keyed.{gone_step}
 use Rattle.ug_packing.proofs.putting.gone_among.Goals as goal
 
 pub loop-place-preserved : goal.loop-place-preserved
@@ -22,5 +23,5 @@ loop-place-preserved c = λ before after o n.
 pub returns : goal.returns
 returns c = λ before after o n.
     sym (append-nil c.loop-place.gone.items)
-    ∙ ap (λ (l : List Key). c.loop-place.gone.items ++ filter (is_gone before after) l) (sym (no_keys c.args.keys.now c.loop-place.place c.loop-place-test.false))
+    ∙ ap (λ (l : List Key). c.loop-place.gone.items ++ filter (is_gone before after) l) (sym (none_left c.args.keys.now c.loop-place.place c.loop-place-test.false))
     ∙ c.loop-place.invariant before after o n
