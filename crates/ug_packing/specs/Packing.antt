@@ -1,5 +1,5 @@
 -- Keys packed into messages: those of equal attributes together, as many in one message as fit the session's limit.
-use Rattle.std.specs.Prelude.{ℕ, Bool, true, false, List, [], ◌∷◌, ◌++◌, map, Option, Some, None, is_some, unwrap_or, if◌then◌else◌}
+use Rattle.std.specs.Prelude.{ℕ, Bool, true, false, ◌&&◌, List, [], ◌∷◌, ◌++◌, map, Option, Some, None, is_some, is_none, unwrap_or, if◌then◌else◌}
 use Rattle.std.specs.List.{flat_map}
 use Rattle.std.proofs.Common.{inl, inr}
 use Rattle.ug_types.specs.declared.capabilities.Capabilities.{Capabilities}
@@ -7,7 +7,7 @@ use Rattle.ug_types.specs.declared.key.Key.{Key}
 use Rattle.ug_types.specs.Attributes.{Attributes}
 use Rattle.ug_types.specs.Messages.{Message, Updates}
 use Rattle.ug_tables.specs.Tables.{Table}
-use Rattle.ug_tables.specs.Decisions.{decided_attributes}
+use Rattle.ug_tables.specs.Decisions.{decided_option, decided_attributes}
 use Rattle.ug_message.specs.Texts.{written}
 
 -- an UPDATE that announces these keys, which share these attributes (RFC 4271 section 4.3)

@@ -67,7 +67,7 @@ fn push_gone(
 }
 
 /// Adds the messages that announce each route that there is.
-#[tactic(auto, unfolding(ug_packing::specs::Packing::announcements))]
+#[tactic(auto, unfolding(crate::specs::Packing::announcements))]
 pub fn put_all(
     alloc: Global,
     c: Capabilities,
@@ -105,7 +105,7 @@ fn add_route(groups: &mut Groups, route: &Option<Attrs>, key: Key) -> Result<(),
 }
 
 /// Adds the messages that announce each route that there is, where it was another one or none.
-#[tactic(auto, unfolding(ug_packing::specs::Packing::announcements))]
+#[tactic(auto, unfolding(crate::specs::Packing::announcements))]
 pub fn put_new(
     alloc: Global,
     c: Capabilities,

@@ -20,7 +20,7 @@ use ug_types::{Attrs, ByteList, Capabilities, Family, Key, NoMemory, Sequence};
 use ug_update::{write_eor, write_mark};
 
 /// Adds the messages that withdraw keys.
-#[tactic(auto, unfolding(ug_packing::specs::Packing::withdrawals))]
+#[tactic(auto, unfolding(crate::specs::Packing::withdrawals))]
 pub fn put_withdrawals(
     alloc: Global,
     c: Capabilities,
@@ -82,7 +82,7 @@ fn end_of_rib(alloc: Global, c: Capabilities) -> Result<ByteList, NoMemory>
 }
 
 /// Adds the mark of the begin or the end of a refresh.
-#[tactic(auto, unfolding(ug_packing::specs::Packing::text_of))]
+#[tactic(auto, unfolding(crate::specs::Packing::text_of))]
 pub fn put_mark(
     alloc: Global,
     c: Capabilities,

@@ -1,11 +1,8 @@
 -- What a peer is sent: for an event the messages that change its table, and when it comes up the whole table.
-use Rattle.std.specs.Prelude.{ℕ, Bool, true, false, ◌&&◌, List, [], ◌∷◌, ◌++◌, filter, Option, is_some, is_none}
-use Rattle.std.proofs.Common.{inl, inr}
+use Rattle.std.specs.Prelude.{ℕ, Bool, true, false, ◌&&◌, List, [], ◌∷◌, ◌++◌, filter}
 use Rattle.ug_types.specs.declared.key.Key.{Key}
-use Rattle.ug_types.specs.Attributes.{Attributes}
 use Rattle.ug_types.specs.Messages.{Message, Begins, Ends}
 use Rattle.ug_tables.specs.Tables.{Table}
-use Rattle.ug_tables.specs.Decisions.{decided_option, decided_attributes}
 use Rattle.ug_outbound.specs.declared.peer.Peer.{Peer}
 use Rattle.ug_events.specs.Events.{Happening, ComesUp, GoesDown, HasPaths, HasNone, HasPolicy, HasEntries, AsksAgain, SendsRequest, SendsList}
 use Rattle.ug_world.specs.declared.peer_state.PeerState.{PeerState}
@@ -13,7 +10,7 @@ use Rattle.ug_world.specs.World.{World, paths_to}
 use Rattle.ug_world.specs.Private.{keys_to, keys_of, private_table}
 use Rattle.ug_world.specs.Touches.{is_about}
 use Rattle.ug_speaker.specs.Speech.{capabilities_of, is_request}
-use Rattle.ug_packing.specs.Packing.{withdrawing, withdrawals, announcements}
+use Rattle.ug_packing.specs.Packing.{withdrawing, withdrawals, announcements, is_gone, is_new}
 
 -- The keys of a world that an event can change: those of its prefix, and of any other event all.
 abbrev pub keys_at : Happening → Bool → World → List Key
