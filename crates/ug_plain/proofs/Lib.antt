@@ -1,5 +1,5 @@
 pub mod Placed
-pub mod Handing
+pub mod Leaving
 pub mod Marked
 pub mod Paths
 pub mod Within
