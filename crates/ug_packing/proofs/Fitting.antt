@@ -28,7 +28,7 @@ use Rattle.ug_mp.proofs.Texts.{least_around as around_least}
 use Rattle.std.proofs.lemmas.Bool.Decides.{nat_tests}
 use Rattle.ug_update.specs.Updates.{header}
 use Rattle.ug_update.proofs.Texts.{framed_is}
-use Rattle.ug_plain_rules.specs.Packing.{Shared, withdrawing, announcing, announcements_of, withdrawals, runs, fits, text_of}
+use Rattle.ug_packing.specs.Packing.{Shared, withdrawing, announcing, announcements_of, withdrawals, runs, fits, text_of}
 use Rattle.ug_packing.specs.declared.load.Load.{Load}
 use Rattle.ug_packing.specs.Seen.{texts_in, announced}
 use Rattle.ug_packing.proofs.Running.{drop_one}

@@ -4,7 +4,7 @@ use Rattle.std.specs.Prelude.{slice_set, slice_index_or, if◌then◌else◌}
 use Rattle.ug_types.specs.declared.key.Key.{Key}
 use Rattle.ug_types.specs.Attributes.{Attributes}
 use Rattle.ug_tables.specs.Decisions.{decided_attributes}
-use Rattle.ug_plain_rules.specs.Packing.{Shared, are_same, with_key}
+use Rattle.ug_packing.specs.Packing.{Shared, are_same, with_key}
 use Rattle.ug_packing.specs.Seen.{joined}
 
 same_by : (a b : Attributes) (d : (a ≡ b) ⊎ (a ≡ b → ⊥)) → a ≡ b → (elim d [ inl same ↦ true | inr other ↦ false ]) ≡ true

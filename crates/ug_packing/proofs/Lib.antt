@@ -2,3 +2,4 @@ pub mod Loads
 pub mod Fitting
 pub mod Grouping
 pub mod Running
+pub mod Keyed

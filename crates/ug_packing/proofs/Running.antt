@@ -2,7 +2,7 @@
 use Rattle.std.proofs.Common.{◌≡◌, ℕ, zero, suc, ◌+◌, ◌-◌, ◌<◌, ◌≤◌, Bool, true, false, List, [], ◌∷◌, ◌++◌, length, map, take, drop, refl, sym, ap, subst, ◌∙◌, arith}
 use Rattle.std.specs.Prelude.{slice_index_or, if◌then◌else◌}
 use Rattle.ug_types.specs.declared.key.Key.{Key}
-use Rattle.ug_plain_rules.specs.Packing.{runs_from, runs}
+use Rattle.ug_packing.specs.Packing.{runs_from, runs}
 
 -- the keys from one place up to another
 abbrev pub between : {T : Type 0} → ℕ → ℕ → List T → List T
@@ -39,13 +39,13 @@ between_one {T} xs i x inside is =
     let e : i - i ≡ 0 = omega arith in
     between_more xs i i x (omega arith) inside is ∙ ap (λ (n : ℕ). take n (drop i xs) ++ x ∷ []) e
 
-all_of : {T : Type 0} (xs : List T) (n : ℕ) → length xs ≤ n → take n xs ≡ xs
+pub all_of : {T : Type 0} (xs : List T) (n : ℕ) → length xs ≤ n → take n xs ≡ xs
 all_of [] zero le = refl
 all_of [] (suc n) le = refl
 all_of (x ∷ xs) zero le = absurd (omega arith)
 all_of {T} (x ∷ xs) (suc n) le = ap (λ (l : List T). x ∷ l) (all_of xs n (omega arith))
 
-length_drop : {T : Type 0} (xs : List T) (n : ℕ) → length (drop n xs) ≡ length xs - n
+pub length_drop : {T : Type 0} (xs : List T) (n : ℕ) → length (drop n xs) ≡ length xs - n
 length_drop [] zero = refl
 length_drop [] (suc n) = omega arith
 length_drop (x ∷ xs) zero = omega arith
@@ -54,7 +54,7 @@ length_drop (x ∷ xs) (suc n) = omega (arith, length_drop xs n)
 pub between_end : {T : Type 0} (xs : List T) (start end : ℕ) → length xs ≤ end → between start end xs ≡ drop start xs
 between_end xs start end le = all_of (drop start xs) (end - start) (omega (arith, length_drop xs start))
 
-none_left : {T : Type 0} (xs : List T) (n : ℕ) → length xs ≤ n → drop n xs ≡ []
+pub none_left : {T : Type 0} (xs : List T) (n : ℕ) → length xs ≤ n → drop n xs ≡ []
 none_left [] zero le = refl
 none_left [] (suc n) le = refl
 none_left (x ∷ xs) zero le = absurd (omega arith)

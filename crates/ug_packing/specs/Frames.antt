@@ -12,7 +12,7 @@ use Rattle.ug_types.specs.Sessions.{message_limit}
 use Rattle.ug_message.specs.Spelling.{routes, attributes, attributes_but_next_hop}
 use Rattle.ug_message.specs.Spellable.{is_key, can_be_spelled}
 use Rattle.ug_message.specs.Heads.{size_around}
-use Rattle.ug_plain_rules.specs.Packing.{announcing, withdrawing, fits, text_of, runs}
+use Rattle.ug_packing.specs.Packing.{announcing, withdrawing, fits, text_of, runs}
 use Rattle.ug_packing.specs.declared.load.Load.{Load}
 
 -- the message that announces keys with these attributes, or without any withdraws them

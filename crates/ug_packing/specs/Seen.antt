@@ -1,12 +1,12 @@
 -- Texts, and groups of keys, without where they lie in memory.
-use Rattle.std.specs.Prelude.{◌≡◌, ℕ, ◌<◌, List, [], ◌∷◌, ◌++◌, length, map, slice_set, slice_index_or, Option, Some, None}
+use Rattle.std.specs.Prelude.{◌≡◌, ℕ, ◌<◌, Bool, true, false, List, [], ◌∷◌, ◌++◌, length, map, slice_set, slice_index_or, Option, Some, None}
 use Rattle.std.specs.List.{flat_map}
 use Rattle.ug_types.specs.Listed.{Listed}
 use Rattle.ug_types.specs.declared.capabilities.Capabilities.{Capabilities}
 use Rattle.ug_types.specs.Messages.{Message}
 use Rattle.ug_types.specs.declared.key.Key.{Key}
 use Rattle.ug_types.specs.Attributes.{Attributes}
-use Rattle.ug_plain_rules.specs.Packing.{Shared, with_key, announcements_of, text_of}
+use Rattle.ug_packing.specs.Packing.{Shared, with_key, announcements_of, text_of}
 
 abbrev pub texts_seen : List (Listed ℕ) → List (List ℕ)
 texts_seen texts = map (λ (t : Listed ℕ). t.items) texts
@@ -35,3 +35,8 @@ pub record IsPlace (groups : List Shared) (a : Attributes) (place : ℕ) : Type 
 -- A key with these attributes stands in a group of its own.
 abbrev pub IsNowhere : List Shared → Attributes → Type 0
 IsNowhere groups a = (key : Key) → with_key a key groups ≡ groups ++ record { attrs = a; keys = key ∷ [] } ∷ []
+
+-- the key, where this holds
+abbrev pub key_where : Bool → Key → List Key
+key_where true key = key ∷ []
+key_where false key = []

@@ -1,7 +1,7 @@
 //! Keys by the attributes that they share.
 
 ghost use Rattle.std.specs.Prelude.{◌≡◌, ◌∷◌, [], ◌++◌, OnOk, IfSome, IfNone};
-ghost use Rattle.ug_plain_rules.specs.Packing.{are_same, with_key};
+ghost use Rattle.ug_packing.specs.Packing.{are_same, with_key};
 ghost use Rattle.ug_packing.specs.Seen.{IsPlace, IsNowhere};
 
 use std::alloc::Global;
@@ -16,7 +16,7 @@ pub struct Group {
 }
 
 impl Model for Group {
-    ghost use Rattle.ug_plain_rules.specs.Packing.{Shared};
+    ghost use Rattle.ug_packing.specs.Packing.{Shared};
 
     ghost Value = { Shared };
 
@@ -56,7 +56,7 @@ pub struct Groups {
 
 impl Model for Groups {
     ghost use Rattle.std.specs.Prelude.{List};
-    ghost use Rattle.ug_plain_rules.specs.Packing.{Shared};
+    ghost use Rattle.ug_packing.specs.Packing.{Shared};
 
     ghost Value = { List Shared };
 
@@ -115,7 +115,7 @@ fn place_of(groups: &[Group], attrs: &Attrs) -> Option<usize>
 }
 
 /// Whether attributes are the same.
-fn are_same(one: &Attrs, other: &Attrs) -> bool
+pub fn are_same(one: &Attrs, other: &Attrs) -> bool
     ensures { result ≡ are_same one.now other.now }
 {
     value_laws();

@@ -4,6 +4,7 @@
 
 mod groups;
 mod load;
+mod putting;
 mod routes;
 mod runs;
 mod short;
@@ -11,5 +12,6 @@ mod texts;
 mod writing;
 
 pub use groups::{Group, Groups};
+pub use putting::{put_all, put_gone, put_new};
 pub use runs::{put_announcements, put_end_of_rib, put_mark, put_withdrawals};
 pub use texts::Texts;

@@ -4,7 +4,7 @@ ghost use Rattle.std.specs.Prelude.{◌≡◌, ◌<◌, ◌≤◌, [], ◌∷◌
 ghost use Rattle.std.specs.Option.{option_map};
 ghost use Rattle.ug_types.specs.declared.key.Key as keys;
 ghost use Rattle.ug_types.specs.Messages.{Begins, Ends};
-ghost use Rattle.ug_plain_rules.specs.Packing.{withdrawing, announcements_of, withdrawals, fits, text_of};
+ghost use Rattle.ug_packing.specs.Packing.{withdrawing, announcements_of, withdrawals, fits, text_of};
 ghost use Rattle.ug_packing.specs.Seen.{texts_in, announced};
 ghost use Rattle.ug_packing.specs.Frames.{said, texts_of_runs, routes_around, IsFrontOf, IsLoad};
 
@@ -20,7 +20,7 @@ use ug_types::{Attrs, ByteList, Capabilities, Family, Key, NoMemory, Sequence};
 use ug_update::{write_eor, write_mark};
 
 /// Adds the messages that withdraw keys.
-#[tactic(auto, unfolding(ug_plain_rules::specs::Packing::withdrawals))]
+#[tactic(auto, unfolding(crate::specs::Packing::withdrawals))]
 pub fn put_withdrawals(
     alloc: Global,
     c: Capabilities,
@@ -82,7 +82,7 @@ fn end_of_rib(alloc: Global, c: Capabilities) -> Result<ByteList, NoMemory>
 }
 
 /// Adds the mark of the begin or the end of a refresh.
-#[tactic(auto, unfolding(ug_plain_rules::specs::Packing::text_of))]
+#[tactic(auto, unfolding(crate::specs::Packing::text_of))]
 pub fn put_mark(
     alloc: Global,
     c: Capabilities,

@@ -10,7 +10,7 @@ ghost use Rattle.ug_message.specs.Texts.{framed};
 ghost use Rattle.ug_message.specs.Texts as texts;
 ghost use Rattle.ug_types.specs.Attributes.{Attributes};
 ghost use Rattle.ug_update.specs.Updates.{IsMessageSize};
-ghost use Rattle.ug_plain_rules.specs.Packing.{withdrawing, announcing, fits, text_of};
+ghost use Rattle.ug_packing.specs.Packing.{withdrawing, announcing, fits, text_of};
 ghost use Rattle.ug_packing.specs.Frames.{attributes_text, IsFrontOf};
 
 use crate::routes::write_routes;

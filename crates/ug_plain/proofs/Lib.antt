@@ -1,5 +1,5 @@
 pub mod Placed
-pub mod Handing
+pub mod Leaving
 pub mod Marked
 pub mod Paths
 pub mod Within
@@ -8,3 +8,7 @@ pub mod Told
 pub mod Watched
 pub mod Pushed
 pub mod Taken
+pub mod Seating
+pub mod Fronts
+pub mod Found
+pub mod Joined

@@ -7,6 +7,7 @@ use Rattle.ug_types.specs.declared.mark.Mark.{Mark}
 use Rattle.ug_deeds.specs.Deeds.{when}
 use Rattle.ug_outbound.specs.declared.peer.Peer.{Peer}
 use Rattle.ug_world.specs.declared.peer_state.PeerState.{PeerState}
+use Rattle.ug_packing.proofs.Running.{none_left}
 use Rattle.ug_plain_rules.specs.Seats.{Plain}
 use Rattle.ug_plain_rules.specs.Plain.{is_live, mark_at, marks_at}
 
@@ -16,12 +17,6 @@ there_is (x ∷ xs) zero inside = (x, refl, refl)
 there_is (x ∷ xs) (suc p) inside =
     let e : suc p + 1 ≡ suc (p + 1) = omega arith in
     rw e (there_is xs p (omega arith))
-
-drop_end : {T : Type 0} (xs : List T) (n : ℕ) → length xs ≤ n → drop n xs ≡ []
-drop_end [] zero le = refl
-drop_end [] (suc n) le = refl
-drop_end (x ∷ xs) zero le = absurd (omega arith)
-drop_end (x ∷ xs) (suc n) le = drop_end xs n (omega arith)
 
 none_more : {T : Type 0} (xs : List T) → xs ++ [] ≡ xs
 none_more [] = refl
@@ -43,7 +38,7 @@ module _ (test : PeerState → Bool) (plain : Plain) (peers : List PeerState) (p
 
   -- no peer is left
   pub mark_end : (marks all : List Mark) → length peers ≤ p → marks ++ marks_at test p (drop p peers) plain ≡ all → marks ≡ all
-  mark_end marks all past so = sym (none_more marks) ∙ ap (λ (left : List PeerState). marks ++ marks_at test p left plain) (sym (drop_end peers p past)) ∙ so
+  mark_end marks all past so = sym (none_more marks) ∙ ap (λ (left : List PeerState). marks ++ marks_at test p left plain) (sym (none_left peers p past)) ∙ so
 
 peer_is : (s : PeerState) (peer : Peer) → Some s.peer ≡ Some peer → s.peer.name ≡ peer.name
 peer_is s peer e = let is : s.peer ≡ peer = cc in ap (λ (p : Peer). p.name) is

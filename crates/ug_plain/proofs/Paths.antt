@@ -22,7 +22,7 @@ use Rattle.ug_world.proofs.Counting.{few_paths}
 use Rattle.ug_world.specs.After.{after}
 use Rattle.ug_world.specs.Private.{keys_to, keys_of}
 use Rattle.ug_plain_rules.specs.Changes.{keys_at}
-use Rattle.ug_news.specs.Slates.{watched}
+use Rattle.ug_plain.specs.Slates.{watched}
 use Rattle.ug_plain.specs.Kept.{has_path, have_paths}
 use Rattle.ug_plain.specs.Knowing.{AreKeysWithin}
 

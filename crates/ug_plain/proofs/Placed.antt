@@ -5,16 +5,14 @@ use Rattle.std.specs.Option.{option_map}
 use Rattle.ug_world.specs.declared.peer_state.PeerState.{PeerState}
 use Rattle.ug_world.specs.World.{World}
 use Rattle.ug_plain_rules.specs.Seats as rules
-use Rattle.ug_seats.specs.declared.seat.Seat.{Seat}
-use Rattle.ug_seats.specs.Seen.{seat_of, seats_of, HasRoom, HaveRoom}
+use Rattle.ug_plain.specs.declared.seat.Seat.{Seat}
+use Rattle.ug_plain.specs.Seated.{seat_of, seats_of, HasRoom, HaveRoom}
+use Rattle.ug_plain.proofs.Seating.{sessions_is}
 
 pub few : (peers : List PeerState) (seats : List Seat) → HaveRoom peers seats → length seats ≤ length peers
 few peers [] room = omega arith
 few [] (t ∷ seats) room = absurd room
 few (s ∷ peers) (t ∷ seats) room = omega (arith, few peers seats room.1)
-
-sessions_is : (s : PeerState) (n : ℕ) → Some s.sessions ≡ Some n → s.sessions ≡ n
-sessions_is s n e = cc
 
 pub room_at : (peers : List PeerState) (seats : List Seat) (p : ℕ) (t : Seat) (n : ℕ) → HaveRoom peers seats → p < length seats → t ≡ slice_index_or seats p t → option_map (λ s. s.sessions) (slice_get peers p) ≡ Some n → HasRoom n t
 room_at peers [] p t n room inside is had = absurd (omega arith)

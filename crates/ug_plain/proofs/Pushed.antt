@@ -8,18 +8,15 @@ use Rattle.ug_world.specs.declared.peer_state.PeerState.{PeerState}
 use Rattle.ug_world.specs.World.{World}
 use Rattle.ug_plain_rules.specs.Seats as rules
 use Rattle.ug_plain_rules.specs.Seats.{with_event, with_event_from}
-use Rattle.ug_seats.specs.declared.seat.Seat.{Seat}
-use Rattle.ug_seats.specs.Seen.{seat_of, seats_of}
+use Rattle.ug_plain.specs.declared.seat.Seat.{Seat}
+use Rattle.ug_plain.specs.Seated.{seat_of, seats_of}
 use Rattle.ug_plain.specs.declared.knowing.Known.{Known}
 use Rattle.ug_plain.specs.Knowing.{IsKnown, AreKnown, seat_known}
+use Rattle.ug_plain.proofs.Seating.{map_push}
 
 pub len_push : {T : Type 0} (xs : List T) (x : T) → length (xs ++ x ∷ []) ≡ length xs + 1
 len_push [] x = refl
 len_push (y ∷ xs) x = let rest = len_push xs x in omega (arith, rest)
-
-map_push : {A B : Type 0} (f : A → B) (xs : List A) (x : A) → map f (xs ++ x ∷ []) ≡ map f xs ++ f x ∷ []
-map_push f [] x = refl
-map_push {A} {B} f (y ∷ xs) x = ap (λ (l : List B). f y ∷ l) (map_push f xs x)
 
 known_from : (e : Happening) (w : World) (ks : List Known) (k : Known) (p n : ℕ) → n ≡ p + length ks → AreKnown e p w ks → IsKnown e n w k → AreKnown e p w (ks ++ k ∷ [])
 known_from e w [] k p n is are known = (subst (λ (m : ℕ). IsKnown e m w k) (omega (arith, is)) known, tt)

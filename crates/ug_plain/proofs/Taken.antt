@@ -8,8 +8,8 @@ use Rattle.ug_world.specs.After.{after, come_up, gone_down, with_policy, refilte
 use Rattle.ug_plain_rules.specs.Seats.{Plain}
 use Rattle.ug_plain_rules.specs.Plain.{seats_due}
 use Rattle.ug_plain_rules.specs.Changes.{keys_at}
-use Rattle.ug_seats.specs.declared.seat.Seat.{Seat}
-use Rattle.ug_seats.specs.Seen.{seats_of, HaveRoom}
+use Rattle.ug_plain.specs.declared.seat.Seat.{Seat}
+use Rattle.ug_plain.specs.Seated.{seats_of, HaveRoom}
 use Rattle.ug_plain.specs.declared.knowing.Known.{Known}
 use Rattle.ug_plain.specs.Kept.{have_paths, IsKept}
 use Rattle.ug_plain.specs.Knowing.{AreKeysWithin, seat_known}

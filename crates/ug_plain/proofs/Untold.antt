@@ -18,8 +18,8 @@ use Rattle.ug_world.specs.Touches.{is_about, touches}
 use Rattle.ug_world.specs.Private.{private_table}
 use Rattle.ug_world.proofs.Keeping.{untouched}
 use Rattle.ug_speaker.specs.Speech.{capabilities_of, is_request}
-use Rattle.ug_plain_rules.specs.Packing.{withdrawals, announcements}
-use Rattle.ug_plain_rules.specs.Changes.{keys_at, is_gone, is_new, differ, messages_by, changes}
+use Rattle.ug_packing.specs.Packing.{withdrawals, announcements, is_gone, is_new, differ}
+use Rattle.ug_plain_rules.specs.Changes.{keys_at, messages_by, changes}
 use Rattle.ug_plain_rules.proofs.Peers.{peer_after, peers-after, next-of, about-alike}
 use Rattle.ug_plain.specs.Knowing.{concerns, asks_again}
 
@@ -99,7 +99,7 @@ not_about (HasNone prefix) s s' is up same not = refl
 pub becomes : (e : Happening) (w : World) (p : ℕ) (s s' : PeerState) → slice_get w.peers p ≡ Some s → slice_get (after w e).peers p ≡ Some s' → Some s' ≡ Some (peer_after e s)
 becomes e w p s s' there later = sym later ∙ peers-after e w p ∙ ap (option_map (peer_after e)) there
 
-same_some : (s t : PeerState) → Some s ≡ Some t → s ≡ t
+pub same_some : (s t : PeerState) → Some s ≡ Some t → s ≡ t
 same_some s t e = cc
 
 pub name_kept : (e : Happening) (w : World) (p : ℕ) (s s' : PeerState) → slice_get w.peers p ≡ Some s → slice_get (after w e).peers p ≡ Some s' → s'.peer.name ≡ s.peer.name

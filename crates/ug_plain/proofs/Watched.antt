@@ -9,10 +9,10 @@ use Rattle.ug_world.specs.declared.peer_state.PeerState.{PeerState}
 use Rattle.ug_world.specs.World.{World}
 use Rattle.ug_world.specs.After.{after}
 use Rattle.ug_plain_rules.specs.Changes.{keys_at}
-use Rattle.ug_news.specs.declared.watch.Watch.{Watch}
-use Rattle.ug_news.specs.Slates.{IsBefore, IsWatch, HasAddPath, changes_keys}
+use Rattle.ug_plain.specs.declared.watch.Watch.{Watch}
+use Rattle.ug_plain.specs.Slates.{IsBefore, IsWatch, HasAddPath, changes_keys}
 use Rattle.ug_plain.specs.Knowing.{AreKeysWithin}
-use Rattle.ug_plain.proofs.Untold.{add_path_kept}
+use Rattle.ug_plain.proofs.Untold.{same_some, add_path_kept}
 
 pub some_there : (peers : List PeerState) (p : ℕ) → p < length peers → (s : PeerState) × (slice_get peers p ≡ Some s)
 some_there [] p inside = absurd (omega arith)
@@ -22,9 +22,6 @@ some_there (s ∷ peers) (suc p) inside = some_there peers p (omega arith)
 pub found : (x : Option PeerState) (peer : Peer) → option_map (λ t. t.peer) x ≡ Some peer → (s : PeerState) × (x ≡ Some s) × (s.peer ≡ peer)
 found None peer e = absurd cc
 found (Some s) peer e = (s, refl, cc)
-
-same_some : (s t : PeerState) → Some s ≡ Some t → s ≡ t
-same_some s t e = cc
 
 pub peer_is : (x : Option PeerState) (s : PeerState) (peer : Peer) → x ≡ Some s → option_map (λ t. t.peer) x ≡ Some peer → s.peer ≡ peer
 peer_is x s peer there e =

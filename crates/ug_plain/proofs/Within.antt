@@ -6,8 +6,8 @@ use Rattle.ug_world.specs.World.{World}
 use Rattle.ug_world.specs.Verdicts.{verdict, path_count}
 use Rattle.ug_world.specs.After.{after}
 use Rattle.ug_plain_rules.specs.Changes.{keys_at}
-use Rattle.ug_seats.specs.declared.seat.Seat.{Seat}
-use Rattle.ug_seats.specs.Seen.{seat_of, seats_of}
+use Rattle.ug_plain.specs.declared.seat.Seat.{Seat}
+use Rattle.ug_plain.specs.Seated.{seat_of, seats_of}
 use Rattle.ug_plain.specs.declared.knowing.Known.{Known}
 use Rattle.ug_plain.specs.Kept.{have_paths}
 use Rattle.ug_plain.specs.Knowing.{AreKeysWithin, seat_known}

@@ -5,8 +5,8 @@ use Rattle.ug_types.specs.Ip.{IpPrefix}
 use Rattle.ug_types.specs.declared.route.Path.{Path}
 use Rattle.ug_world.specs.World.{Routes, World}
 use Rattle.ug_plain_rules.specs.Plain.{seats_due}
-use Rattle.ug_seats.specs.declared.seat.Seat.{Seat}
-use Rattle.ug_seats.specs.Seen.{seats_of, HaveRoom}
+use Rattle.ug_plain.specs.declared.seat.Seat.{Seat}
+use Rattle.ug_plain.specs.Seated.{seats_of, HaveRoom}
 
 abbrev pub has_path : IpPrefix × List Path → Bool
 has_path r = nat_lt 0 (length r.1)

@@ -7,10 +7,10 @@ use Rattle.ug_world.specs.World.{World}
 use Rattle.ug_world.specs.After.{after}
 use Rattle.ug_world.specs.Private.{keys_of}
 use Rattle.ug_plain_rules.specs.Seats as rules
-use Rattle.ug_news.specs.declared.watch.Watch.{Watch}
-use Rattle.ug_news.specs.Slates.{IsBefore, watched}
-use Rattle.ug_seats.specs.declared.seat.Seat.{Seat}
-use Rattle.ug_seats.specs.Seen.{seat_of}
+use Rattle.ug_plain.specs.declared.watch.Watch.{Watch}
+use Rattle.ug_plain.specs.Slates.{IsBefore, watched}
+use Rattle.ug_plain.specs.declared.seat.Seat.{Seat}
+use Rattle.ug_plain.specs.Seated.{seat_of}
 use Rattle.ug_plain.specs.declared.knowing.Known.{Known}
 
 -- The event can change the table of the peer of that name, or asks for it again.

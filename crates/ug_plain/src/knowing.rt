@@ -4,14 +4,15 @@ ghost use Rattle.std.specs.Prelude.{◌≡◌, ℕ, ◌+◌, ◌*◌, ◌<◌, �
 ghost use Rattle.ug_events.specs.Views.{event_of};
 ghost use Rattle.ug_world.specs.declared.peer_state.PeerState as peers;
 ghost use Rattle.ug_plain_rules.specs.Changes.{keys_at};
-ghost use Rattle.ug_seats.specs.Seen.{seat_of};
+ghost use Rattle.ug_plain.specs.Seated.{seat_of};
 ghost use Rattle.ug_plain.specs.Knowing.{concerns, asks_again, is_watched, IsWatchOf, IsKnown, AreKnown, seat_known};
 
+use crate::seat::{Seat, is_lost};
+use crate::watch::Watch;
+use crate::watching::watch_before;
 use std::alloc::Global;
 use std::sync::ledger::Ledger;
 use ug_events::Event;
-use ug_news::{Watch, watch_before};
-use ug_seats::{Seat, is_lost};
 use ug_types::{Name, NoMemory, PeerId, Steps};
 use ug_world::World;
 

@@ -7,12 +7,12 @@ ghost use Rattle.ug_world.specs.declared.peer_state.PeerState as peers;
 ghost use Rattle.ug_world.specs.Touches.{is_about};
 ghost use Rattle.ug_speaker.specs.Speech.{is_request};
 ghost use Rattle.ug_plain_rules.specs.Plain.{handed_now, is_lost_in, is_live, mark_at, marks_at};
-ghost use Rattle.ug_seats.specs.Seen.{seats_of};
+ghost use Rattle.ug_plain.specs.Seated.{seats_of};
 
 use crate::knowing::asks_again;
+use crate::seat::{Seat, is_lost};
 use std::alloc::Global;
 use ug_events::Event;
-use ug_seats::{Seat, is_lost};
 use ug_types::{Mark, MarkList, NoMemory, PeerId, Sequence};
 use ug_world::World;
 

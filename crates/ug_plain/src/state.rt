@@ -12,9 +12,12 @@ ghost use Rattle.ug_plain_rules.specs.Plain.{plain_rules, after_event, is_draine
 ghost use Rattle.ug_speaker.specs.Speech.{is_request};
 ghost use Rattle.ug_world.specs.Touches.{is_about};
 
+use crate::handing::next;
 use crate::knowing::known_all;
 use crate::marking::{marks_of_all, marks_of_asker};
 use crate::said::PlainSaid;
+use crate::seat::{Seat, has_unlost, lose};
+use crate::seats::{are_quiet, due_of, fresh_seats};
 use crate::taking::tell_all;
 use std::alloc::Global;
 use std::marker::Model;
@@ -23,7 +26,6 @@ use std::sync::ledger::Ledger;
 use ug_board::LaneSaid;
 use ug_events::Event;
 use ug_plain_rules::plain_laws;
-use ug_seats::{Seat, are_quiet, due_of, fresh_seats, has_unlost, lose, next};
 use ug_types::{NoMemory, PeerId, Steps};
 use ug_world::World;
 
@@ -39,7 +41,7 @@ pub struct PlainState {
 
 impl Model for PlainState {
     ghost use Rattle.ug_plain_rules.specs.Seats.{Plain};
-    ghost use Rattle.ug_seats.specs.Seen.{seats_of};
+    ghost use Rattle.ug_plain.specs.Seated.{seats_of};
     ghost use Rattle.ug_plain.specs.Kept.{IsKept};
 
     ghost Value = { Plain };

@@ -8,16 +8,18 @@ ghost use Rattle.ug_world.specs.After.{after};
 ghost use Rattle.ug_world.specs.Private.{keys_of};
 ghost use Rattle.ug_plain_rules.specs.Changes.{changes, whole};
 ghost use Rattle.ug_plain_rules.specs.Seats.{texts_of, with_event, with_event_from};
-ghost use Rattle.ug_news.specs.Slates.{IsBefore};
-ghost use Rattle.ug_seats.specs.Seen.{seat_of, seats_of, HasRoom, HaveRoom};
+ghost use Rattle.ug_plain.specs.Slates.{IsBefore};
+ghost use Rattle.ug_plain.specs.Seated.{seat_of, seats_of, HasRoom, HaveRoom};
 ghost use Rattle.ug_plain.specs.Knowing.{IsKnown, AreKnown, IsNext, AreNext, IsWatchedNext, AreKeysWithin, with_texts, seat_known};
 
 use crate::knowing::{Known, asks_again};
+use crate::seat::{Seat, is_lost};
+use crate::telling::{tell, tell_whole};
+use crate::watch::Watch;
+use crate::watching::watch_after;
 use std::alloc::Global;
 use std::sync::ledger::Ledger;
 use ug_events::Event;
-use ug_news::{Watch, tell, tell_whole, watch_after};
-use ug_seats::{Seat, is_lost};
 use ug_types::{NoMemory, PeerId, Steps};
 use ug_world::World;
 

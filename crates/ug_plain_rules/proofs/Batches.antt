@@ -16,7 +16,7 @@ use Rattle.ug_world.specs.World.{World}
 use Rattle.ug_world.specs.Private.{private_table}
 use Rattle.ug_world.specs.Worlds.{in_session, past}
 use Rattle.ug_speaker.specs.Right.{IsAmong, EndsInWhole, IsInTurn, is_refreshing, ends_of_rib, AreFor, IsToldRight}
-use Rattle.ug_plain_rules.specs.Packing.{withdrawing}
+use Rattle.ug_packing.specs.Packing.{withdrawing}
 use Rattle.ug_plain_rules.proofs.Moving.{IsLast, Moves, last-push, climb-on, climb-over, moves-end}
 use Rattle.ug_plain_rules.proofs.Telling.{mentions, IsTelling, reading-append, values-append, are-append, are-front, are-each, count-append, count-none, count-some, tell-values, tell-table, tell-stale, tell-none, tell-updates, has_ended, in_turn-append, in_turn-front, tell-in_turn, tell-refreshing, tell-ended, refreshing-append, ended-append}
 

@@ -23,7 +23,7 @@ use Rattle.ug_world.specs.Private.{private_table}
 use Rattle.ug_world.specs.After.{after}
 use Rattle.ug_speaker.specs.Speech.{TakesEvent, capabilities_of}
 use Rattle.ug_speaker.specs.Right.{FitsAlone, FitAlone, announces}
-use Rattle.ug_plain_rules.specs.Packing.{fits, text_of}
+use Rattle.ug_packing.specs.Packing.{fits, text_of}
 use Rattle.ug_plain_rules.specs.Changes.{changes, whole}
 use Rattle.ug_plain_rules.specs.Seats.{Seat, Plain, sessions_at, sessions_had, has, is_lost_at, change_at, with_session, with_next, with_loss, texts_of, texts_by, texts_after, with_event, with_event_from}
 use Rattle.ug_plain_rules.specs.Plain.{front_of, texts_at, has_unlost, next_said, plain_rules, plain_speech, message_read, read_by}

@@ -13,7 +13,7 @@ use Rattle.ug_tables.specs.Decisions.{decided_attributes}
 use Rattle.ug_deeds.specs.Deeds.{Each}
 use Rattle.ug_plain_rules.proofs.SameKeys.{same-is}
 use Rattle.ug_message.specs.Streams.{AreOf, says_nothing}
-use Rattle.ug_plain_rules.specs.Packing.{announcing, withdrawing, fits, runs_from, runs, withdrawals, Shared, are_same, with_key, with_route, by_attributes, announcements_of, announcements}
+use Rattle.ug_packing.specs.Packing.{announcing, withdrawing, fits, runs_from, runs, withdrawals, Shared, are_same, with_key, with_route, by_attributes, announcements_of, announcements}
 use Rattle.ug_plain_rules.proofs.Telling.{mentions, IsTelling}
 use Rattle.ug_plain_rules.proofs.Bools.{true_or, or_true, or_so}
 

@@ -18,7 +18,7 @@ use Rattle.ug_world.specs.Worlds.{is_up_in, in_session}
 use Rattle.ug_speaker.specs.Speech.{capabilities_of}
 use Rattle.ug_speaker.specs.Told.{handed_in}
 use Rattle.ug_speaker.specs.Right.{AreFor, IsToldRight}
-use Rattle.ug_plain_rules.specs.Packing.{withdrawing, fits, text_of}
+use Rattle.ug_packing.specs.Packing.{withdrawing, fits, text_of}
 use Rattle.ug_plain_rules.specs.Changes.{changes, whole}
 use Rattle.ug_plain_rules.specs.Seats.{Seat, is_lost_at, with_session, texts_of, texts_by}
 use Rattle.ug_plain_rules.proofs.Packed.{each-append}

@@ -23,8 +23,8 @@ use Rattle.ug_world.specs.After.{after}
 use Rattle.ug_world.specs.Touches.{is_about}
 use Rattle.ug_speaker.specs.Speech.{capabilities_of, is_request}
 use Rattle.ug_speaker.specs.Right.{FitsAlone, announces, BeginsWhere}
-use Rattle.ug_plain_rules.specs.Packing.{withdrawing, fits, withdrawals, announcements}
-use Rattle.ug_plain_rules.specs.Changes.{keys_at, is_gone, differ, is_new, in_marks, messages_by, changes, whole}
+use Rattle.ug_packing.specs.Packing.{withdrawing, fits, withdrawals, announcements, is_gone, differ, is_new}
+use Rattle.ug_plain_rules.specs.Changes.{keys_at, in_marks, messages_by, changes, whole}
 use Rattle.ug_plain_rules.proofs.SameKeys.{among-filter}
 use Rattle.ug_plain_rules.proofs.Telling.{mentions, IsTelling}
 use Rattle.ug_plain_rules.proofs.Packed.{each-append, IsReady, AreReady, ready-tells, ready-fits, IsGone, withdrawals-ready, withdrawals-mention, CanAnnounce, announcements-ready, announcements-mention}

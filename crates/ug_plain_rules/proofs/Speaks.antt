@@ -20,7 +20,7 @@ use Rattle.ug_speaker.specs.Speech.{Purpose, TakesEvent, MarksTold, Ends, Prepar
 use Rattle.ug_speaker.specs.Told.{worlds_of, deeds_to, told, is_live}
 use Rattle.ug_speaker.specs.Right.{IsToldRight, IsToldAll, IsToldAgain}
 use Rattle.ug_speaker.specs.Owes.{IsCourse, HistoriesRight, IsSpeaker}
-use Rattle.ug_plain_rules.specs.Packing.{fits, text_of}
+use Rattle.ug_packing.specs.Packing.{fits, text_of}
 use Rattle.ug_plain_rules.specs.Seats.{Seat, Plain, sessions_at, texts_of}
 use Rattle.ug_plain_rules.specs.Plain.{is_empty, is_drained, front_of, texts_at, next_said, plain_rules, plain_speech}
 use Rattle.ug_plain_rules.proofs.Steps.{plain_steps}

@@ -1,11 +1,8 @@
 -- What a peer is sent: for an event the messages that change its table, and when it comes up the whole table.
-use Rattle.std.specs.Prelude.{ℕ, Bool, true, false, ◌&&◌, List, [], ◌∷◌, ◌++◌, filter, Option, is_some, is_none}
-use Rattle.std.proofs.Common.{inl, inr}
+use Rattle.std.specs.Prelude.{ℕ, Bool, true, false, ◌&&◌, List, [], ◌∷◌, ◌++◌, filter}
 use Rattle.ug_types.specs.declared.key.Key.{Key}
-use Rattle.ug_types.specs.Attributes.{Attributes}
 use Rattle.ug_types.specs.Messages.{Message, Begins, Ends}
 use Rattle.ug_tables.specs.Tables.{Table}
-use Rattle.ug_tables.specs.Decisions.{decided_option, decided_attributes}
 use Rattle.ug_outbound.specs.declared.peer.Peer.{Peer}
 use Rattle.ug_events.specs.Events.{Happening, ComesUp, GoesDown, HasPaths, HasNone, HasPolicy, HasEntries, AsksAgain, SendsRequest, SendsList}
 use Rattle.ug_world.specs.declared.peer_state.PeerState.{PeerState}
@@ -13,7 +10,7 @@ use Rattle.ug_world.specs.World.{World, paths_to}
 use Rattle.ug_world.specs.Private.{keys_to, keys_of, private_table}
 use Rattle.ug_world.specs.Touches.{is_about}
 use Rattle.ug_speaker.specs.Speech.{capabilities_of, is_request}
-use Rattle.ug_plain_rules.specs.Packing.{withdrawing, withdrawals, announcements}
+use Rattle.ug_packing.specs.Packing.{withdrawing, withdrawals, announcements, is_gone, is_new}
 
 -- The keys of a world that an event can change: those of its prefix, and of any other event all.
 abbrev pub keys_at : Happening → Bool → World → List Key
@@ -26,17 +23,6 @@ keys_at (HasEntries name entries) add_path w = keys_of add_path w.routes
 keys_at (AsksAgain name) add_path w = keys_of add_path w.routes
 keys_at (SendsRequest name) add_path w = keys_of add_path w.routes
 keys_at (SendsList name request) add_path w = keys_of add_path w.routes
-
--- The route was there, and is no more.
-abbrev pub is_gone : Table → Table → Key → Bool
-is_gone old new key = is_some (old key) && is_none (new key)
-
-abbrev pub differ : Option Attributes → Option Attributes → Bool
-differ a b = elim (decided_option decided_attributes a b) [ inl same ↦ false | inr other ↦ true ]
-
--- There is a route, and it was another one or none.
-abbrev pub is_new : Table → Table → Key → Bool
-is_new old new key = is_some (new key) && differ (old key) (new key)
 
 -- between the begin and the end of a refresh, with enhanced refresh (RFC 7313 section 4)
 abbrev pub in_marks : Bool → List Message → List Message

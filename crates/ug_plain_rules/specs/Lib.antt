@@ -1,4 +1,3 @@
-pub mod Packing
 pub mod Changes
 pub mod Seats
 pub mod Plain

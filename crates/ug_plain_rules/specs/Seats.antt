@@ -6,7 +6,7 @@ use Rattle.ug_events.specs.Events.{Happening}
 use Rattle.ug_world.specs.declared.peer_state.PeerState.{PeerState}
 use Rattle.ug_world.specs.World.{World}
 use Rattle.ug_speaker.specs.Speech.{capabilities_of}
-use Rattle.ug_plain_rules.specs.Packing.{text_of}
+use Rattle.ug_packing.specs.Packing.{text_of}
 use Rattle.ug_plain_rules.specs.Changes.{changes, whole}
 
 -- How many sessions were begun, which of them aren't lost, how many messages were handed out in the last of them, and

@@ -1,6 +1,6 @@
 use Rattle.std.proofs.Common.{◌≡◌, ℕ, Bool, List, ◌++◌, take, drop, ap, sym, ◌∙◌}
 use Rattle.ug_types.specs.Attributes.{Attributes}
-use Rattle.ug_plain_rules.specs.Packing.{Shared, are_same, with_key}
+use Rattle.ug_packing.specs.Packing.{Shared, are_same, with_key}
 use Rattle.std.specs.Prelude.{slice_index_or, slice_set}
 use Rattle.ug_packing.specs.Seen.{joined}
 use Rattle.ug_packing.proofs.Grouping.{index_any, same_is, other_is, past_one, joins_here}

@@ -1,6 +1,6 @@
 use Rattle.std.proofs.Common.{◌≡◌, ◌++◌, take, drop}
 use Rattle.ug_types.specs.declared.key.Key.{Key}
-use Rattle.ug_plain_rules.specs.Packing.{with_key}
+use Rattle.ug_packing.specs.Packing.{with_key}
 use Rattle.ug_packing.proofs.groups.place_of.Given as goal
 
 -- a key with these attributes joins none so far

@@ -1,6 +1,6 @@
 use Rattle.std.proofs.Common.{◌≡◌, ℕ, Some, List, ◌++◌, ap, sym, ◌∙◌}
 use Rattle.std.proofs.lemmas.Result.{IfOk-equal}
-use Rattle.ug_plain_rules.specs.Packing.{announcements_of}
+use Rattle.ug_packing.specs.Packing.{announcements_of}
 use Rattle.ug_packing.specs.Seen.{texts_in}
 use Rattle.ug_packing.specs.Frames.{texts_of_runs}
 use Rattle.ug_packing.proofs.Fitting.{group_texts}

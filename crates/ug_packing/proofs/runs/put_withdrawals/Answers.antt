@@ -1,6 +1,6 @@
 use Rattle.std.proofs.Common.{◌≡◌, ℕ, None, List, ◌++◌, ap}
 use Rattle.std.proofs.lemmas.Result.{IfOk-equal}
-use Rattle.ug_plain_rules.specs.Packing.{withdrawals}
+use Rattle.ug_packing.specs.Packing.{withdrawals}
 use Rattle.ug_packing.specs.Seen.{texts_in}
 use Rattle.ug_packing.specs.Frames.{texts_of_runs}
 use Rattle.ug_packing.proofs.Fitting.{withdrawal_texts}

@@ -2,7 +2,7 @@ use Rattle.std.proofs.Common.{Bool, ◌&&◌, List, ◌++◌, [], ◌∷◌, sym
 use Rattle.ug_types.specs.declared.mark.Mark.{Mark}
 use Rattle.ug_deeds.specs.Deeds.{when}
 use Rattle.ug_plain_rules.specs.Plain.{is_live, mark_at}
-use Rattle.ug_seats.specs.Seen.{seats_of}
+use Rattle.ug_plain.specs.Seated.{seats_of}
 use Rattle.ug_events.specs.Views.{event_of}
 use Rattle.ug_plain.proofs.Untold.{asks_is}
 use Rattle.ug_plain.proofs.Marked.{name_there}

@@ -3,7 +3,7 @@ use Rattle.std.proofs.lemmas.Grind.{common_steps}
 use Rattle.ug_world.specs.declared.peer_state.PeerState.{PeerState}
 use Rattle.ug_plain_rules.specs.Seats.{Plain}
 use Rattle.ug_plain_rules.specs.Plain.{marks_at}
-use Rattle.ug_seats.specs.Seen.{seats_of}
+use Rattle.ug_plain.specs.Seated.{seats_of}
 use Rattle.ug_plain.proofs.Marked.{mark_step, mark_end}
 use Rattle.ug_plain.proofs.marking.marks_of_all.Goals as goal
 

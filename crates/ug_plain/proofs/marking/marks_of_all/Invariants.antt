@@ -1,7 +1,7 @@
 use Rattle.std.proofs.Common.{◌≡◌, ◌++◌, Bool, true, drop}
 use Rattle.ug_world.specs.declared.peer_state.PeerState.{PeerState}
 use Rattle.ug_plain_rules.specs.Plain.{marks_at}
-use Rattle.ug_seats.specs.Seen.{seats_of}
+use Rattle.ug_plain.specs.Seated.{seats_of}
 use Rattle.ug_plain.proofs.marking.marks_of_all.Given as goal
 
 -- the marks so far and those that are left make up all

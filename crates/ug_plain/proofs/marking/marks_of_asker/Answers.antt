@@ -6,7 +6,7 @@ use Rattle.ug_world.specs.Touches.{is_about}
 use Rattle.ug_speaker.specs.Speech.{is_request}
 use Rattle.ug_plain_rules.specs.Seats.{Plain}
 use Rattle.ug_plain_rules.specs.Plain.{marks_at}
-use Rattle.ug_seats.specs.Seen.{seats_of}
+use Rattle.ug_plain.specs.Seated.{seats_of}
 use Rattle.ug_plain.proofs.Marked.{mark_step, mark_end}
 use Rattle.ug_plain.proofs.marking.marks_of_asker.Goals as goal
 

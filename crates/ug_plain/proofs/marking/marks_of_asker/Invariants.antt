@@ -4,7 +4,7 @@ use Rattle.ug_events.specs.Views.{event_of}
 use Rattle.ug_world.specs.Touches.{is_about}
 use Rattle.ug_speaker.specs.Speech.{is_request}
 use Rattle.ug_plain_rules.specs.Plain.{marks_at}
-use Rattle.ug_seats.specs.Seen.{seats_of}
+use Rattle.ug_plain.specs.Seated.{seats_of}
 use Rattle.ug_plain.proofs.marking.marks_of_asker.Given as goal
 
 -- the marks so far and those that are left make up all

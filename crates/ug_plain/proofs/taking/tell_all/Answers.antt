@@ -1,9 +1,9 @@
 use Rattle.std.proofs.Common.{◌≡◌, ◌+◌, ◌<◌, List, [], ◌∷◌, ◌++◌, length, ap, sym, subst, ◌∙◌, arith}
 use Rattle.std.specs.Prelude.{slice_get}
 use Rattle.ug_events.specs.Views.{event_of}
-use Rattle.ug_seats.specs.declared.seat.Seat.{Seat}
-use Rattle.ug_seats.specs.Seen.{HaveRoom}
-use Rattle.ug_seats.proofs.Seating.{room_push}
+use Rattle.ug_plain.specs.declared.seat.Seat.{Seat}
+use Rattle.ug_plain.specs.Seated.{HaveRoom}
+use Rattle.ug_plain.proofs.Seating.{room_push}
 use Rattle.ug_plain.proofs.Watched.{some_there}
 use Rattle.ug_plain.proofs.Pushed.{len_push, known_step, told_push, count_push, place_within, steps_push, sessions_at}
 use Rattle.ug_plain.proofs.taking.tell_all.Goals as goal

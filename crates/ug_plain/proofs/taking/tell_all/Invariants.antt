@@ -3,7 +3,7 @@ use Rattle.ug_events.specs.Views.{event_of}
 use Rattle.ug_world.specs.World.{World}
 use Rattle.ug_world.specs.After.{after}
 use Rattle.ug_plain_rules.specs.Seats.{with_event_from}
-use Rattle.ug_seats.specs.Seen.{seats_of, HaveRoom}
+use Rattle.ug_plain.specs.Seated.{seats_of, HaveRoom}
 use Rattle.ug_plain.specs.Knowing.{AreKnown, AreNext, AreKeysWithin, seat_known}
 use Rattle.ug_plain.proofs.taking.tell_all.Given as goal
 

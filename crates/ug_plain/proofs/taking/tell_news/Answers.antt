@@ -2,8 +2,8 @@ use Rattle.std.proofs.Common.{◌≡◌, ℕ, Bool, List, length, ap, sym, subst
 use Rattle.std.specs.Prelude.{slice_get}
 use Rattle.ug_outbound.specs.declared.peer.Peer.{Peer}
 use Rattle.ug_events.specs.Views.{event_of}
-use Rattle.ug_news.specs.Slates.{IsWatch}
-use Rattle.ug_seats.specs.Seen.{seat_of}
+use Rattle.ug_plain.specs.Slates.{IsWatch}
+use Rattle.ug_plain.specs.Seated.{seat_of}
 use Rattle.ug_plain.specs.Knowing.{with_texts}
 use Rattle.ug_plain.proofs.Untold.{asks_is}
 use Rattle.ug_plain.proofs.Watched.{watch_is, watch_within, peer_is, as_many}

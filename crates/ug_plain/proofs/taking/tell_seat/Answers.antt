@@ -1,7 +1,7 @@
 use Rattle.std.proofs.Common.{ap, sym, subst, ◌∙◌}
 use Rattle.std.specs.Prelude.{slice_get}
 use Rattle.ug_events.specs.Views.{event_of}
-use Rattle.ug_seats.specs.Seen.{seat_of}
+use Rattle.ug_plain.specs.Seated.{seat_of}
 use Rattle.ug_plain_rules.specs.Seats.{is_lost_at}
 use Rattle.ug_plain.specs.Knowing.{IsWatchOf}
 use Rattle.ug_plain.proofs.Told.{when_untold}

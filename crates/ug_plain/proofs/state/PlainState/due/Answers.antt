@@ -1,5 +1,5 @@
 use Rattle.std.proofs.Common.{◌≤◌, List, length, sym, subst}
-use Rattle.ug_seats.specs.declared.seat.Seat.{Seat}
+use Rattle.ug_plain.specs.declared.seat.Seat.{Seat}
 use Rattle.ug_plain.proofs.Placed.{few}
 use Rattle.ug_plain.proofs.state.PlainState.due.Goals as goal
 

@@ -4,7 +4,7 @@ use Rattle.ug_board.specs.declared.steps.LaneStep.TheVariants.{Lost}
 use Rattle.ug_plain_rules.specs.Seats as rules
 use Rattle.ug_plain_rules.specs.Seats.{sessions_at, change_at, with_loss}
 use Rattle.ug_plain_rules.specs.Plain.{with_seats, seats_due}
-use Rattle.ug_seats.specs.Seen.{seat_of}
+use Rattle.ug_plain.specs.Seated.{seat_of}
 use Rattle.ug_plain.proofs.Placed.{few, room_at, room_set, seats_set, had_is}
 use Rattle.ug_plain.proofs.state.PlainState.lose.Goals as goal
 

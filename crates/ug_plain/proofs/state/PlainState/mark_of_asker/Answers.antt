@@ -5,8 +5,8 @@ use Rattle.ug_world.specs.Touches.{is_about}
 use Rattle.ug_speaker.specs.Speech.{is_request}
 use Rattle.ug_plain_rules.specs.Seats as rules
 use Rattle.ug_plain_rules.specs.Plain.{marks_at}
-use Rattle.ug_seats.specs.declared.seat.Seat.{Seat}
-use Rattle.ug_seats.specs.Seen.{seats_of}
+use Rattle.ug_plain.specs.declared.seat.Seat.{Seat}
+use Rattle.ug_plain.specs.Seated.{seats_of}
 use Rattle.ug_plain.proofs.state.PlainState.mark_of_asker.Goals as goal
 
 pub returns : goal.returns

@@ -4,9 +4,9 @@ use Rattle.std.specs.Prelude.{slice_get}
 use Rattle.ug_plain_rules.specs.Seats as rules
 use Rattle.ug_plain_rules.specs.Seats.{sessions_at, change_at, with_next}
 use Rattle.ug_plain_rules.specs.Plain.{with_seats, next_said, seats_due}
-use Rattle.ug_seats.specs.Seen.{seat_of}
+use Rattle.ug_plain.specs.Seated.{seat_of}
 use Rattle.ug_plain.proofs.Placed.{few, room_at, room_set, seats_set, seat_at, had_is}
-use Rattle.ug_plain.proofs.Handing.{leaves, due_next}
+use Rattle.ug_plain.proofs.Leaving.{leaves, due_next}
 use Rattle.ug_plain.proofs.state.PlainState.next.Goals as goal
 
 pub session-sessions-requires : goal.session-sessions-requires

@@ -1,6 +1,6 @@
 use Rattle.std.proofs.Common.{◌≤◌, List, length, ap, sym, subst, ◌∙◌}
 use Rattle.ug_events.specs.Views.{event_of}
-use Rattle.ug_seats.specs.declared.seat.Seat.{Seat}
+use Rattle.ug_plain.specs.declared.seat.Seat.{Seat}
 use Rattle.ug_plain.proofs.Placed.{few}
 use Rattle.ug_plain.proofs.Taken.{known_most, told_most, peers_enough, kept_empty, kept_told}
 use Rattle.ug_plain.proofs.state.PlainState.take.Goals as goal

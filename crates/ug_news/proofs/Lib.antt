@@ -1,3 +1,0 @@
-pub mod Keyed
-pub mod Joined
-pub mod Found
