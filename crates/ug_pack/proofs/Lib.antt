@@ -1,0 +1,5 @@
+pub mod Fits
+pub mod Owed
+pub mod Keys
+pub mod Hops
+pub mod Runs
