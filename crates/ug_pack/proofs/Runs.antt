@@ -18,7 +18,7 @@ pub record IsRun (family : Family) (space : ℕ) (run : List Key) : Type 0 where
 
 pub run : (family : Family) (add_path : Bool) (keys run : List Key) (space : ℕ) (first : Key) → run ≡ fitting weight_of space keys → slice_get keys 0 ≡ Some first → weight_of first ≤ 21 → 21 ≤ space
     → AllByRecursion (IsKeyOf family add_path) keys → IsRun family space run
-run family add_path keys run space first is at light least all =
+run family add_path keys these space first is at light least all =
     let own = all_fit weight_of (IsKeyOf family add_path) space keys all in
     subst (IsRun family space) (sym is)
     (record {
