@@ -43,7 +43,6 @@ impl<K: OutKey> Line<K> {
         Line {
             places: Places::new(alloc),
             slots: BTreeSet::new(alloc),
-
         }
     }
 
@@ -58,7 +57,6 @@ impl<K: OutKey> Line<K> {
         Ok(Line {
             places: self.places.copy(alloc)?,
             slots,
-
         })
     }
 

@@ -106,11 +106,7 @@ impl<K: Ord + Copy + Drop> Rows<K> {
     {
         let _len = self.rows.len();
         let old = self.rows.insert(key, row)?;
-        self.formatted = recounted(
-            self.formatted,
-            is_formatted(old),
-            row.formatted.is_some(),
-        );
+        self.formatted = recounted(self.formatted, is_formatted(old), row.formatted.is_some());
         self.forced = recounted(self.forced, is_forced(old), row.forced);
         Ok(())
     }

@@ -3,3 +3,5 @@ pub mod Owed
 pub mod Keys
 pub mod Hops
 pub mod Runs
+pub mod Stays
+pub mod Filling

@@ -3,12 +3,14 @@
 #![tactic(auto)]
 
 mod built;
+mod laws;
 mod next;
 mod rooms;
 mod texts;
 mod whole;
 
 pub use built::Built;
+pub use laws::ready_laws;
 pub use next::build;
 pub use whole::{build_eor, build_mark};
 

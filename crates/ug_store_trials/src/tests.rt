@@ -22,7 +22,12 @@ fn key_of(id: u32) -> Key {
     }
 }
 
-fn assert_alike(rt: &impl Abort, adj: &AdjOut<Key>, slow: &SlowOut, budget: usize) -> Result<(), Fail> {
+fn assert_alike(
+    rt: &impl Abort,
+    adj: &AdjOut<Key>,
+    slow: &SlowOut,
+    budget: usize,
+) -> Result<(), Fail> {
     for id in 0..KEYS {
         let key = key_of(id);
         assert_eq!(rt; adj.formatted(&key), slow.formatted(&key));
@@ -33,7 +38,10 @@ fn assert_alike(rt: &impl Abort, adj: &AdjOut<Key>, slow: &SlowOut, budget: usiz
     assert_eq!(rt; adj.formatted_len(), slow.formatted_len());
     assert_eq!(rt; adj.has_forced(), slow.has_forced());
     let withdrawn = adj.first_withdrawals(budget)?;
-    assert_eq!(rt; withdrawn.as_slice(), slow.first_withdrawals(budget)?.as_slice());
+    assert_eq!(rt;
+        withdrawn.as_slice(),
+        slow.first_withdrawals(budget)?.as_slice()
+    );
     let alike = adj.first_alike(budget)?;
     assert_eq!(rt; alike.as_slice(), slow.first_alike(budget)?.as_slice());
     Ok(())
