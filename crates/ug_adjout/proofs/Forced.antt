@@ -121,7 +121,7 @@ module _ {K : Type 0} {cmp : K → K → Ordering} (total : IsTotalOrder cmp) (e
           ∙ append_assoc a.pending (k ∷ []) (filter (λ q. not (has cmp a.pending q)) keys)
           ∙ sym (ap (λ b. a.pending ++ cond (not b) (k ∷ filter (λ q. not (has cmp a.pending q)) keys) (filter (λ q. not (has cmp a.pending q)) keys)) e)
 
-  same_list : (xs ys : List K) → IsStrictlySortedBy cmp xs → IsStrictlySortedBy cmp ys → ((q : K) → has cmp xs q ≡ has cmp ys q) → xs ≡ ys
+  pub same_list : (xs ys : List K) → IsStrictlySortedBy cmp xs → IsStrictlySortedBy cmp ys → ((q : K) → has cmp xs q ≡ has cmp ys q) → xs ≡ ys
   same_list xs ys sx sy h = btree_set_from_contains total (record { keys = xs }) (record { keys = ys }) sx sy h exact
 
   filter_id : (test : K → Bool) (xs : List K) → AllByRecursion (λ x. test x ≡ true) xs → filter test xs ≡ xs

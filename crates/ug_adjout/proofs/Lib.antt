@@ -4,3 +4,6 @@ pub mod Views
 pub mod Runs
 pub mod Rest
 pub mod Forced
+pub mod Slots
+pub mod Values
+pub mod Counts

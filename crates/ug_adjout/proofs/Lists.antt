@@ -21,35 +21,35 @@ use Rattle.ug_adjout.specs.declared.waiting.Waiting.{Waiting}
 use Rattle.ug_adjout.specs.Waits.{waiting_keys}
 use Rattle.ug_adjout.specs.Stored.{projected, projected_with, of_row}
 
-module _ {K : Type 0} {cmp : K → K → Ordering} (total : IsTotalOrder cmp) (exact : IsAntisymmetric cmp) (f : Row → Option ℕ) where
-  all_with : (P : K → Type 0) (k : K) (o : Option ℕ) (es : List (K × ℕ)) → P k → AllByRecursion P (keys_of es) → AllByRecursion P (keys_of (projected_with f k o es))
+module _ {K V W : Type 0} {cmp : K → K → Ordering} (total : IsTotalOrder cmp) (exact : IsAntisymmetric cmp) (f : V → Option W) where
+  all_with : (P : K → Type 0) (k : K) (o : Option W) (es : List (K × W)) → P k → AllByRecursion P (keys_of es) → AllByRecursion P (keys_of (projected_with f k o es))
   all_with P k None es p h = h
   all_with P k (Some v) es p h = (p, h)
 
-  all_projected : (P : K → Type 0) (rows : List (K × Row)) → AllByRecursion P (keys_of rows) → AllByRecursion P (keys_of (projected f rows))
+  all_projected : (P : K → Type 0) (rows : List (K × V)) → AllByRecursion P (keys_of rows) → AllByRecursion P (keys_of (projected f rows))
   all_projected P [] h = tt
   all_projected P (e ∷ rows) h = all_with P e.0 (f e.1) (projected f rows) h.0 (all_projected P rows h.1)
 
-  sorted_with : (k : K) (o : Option ℕ) (es : List (K × ℕ)) → AllByRecursion (λ y. cmp k y ≡ Less) (keys_of es) → IsTable cmp es → IsTable cmp (projected_with f k o es)
+  sorted_with : (k : K) (o : Option W) (es : List (K × W)) → AllByRecursion (λ y. cmp k y ≡ Less) (keys_of es) → IsTable cmp es → IsTable cmp (projected_with f k o es)
   unfolding IsStrictlySortedBy
   sorted_with k None es above s = s
   sorted_with k (Some v) es above s = (above, s)
 
-  pub sorted_projected : (rows : List (K × Row)) → IsTable cmp rows → IsTable cmp (projected f rows)
+  pub sorted_projected : (rows : List (K × V)) → IsTable cmp rows → IsTable cmp (projected f rows)
   unfolding IsStrictlySortedBy
   sorted_projected [] s = tt
   sorted_projected (e ∷ rows) s = sorted_with e.0 (f e.1) (projected f rows) (all_projected (λ y. cmp e.0 y ≡ Less) rows s.0) (sorted_projected rows s.1)
 
   -- ---- the value at a key is what its row says
 
-  value_with : (b : Bool) (q k : K) (row : Row) (o : Option ℕ) (es : List (K × ℕ)) (r : Option Row) → is_at (cmp q) k ≡ b → f row ≡ o → value_at cmp es q ≡ of_row f r → (b ≡ true → r ≡ None)
+  value_with : (b : Bool) (q k : K) (row : V) (o : Option W) (es : List (K × W)) (r : Option V) → is_at (cmp q) k ≡ b → f row ≡ o → value_at cmp es q ≡ of_row f r → (b ≡ true → r ≡ None)
       → value_at cmp (projected_with f k o es) q ≡ of_row f (cond b (Some row) r)
   value_with true q k row None es r at e h none = h ∙ ap (of_row f) (none refl) ∙ sym e
   value_with true q k row (Some v) es r at e h none = cond-true _ (Some v) _ at ∙ sym e
   value_with false q k row None es r at e h none = h
   value_with false q k row (Some v) es r at e h none = cond-false _ (Some v) _ at ∙ h
 
-  pub value_at-projected : (rows : List (K × Row)) (q : K) → IsTable cmp rows → value_at cmp (projected f rows) q ≡ of_row f (value_at cmp rows q)
+  pub value_at-projected : (rows : List (K × V)) (q : K) → IsTable cmp rows → value_at cmp (projected f rows) q ≡ of_row f (value_at cmp rows q)
   value_at-projected [] q s = refl
   value_at-projected (e ∷ rows) q s =
       value_with (is_at (cmp q) e.0) q e.0 e.1 (f e.1) (projected f rows) (value_at cmp rows q) refl refl (value_at-projected rows q (sorted_tail cmp e.0 (keys_of rows) s))
@@ -57,23 +57,23 @@ module _ {K : Type 0} {cmp : K → K → Ordering} (total : IsTotalOrder cmp) (e
 
   -- ---- a row that changes
 
-  put_front : (k : K) (o : Option ℕ) (es : List (K × ℕ)) → AllByRecursion (λ y. cmp k y ≡ Less) (keys_of es) → projected_with f k o es ≡ with_value cmp es k o
+  put_front : (k : K) (o : Option W) (es : List (K × W)) → AllByRecursion (λ y. cmp k y ≡ Less) (keys_of es) → projected_with f k o es ≡ with_value cmp es k o
   put_front k None es above = sym (removed_nothing total exact (is_at (cmp k)) es (none_above total exact k es above))
   put_front k (Some v) [] above = refl
   put_front k (Some v) (e ∷ es) above = sym (ap (λ r. match_ordering r ((k, v) ∷ e ∷ es) ((e.0, v) ∷ es) (e ∷ insert_entry cmp es k v)) above.0)
 
-  put_same : (k q : K) (v o : Option ℕ) (es : List (K × ℕ)) → cmp k q ≡ Equal → AllByRecursion (λ y. cmp q y ≡ Less) (keys_of es) → projected_with f q o es ≡ with_value cmp (projected_with f q v es) k o
+  put_same : (k q : K) (v o : Option W) (es : List (K × W)) → cmp k q ≡ Equal → AllByRecursion (λ y. cmp q y ≡ Less) (keys_of es) → projected_with f q o es ≡ with_value cmp (projected_with f q v es) k o
   put_same k q None o es at above =
       ap (λ z. projected_with f z o es) (sym (exact k q at)) ∙ put_front k o es (subst (λ z. AllByRecursion (λ y. cmp z y ≡ Less) (keys_of es)) (sym (exact k q at)) above)
   put_same k q (Some v) None es at above = sym (cond-true _ es ((q, v) ∷ remove_entry (is_at (cmp k)) es) (ap is_eq at))
   put_same k q (Some v) (Some w) es at above = sym (ap (λ r. match_ordering r ((k, w) ∷ (q, v) ∷ es) ((q, w) ∷ es) ((q, v) ∷ insert_entry cmp es k w)) at)
 
-  put_past : (k q : K) (v o : Option ℕ) (es : List (K × ℕ)) → cmp k q ≡ Greater → projected_with f q v (with_value cmp es k o) ≡ with_value cmp (projected_with f q v es) k o
+  put_past : (k q : K) (v o : Option W) (es : List (K × W)) → cmp k q ≡ Greater → projected_with f q v (with_value cmp es k o) ≡ with_value cmp (projected_with f q v es) k o
   put_past k q None o es at = refl
   put_past k q (Some v) None es at = sym (cond-false _ es ((q, v) ∷ remove_entry (is_at (cmp k)) es) (ap is_eq at))
   put_past k q (Some v) (Some w) es at = sym (ap (λ r. match_ordering r ((k, w) ∷ (q, v) ∷ es) ((q, w) ∷ es) ((q, v) ∷ insert_entry cmp es k w)) at)
 
-  insert_step : (r : Ordering) (k : K) (row : Row) (e : K × Row) (rows rest : List (K × Row)) → cmp k e.0 ≡ r → IsTable cmp (e ∷ rows)
+  insert_step : (r : Ordering) (k : K) (row : V) (e : K × V) (rows rest : List (K × V)) → cmp k e.0 ≡ r → IsTable cmp (e ∷ rows)
       → projected f rest ≡ with_value cmp (projected f rows) k (f row)
       → projected f (match_ordering r ((k, row) ∷ e ∷ rows) ((e.0, row) ∷ rows) (e ∷ rest)) ≡ with_value cmp (projected f (e ∷ rows)) k (f row)
   insert_step Less k row e rows rest at s h =
@@ -81,11 +81,11 @@ module _ {K : Type 0} {cmp : K → K → Ordering} (total : IsTotalOrder cmp) (e
   insert_step Equal k row e rows rest at s h = put_same k e.0 (f e.1) (f row) (projected f rows) at (all_projected (λ y. cmp e.0 y ≡ Less) rows (sorted_head cmp e.0 (keys_of rows) s))
   insert_step Greater k row e rows rest at s h = ap (projected_with f e.0 (f e.1)) h ∙ put_past k e.0 (f e.1) (f row) (projected f rows) at
 
-  insert_projected : (k : K) (row : Row) (rows : List (K × Row)) → IsTable cmp rows → projected f (insert_entry cmp rows k row) ≡ with_value cmp (projected f rows) k (f row)
+  insert_projected : (k : K) (row : V) (rows : List (K × V)) → IsTable cmp rows → projected f (insert_entry cmp rows k row) ≡ with_value cmp (projected f rows) k (f row)
   insert_projected k row [] s = put_front k (f row) [] tt
   insert_projected k row (e ∷ rows) s = insert_step (cmp k e.0) k row e rows (insert_entry cmp rows k row) refl s (insert_projected k row rows (sorted_tail cmp e.0 (keys_of rows) s))
 
-  remove_with : (b : Bool) (k q : K) (v : Option ℕ) (es : List (K × ℕ)) → is_at (cmp k) q ≡ b → AllByRecursion (λ y. cmp q y ≡ Less) (keys_of es)
+  remove_with : (b : Bool) (k q : K) (v : Option W) (es : List (K × W)) → is_at (cmp k) q ≡ b → AllByRecursion (λ y. cmp q y ≡ Less) (keys_of es)
       → cond b es (projected_with f q v (remove_entry (is_at (cmp k)) es)) ≡ remove_entry (is_at (cmp k)) (projected_with f q v es)
   remove_with true k q None es at above =
       sym (removed_nothing total exact (is_at (cmp k)) es (none_above total exact k es (subst (λ z. AllByRecursion (λ y. cmp z y ≡ Less) (keys_of es)) (sym (one_key total exact k q at)) above)))
@@ -93,11 +93,11 @@ module _ {K : Type 0} {cmp : K → K → Ordering} (total : IsTotalOrder cmp) (e
   remove_with false k q None es at above = refl
   remove_with false k q (Some v) es at above = sym (cond-false _ es ((q, v) ∷ remove_entry (is_at (cmp k)) es) at)
 
-  project_cond : (b : Bool) (e : K × Row) (rows rest : List (K × Row)) → projected f (cond b rows (e ∷ rest)) ≡ cond b (projected f rows) (projected_with f e.0 (f e.1) (projected f rest))
+  project_cond : (b : Bool) (e : K × V) (rows rest : List (K × V)) → projected f (cond b rows (e ∷ rest)) ≡ cond b (projected f rows) (projected_with f e.0 (f e.1) (projected f rest))
   project_cond true e rows rest = refl
   project_cond false e rows rest = refl
 
-  remove_projected : (k : K) (rows : List (K × Row)) → IsTable cmp rows → projected f (remove_entry (is_at (cmp k)) rows) ≡ remove_entry (is_at (cmp k)) (projected f rows)
+  remove_projected : (k : K) (rows : List (K × V)) → IsTable cmp rows → projected f (remove_entry (is_at (cmp k)) rows) ≡ remove_entry (is_at (cmp k)) (projected f rows)
   remove_projected k [] s = refl
   remove_projected k (e ∷ rows) s =
       project_cond (is_at (cmp k) e.0) e rows (remove_entry (is_at (cmp k)) rows)
@@ -105,7 +105,7 @@ module _ {K : Type 0} {cmp : K → K → Ordering} (total : IsTotalOrder cmp) (e
       ∙ remove_with (is_at (cmp k) e.0) k e.0 (f e.1) (projected f rows) refl (all_projected (λ y. cmp e.0 y ≡ Less) rows (sorted_head cmp e.0 (keys_of rows) s))
 
   -- a table of the rows changes as the rows do
-  pub projected-with_value : (rows : List (K × Row)) (k : K) (row : Option Row) → IsTable cmp rows → projected f (with_value cmp rows k row) ≡ with_value cmp (projected f rows) k (of_row f row)
+  pub projected-with_value : (rows : List (K × V)) (k : K) (row : Option V) → IsTable cmp rows → projected f (with_value cmp rows k row) ≡ with_value cmp (projected f rows) k (of_row f row)
   projected-with_value rows k None s = remove_projected k rows s
   projected-with_value rows k (Some row) s = insert_projected k row rows s
 

@@ -1,10 +1,12 @@
--- Rows behind a key, rows that are counted, and maps that are made again.
+-- Rows behind a key, and maps and sets that are made again.
 use Rattle.std.proofs.Common.{◌≡◌, ℕ, ◌+◌, ◌<◌, Bool, true, false, cond, ◌&&◌, ◌||◌, List, [], ◌∷◌, ◌++◌, length, slice_get, Option, Some, None, refl, sym, ap, subst, ◌∙◌, arith}
 use Rattle.std.specs.Prelude.{is_some, if◌then◌else◌, IsTrue, ◌↔◌}
 use Rattle.std.specs.List.{filter, AllByRecursion, list_any}
 use Rattle.std.specs.Ordering.{is_lt, match_ordering, ordering_reverse}
 use Rattle.std.specs.Map.{keys_of, values_of}
 use Rattle.std.specs.BTreeMap.{insert_entry}
+use Rattle.std.specs.BTreeSet.{insert_key}
+use Rattle.std.specs.List.Sorted.{IsStrictlySortedBy}
 use Rattle.std.specs.BTreeMap.Range.{entries_between}
 use Rattle.std.specs.Cmp.{IsTotalOrder}
 use Rattle.std.specs.declared.ops.Bound.TheVariants.{Unbounded}
@@ -60,37 +62,6 @@ module _ {K : Type 0} (cmp : K → K → Ordering) where
         → slice_get (projected f range) 0 ≡ slice_get (rows_after cmp key (projected f rows)) 0
     first_after key rows range e = ap (λ l. slice_get (projected f l) 0) (e ∙ between_after key rows) ∙ ap (λ l. slice_get l 0) (projected_after key rows)
 
--- ---- counting
-
-length_with : {K : Type 0} (f : Row → Option ℕ) (k : K) (o : Option ℕ) (es : List (K × ℕ)) → length (projected_with f k o es) ≡ length es + (if is_some o then 1 else 0)
-length_with f k None es = omega arith
-length_with f k (Some v) es = omega arith
-
-length_cond : {X : Type 0} (b : Bool) (x : X) (xs : List X) → length (cond b (x ∷ xs) xs) ≡ length xs + (if b then 1 else 0)
-length_cond true x xs = omega arith
-length_cond false x xs = omega arith
-
-pub length_projected : {K : Type 0} (f : Row → Option ℕ) (rows : List (K × Row)) → length (filter (λ e. is_some (f e.1)) rows) ≡ length (projected f rows)
-length_projected f [] = refl
-length_projected f (e ∷ rows) =
-    length_cond (is_some (f e.1)) e (filter (λ x. is_some (f x.1)) rows)
-    ∙ ap (λ n. n + (if is_some (f e.1) then 1 else 0)) (length_projected f rows) ∙ sym (length_with f e.0 (f e.1) (projected f rows))
-
-any_marked : {K : Type 0} (rows : List (K × Row)) → (IsTrue (list_any (λ (r : Row). r.forced) (values_of rows)) → 0 < length (keys_of (projected mark_of rows)))
-    × (0 < length (keys_of (projected mark_of rows)) → IsTrue (list_any (λ (r : Row). r.forced) (values_of rows)))
-any_marked [] = (λ t. absurd cc, λ lt. absurd (omega arith))
-any_marked (e ∷ rows) = step e.1.forced (any_marked rows)
-  where
-    step : (b : Bool) → (IsTrue (list_any (λ (r : Row). r.forced) (values_of rows)) → 0 < length (keys_of (projected mark_of rows)))
-        × (0 < length (keys_of (projected mark_of rows)) → IsTrue (list_any (λ (r : Row). r.forced) (values_of rows)))
-        → (IsTrue (b || list_any (λ (r : Row). r.forced) (values_of rows)) → 0 < length (keys_of (projected_with mark_of e.0 (if b then Some 0 else None) (projected mark_of rows))))
-        × (0 < length (keys_of (projected_with mark_of e.0 (if b then Some 0 else None) (projected mark_of rows))) → IsTrue (b || list_any (λ (r : Row). r.forced) (values_of rows)))
-    step true h = (λ t. omega arith, λ lt. refl)
-    step false h = h
-
-pub forced_any : {K : Type 0} (rows : List (K × Row)) (b : Bool) → b ≡ list_any (λ (r : Row). r.forced) (values_of rows) → IsTrue b ↔ (0 < length (keys_of (projected mark_of rows)))
-forced_any rows b e = subst (λ z. IsTrue z ↔ (0 < length (keys_of (projected mark_of rows)))) (sym e) (any_marked rows)
-
 -- ---- a map that is made again
 
 module _ {K X : Type 0} {cmp : K → K → Ordering} (total : IsTotalOrder cmp) where
@@ -109,3 +80,22 @@ module _ {K X : Type 0} {cmp : K → K → Ordering} (total : IsTotalOrder cmp) 
   one_more done left rest whole e now so s step put =
       let all : done ++ e ∷ rest ≡ whole = ap (λ l. done ++ l) (sym step) ∙ so in
       ap (λ l. l ++ rest) (put ∙ put_end done e rest (subst (IsTable cmp) (sym all) s)) ∙ append_assoc done (e ∷ []) rest ∙ all
+
+-- ---- a set that is made again
+
+module _ {K : Type 0} {cmp : K → K → Ordering} (total : IsTotalOrder cmp) where
+  last_in : (P : K → Type 0) (ks : List K) (k : K) (rest : List K) → AllByRecursion P (ks ++ k ∷ rest) → P k
+  last_in P [] k rest h = h.0
+  last_in P (x ∷ ks) k rest h = last_in P ks k rest h.1
+
+  put_last_key : (ks : List K) (k : K) (rest : List K) → IsStrictlySortedBy cmp (ks ++ k ∷ rest) → insert_key cmp ks k ≡ ks ++ k ∷ []
+  unfolding IsStrictlySortedBy
+  put_last_key [] k rest s = refl
+  put_last_key (x ∷ ks) k rest s =
+      ap (λ r. match_ordering r (k ∷ x ∷ ks) (x ∷ ks) (x ∷ insert_key cmp ks k)) (total.antisymm k x ∙ ap ordering_reverse (last_in (λ y. cmp x y ≡ Less) ks k rest s.0))
+      ∙ ap (λ l. x ∷ l) (put_last_key ks k rest s.1)
+
+  pub one_key_more : (done left rest whole : List K) (k : K) (now : List K) → done ++ left ≡ whole → IsStrictlySortedBy cmp whole → left ≡ k ∷ rest → now ≡ insert_key cmp done k → now ++ rest ≡ whole
+  one_key_more done left rest whole k now so s step put =
+      let all : done ++ k ∷ rest ≡ whole = ap (λ l. done ++ l) (sym step) ∙ so in
+      ap (λ l. l ++ rest) (put ∙ put_last_key done k rest (subst (IsStrictlySortedBy cmp) (sym all) s)) ∙ append_assoc done (k ∷ []) rest ∙ all

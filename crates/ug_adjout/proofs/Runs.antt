@@ -1,6 +1,6 @@
 -- What the places say of the keys that are to be formatted next.
 use Rattle.std.proofs.Common.{◌≡◌, ℕ, Bool, true, false, cond, not, List, [], ◌∷◌, Option, Some, None, refl, sym, ap, ◌∙◌}
-use Rattle.std.specs.Prelude.{is_some, nat_eq}
+use Rattle.std.specs.Prelude.{is_some, nat_eq, slice_get}
 use Rattle.std.specs.Option.{option_eq}
 use Rattle.std.specs.List.{filter, AllByRecursion}
 use Rattle.std.specs.Ordering.{nat_cmp}
@@ -10,13 +10,13 @@ use Rattle.std.specs.FinMap.{IsAntisymmetric}
 use Rattle.std.specs.declared.cmp.Ordering.{Ordering}
 use Rattle.std.proofs.lemmas.Map.Keys.{sorted_tail}
 use Rattle.ug_pending.specs.Tables.{value_at, IsTable}
-use Rattle.ug_pending.specs.Formatting.{withdrawals, of_first_value, alike}
+use Rattle.ug_pending.specs.Formatting.{withdrawals, announcements, of_first_value, value_of_first, alike}
 use Rattle.ug_adjout.specs.declared.row.Row.{Row}
 use Rattle.ug_adjout.specs.declared.waiting.Waiting.{Waiting}
 use Rattle.ug_adjout.specs.Waits.{waiting_keys, keys_for, first_announced, value_or}
 use Rattle.ug_adjout.specs.Stored.{IsStored, adj_of, projected, desired_of, of_row}
 use Rattle.ug_adjout.proofs.Lists.{tail_lookup, first_lookup}
-use Rattle.ug_adjout.proofs.Views.{desired_at, waiting_desired}
+use Rattle.ug_adjout.proofs.Views.{option_itself, desired_at, waiting_desired}
 
 not_some : (o : Option ℕ) → not (is_some o) ≡ option_eq nat_eq o None
 not_some None = refl
@@ -76,6 +76,19 @@ module _ {K : Type 0} where
   first_is_head [] = refl
   first_is_head (e ∷ es) = head_step e.1.value e (filter announced es) (first_announced es) refl (first_is_head es)
 
+  some_key_by : (o : Option ℕ) (v : ℕ) (e : ℕ × Waiting K) (es : List (ℕ × Waiting K)) → e.1.value ≡ o → value_or o (first_announced es) ≡ Some v → slice_get (keys_for (Some v) (e ∷ es)) 0 ≡ None
+      → (first_announced es ≡ Some v → slice_get (keys_for (Some v) es) 0 ≡ None → ⊥) → ⊥
+  some_key_by None v e es at h none more = more h (sym (ap (λ o. slice_get (waiting_keys (cond (option_eq nat_eq o (Some v)) (e ∷ filter (of_value (Some v)) es) (filter (of_value (Some v)) es))) 0) at) ∙ none)
+  some_key_by (Some x) v e es at h none more =
+      let own : option_eq nat_eq e.1.value (Some v) ≡ true = ap (λ o. option_eq nat_eq o (Some v)) (at ∙ h) ∙ option_itself (Some v) in
+      let there = ap (λ b. slice_get (waiting_keys (cond b (e ∷ filter (of_value (Some v)) es) (filter (of_value (Some v)) es))) 0) own in
+      let z = sym there ∙ none in cc
+
+  -- the value of the first announcement is some key's
+  pub some_key : (v : ℕ) (es : List (ℕ × Waiting K)) → first_announced es ≡ Some v → slice_get (keys_for (Some v) es) 0 ≡ None → ⊥
+  some_key v [] h none = cc
+  some_key v (e ∷ es) h none = some_key_by e.1.value v e es refl h none (some_key v es)
+
   module _ (value : K → Option ℕ) where
     abbrev Says : ℕ × Waiting K → Type 0
     Says e = value e.1.key ≡ e.1.value
@@ -85,6 +98,10 @@ module _ {K : Type 0} where
 
     announced_keys : (es : List (ℕ × Waiting K)) → AllByRecursion Says es → filter (λ q. is_some (value q)) (waiting_keys es) ≡ waiting_keys (filter announced es)
     announced_keys es h = filter_keys (λ q. is_some (value q)) announced es (all_such Says _ (λ e s. ap is_some s) es h)
+
+    head_says : (es : List (ℕ × Waiting K)) → AllByRecursion Says es → value_of_first value (waiting_keys es) ≡ head_value es
+    head_says [] h = refl
+    head_says (e ∷ es) h = h.0
 
     alike_none : (ls : List (ℕ × Waiting K)) → AllByRecursion (λ e. announced e ≡ true) ls → head_value ls ≡ None → of_first_value nat_eq value (waiting_keys ls) ≡ []
     alike_none [] h e = refl
@@ -132,3 +149,8 @@ module _ {K : Type 0} {cmp : K → K → Ordering} (total : IsTotalOrder cmp) (e
       ap (of_first_value nat_eq value) (announced_keys value waiting all)
       ∙ alike_some value (filter announced waiting) v (all_filtered (Says value) announced waiting all) (sym (first_is_head waiting) ∙ e)
       ∙ ap waiting_keys (filtered_twice v waiting)
+
+  pub first_value_is : value_of_first value (announcements cmp (adj_of rows waiting)) ≡ first_announced waiting
+  first_value_is =
+      ap (value_of_first value) (announced_keys value waiting all)
+      ∙ head_says value (filter announced waiting) (all_filtered (Says value) announced waiting all) ∙ sym (first_is_head waiting)

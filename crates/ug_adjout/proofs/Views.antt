@@ -22,11 +22,11 @@ use Rattle.ug_adjout.specs.Waits.{waiting_keys}
 use Rattle.ug_adjout.specs.Stored.{IsStored, IsRowBy, is_owed, adj_of, projected, of_row, formatted_of, desired_of, desired_by, mark_of, is_forced, pends, with_change, quiet}
 use Rattle.ug_adjout.proofs.Lists.{sorted_projected, value_at-projected, projected-with_value, put_last, keys-append, has_place, place_of, keys_kept, keys_removed}
 
-option_itself : (o : Option ℕ) → option_eq nat_eq o o ≡ true
+pub option_itself : (o : Option ℕ) → option_eq nat_eq o o ≡ true
 option_itself None = refl
 option_itself (Some v) = grind (arith, nat_tests)
 
-marked : (b : Bool) → is_some {T = ℕ} (if b then Some 0 else None) ≡ b
+pub marked : (b : Bool) → is_some {T = ℕ} (if b then Some 0 else None) ≡ b
 marked true = refl
 marked false = refl
 

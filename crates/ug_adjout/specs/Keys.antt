@@ -1,11 +1,12 @@
--- Routes' keys that are equal in their order are the same.
-use Rattle.std.proofs.Common.{◌≡◌, refl, sym, ◌∙◌, nat_cmp}
+-- Routes' keys are in order, and those that are equal in their order are the same.
+use Rattle.std.proofs.Common.{◌≡◌, refl, sym, subst, ◌∙◌, nat_cmp}
 use Rattle.std.specs.declared.cmp.Ordering.TheVariants.{Equal}
 use Rattle.ug_types.specs.declared.family.Family.{Family}
 use Rattle.ug_types.specs.declared.family.Family.TheVariants.{V4, V6}
 use Rattle.ug_types.specs.declared.key.Key.{Key}
 use Rattle.ug_types.specs.Keys.{family_rank}
-use Rattle.ug_types.specs.Orders.{key_cmp}
+use Rattle.std.specs.Cmp.{IsTotalOrder}
+use Rattle.ug_types.specs.Orders.{key_cmp, key_cmp_total}
 use Rattle.ug_types.specs.OrderLaws.{key_cmp-IsAntisymmetric}
 use Rattle.ug_types.specs.contracts.family.FamilyOrd.TheImpl as family_ord
 use Rattle.ug_types.specs.contracts.key.KeyOrd.TheImpl as key_ord
@@ -16,8 +17,11 @@ family_order V4 V6 = refl
 family_order V6 V4 = refl
 family_order V6 V6 = refl
 
-key_order : (a b : Key) → key_ord.ghosts.cmp a b ≡ key_cmp a b
-key_order a b = rw (family_order a.prefix.family b.prefix.family) refl
+order_is : (a b : Key) → key_ord.ghosts.cmp a b ≡ key_cmp a b
+order_is a b = rw (family_order a.prefix.family b.prefix.family) refl
 
 pub same_keys : (a b : Key) → key_ord.ghosts.cmp a b ≡ Equal → a ≡ b
-same_keys a b e = key_cmp-IsAntisymmetric a b (sym (key_order a b) ∙ e)
+same_keys a b e = key_cmp-IsAntisymmetric a b (sym (order_is a b) ∙ e)
+
+pub keys_total : IsTotalOrder key_ord.ghosts.cmp
+keys_total = subst IsTotalOrder (λ i a b. sym (order_is a b) i) key_cmp_total

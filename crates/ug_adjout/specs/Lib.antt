@@ -1,3 +1,5 @@
 pub mod Keys
 pub mod Waits
 pub mod Stored
+pub mod Places
+pub mod Counted

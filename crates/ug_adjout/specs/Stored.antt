@@ -38,13 +38,13 @@ mark_of row = if row.forced then Some 0 else None
 abbrev pub is_owed : Option ℕ → Option ℕ → Bool → Bool
 is_owed formatted desired forced = not (option_eq nat_eq formatted desired) || (forced && is_some desired)
 
--- what the rows say of the keys that have this
-module _ {K : Type 0} (of : Row → Option ℕ) where
-  abbrev pub projected_with : K → Option ℕ → List (K × ℕ) → List (K × ℕ)
+-- what the rows say of the keys of which they say something
+module _ {K V W : Type 0} (of : V → Option W) where
+  abbrev pub projected_with : K → Option W → List (K × W) → List (K × W)
   projected_with key None rows = rows
   projected_with key (Some v) rows = (key, v) ∷ rows
 
-  abbrev pub projected : List (K × Row) → List (K × ℕ)
+  abbrev pub projected : List (K × V) → List (K × W)
   projected [] = []
   projected (e ∷ rows) = projected_with e.0 (of e.1) (projected rows)
 
@@ -87,7 +87,7 @@ quiet None = None
 quiet (Some value) = Some (record { formatted = Some value; forced = false; change = None })
 
 -- what a row says, where there is one
-abbrev pub of_row : (Row → Option ℕ) → Option Row → Option ℕ
+abbrev pub of_row : {V W : Type 0} → (V → Option W) → Option V → Option W
 of_row f None = None
 of_row f (Some row) = f row
 

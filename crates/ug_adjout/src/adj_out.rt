@@ -1,7 +1,8 @@
 ghost use Rattle.std.specs.Prelude.{◌≡◌, ◌<◌, ℕ, nat_eq, true, ◌==◌, length, Some, None, OnOk, OnErr, IfOk, IsOk, IfSome, IfNone, option_copied, slice_get, IsTrue, ◌↔◌};
 ghost use Rattle.ug_pending.specs.Tables.{value_at, has, rows_after};
 ghost use Rattle.ug_pending.specs.Pending.{nothing_out, with_desired, with_all_forced, with_formatted};
-ghost use Rattle.ug_pending.specs.Formatting.{fitting, withdrawals, alike};
+ghost use Rattle.ug_pending.specs.Formatting.{fitting, withdrawals, announcements, alike, value_of_first};
+ghost use Rattle.std.specs.Option.{option_map};
 
 use crate::marked::Marked;
 use crate::out_key::OutKey;
@@ -93,6 +94,21 @@ impl<K: OutKey> AdjOut<K> {
         self.table.alike(self.alloc, budget)
     }
 
+    /// The first key that waits for its withdrawal; None exactly where there is none.
+    pub fn first_withdrawal(&self) -> Option<K>
+        ensures { result ≡ slice_get (withdrawals K.cmp self.now) 0 }
+    {
+        self.table.first_withdrawal()
+    }
+
+    /// The first key that waits for its announcement, and the value that it waits for; None exactly where there is none.
+    pub fn first_announcement(&self) -> Option<(K, AttrId)>
+        ensures key { option_map (λ e. e.0) result ≡ slice_get (alike K.cmp nat_eq self.now) 0 }
+        ensures value { option_map (λ e. e.1) result ≡ value_of_first (value_at K.cmp self.now.desired) (announcements K.cmp self.now) }
+    {
+        self.table.first_announcement()
+    }
+
     /// What was formatted for the key.
     pub fn formatted(&self, key: &K) -> Option<AttrId>
         ensures { result ≡ value_at K.cmp self.now.formatted key.now }
@@ -121,14 +137,14 @@ impl<K: OutKey> AdjOut<K> {
         self.table.waiting_len()
     }
 
-    /// How many keys are formatted. It looks at every row.
+    /// How many keys are formatted.
     pub fn formatted_len(&self) -> usize
         ensures { result ≡ length self.now.formatted }
     {
         self.table.formatted_len()
     }
 
-    /// Whether a key is forced. It looks at every row.
+    /// Whether a key is forced.
     pub fn has_forced(&self) -> bool
         ensures { IsTrue result ↔ (0 < length self.now.forced) }
     {

@@ -1,7 +1,5 @@
 //! The rows behind a key.
-ghost use Rattle.std.specs.Prelude.{◌≡◌, slice_get, option_copied, length, is_some};
-ghost use Rattle.std.specs.List.{filter, list_any};
-ghost use Rattle.std.specs.Map.{values_of};
+ghost use Rattle.std.specs.Prelude.{◌≡◌, slice_get, option_copied};
 ghost use Rattle.ug_pending.specs.Tables.{rows_after};
 ghost use Rattle.ug_adjout.specs.Stored.{projected, formatted_of, desired_of, start_at};
 
@@ -48,20 +46,4 @@ pub fn first_desired<K: Ord + Copy + Drop>(
         }
     }
     None
-}
-
-/// How many rows are of formatted keys.
-pub fn count_formatted<K: Ord>(rows: &BTreeMap<K, Row>) -> usize
-    ensures { result ≡ length (filter (λ e. is_some e.1.formatted) rows.now.entries) }
-{
-    rows.iter()
-        .filter(|entry| entry.1.formatted.is_some())
-        .count()
-}
-
-/// Whether a row is of a forced key.
-pub fn any_forced<K: Ord>(rows: &BTreeMap<K, Row>) -> bool
-    ensures { result ≡ list_any (λ row. row.forced) (values_of rows.now.entries) }
-{
-    rows.values().any(|row| row.forced)
 }

@@ -8,7 +8,10 @@ mod desired;
 mod line;
 mod marked;
 mod out_key;
+mod places;
 mod row;
+mod rows;
+mod slot;
 mod table;
 mod waiting;
 

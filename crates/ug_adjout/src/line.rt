@@ -1,38 +1,39 @@
 //! The list of waiting keys.
-ghost use Rattle.std.specs.Prelude.{◌≡◌, ◌<◌, ◌^◌, [], ◌∷◌, ◌++◌, length, OnOk, OnErr, IfOk, IsSome, Some, None};
+ghost use Rattle.std.specs.Prelude.{◌≡◌, ◌<◌, ◌^◌, [], length, OnOk, OnErr, IfOk, Some, None, slice_get};
 ghost use Rattle.std.specs.Map.{remove_entry};
 ghost use Rattle.std.specs.Ordering.{nat_cmp};
 ghost use Rattle.std.specs.BTreeMap.{insert_entry, is_at};
-ghost use Rattle.ug_pending.specs.Tables.{IsTable};
 ghost use Rattle.ug_pending.specs.Formatting.{fitting};
 ghost use Rattle.ug_adjout.specs.Waits.{keys_for, first_announced};
 
-use crate::copied::copied;
 use crate::out_key::OutKey;
+use crate::places::Places;
+use crate::slot::Slot;
 use crate::waiting::Waiting;
 use std::alloc::Global;
-use std::collections::BTreeMap;
+use std::collections::BTreeSet;
 use std::marker::Model;
+use std::ops::Bound;
 use ug_intern::AttrId;
 use ug_types::{KeyList, NoMemory, Sequence};
 
-/// The waiting keys by their places, in that order.
+/// The waiting keys by their places, and their places by what they wait for.
 #[derive(Drop)]
 pub struct Line<K> {
-    places: BTreeMap<u64, Waiting<K>>,
+    places: Places<K>,
+    slots: BTreeSet<Slot>,
 }
 
 impl<K> Model for Line<K> {
     ghost use Rattle.std.specs.Prelude.{List, ℕ};
-    ghost use Rattle.std.specs.Ordering.{nat_cmp};
-    ghost use Rattle.ug_pending.specs.Tables.{IsTable};
     ghost use Rattle.ug_adjout.specs.declared.waiting.Waiting.{Waiting as Waits};
+    ghost use Rattle.ug_adjout.specs.Places.{IsIndexed};
 
     ghost Value = { List (ℕ × Waits K) };
 
-    ghost view = { λ l. l.places.entries };
+    ghost view = { λ l. l.places };
 
-    ghost invariant = { λ l. IsTable nat_cmp l.places.entries };
+    ghost invariant = { λ l. IsIndexed l.slots.keys l.places };
 }
 
 impl<K: OutKey> Line<K> {
@@ -40,7 +41,8 @@ impl<K: OutKey> Line<K> {
         ensures { result ≡ [] }
     {
         Line {
-            places: BTreeMap::new(alloc),
+            places: Places::new(alloc),
+            slots: BTreeSet::new(alloc),
         }
     }
 
@@ -48,8 +50,13 @@ impl<K: OutKey> Line<K> {
     pub fn copy(&self, alloc: Global) -> Result<Line<K>, NoMemory>
         ensures { IfOk result (λ copy. copy ≡ self.now) }
     {
+        let mut slots = BTreeSet::new(alloc);
+        for slot in self.slots.iter() {
+            slots.insert(*slot)?;
+        }
         Ok(Line {
-            places: copied(alloc, &self.places)?,
+            places: self.places.copy(alloc)?,
+            slots,
         })
     }
 
@@ -66,7 +73,28 @@ impl<K: OutKey> Line<K> {
         ensures ok { OnOk result (self.new ≡ insert_entry nat_cmp self.old place waiting) }
         ensures err { OnErr result (self.new ≡ self.old) }
     {
-        self.places.insert(place, waiting)?;
+        let was = self.places.at(place);
+        let slot = Slot {
+            value: waiting.value,
+            place,
+        };
+        let added = self.slots.insert(slot)?;
+        let Ok(()) = self.places.put(place, waiting) else {
+            if added {
+                self.slots.remove(&slot);
+            }
+            return Err(NoMemory);
+        };
+        let Some(was) = was else {
+            return Ok(());
+        };
+        if was.value == waiting.value {
+            return Ok(());
+        }
+        self.slots.remove(&Slot {
+            value: was.value,
+            place,
+        });
         Ok(())
     }
 
@@ -74,7 +102,14 @@ impl<K: OutKey> Line<K> {
     pub fn remove(&mut self, place: u64)
         ensures { self.new ≡ remove_entry (is_at (nat_cmp place)) self.old }
     {
-        self.places.remove(&place);
+        let Some(was) = self.places.at(place) else {
+            return;
+        };
+        self.places.remove(place);
+        self.slots.remove(&Slot {
+            value: was.value,
+            place,
+        });
     }
 
     /// The first keys that wait for this value, or for their withdrawal, as many as have room.
@@ -88,30 +123,46 @@ impl<K: OutKey> Line<K> {
     {
         let mut keys = Sequence::new(alloc);
         let mut left = room;
-        for (_, waiting) in self.places.iter() {
-            if waiting.value == value {
-                let weight = waiting.key.weight();
-                if weight > left {
-                    break;
-                }
-                left -= weight;
-                let Ok(()) = keys.push(waiting.key) else {
-                    return Err(NoMemory);
-                };
+        let start = Slot { value, place: 0 };
+        for slot in self.slots.range((Bound::Included(start), Bound::Unbounded)) {
+            if slot.value != value {
+                break;
             }
+            let Some(waiting) = self.places.at(slot.place) else {
+                continue;
+            };
+            let weight = waiting.key.weight();
+            if weight > left {
+                break;
+            }
+            left -= weight;
+            let Ok(()) = keys.push(waiting.key) else {
+                return Err(NoMemory);
+            };
         }
         Ok(keys)
+    }
+
+    /// The first key that waits for this value, or for its withdrawal.
+    pub fn first_of(&self, value: Option<AttrId>) -> Option<K>
+        ensures { result ≡ slice_get (keys_for value self.now) 0 }
+    {
+        let start = Slot { value, place: 0 };
+        for slot in self.slots.range((Bound::Included(start), Bound::Unbounded)) {
+            if value != slot.value {
+                return None;
+            }
+            if let Some(waiting) = self.places.at(slot.place) {
+                return Some(waiting.key);
+            }
+        }
+        None
     }
 
     /// The value of the first announcement that waits.
     pub fn first_value(&self) -> Option<AttrId>
         ensures { result ≡ first_announced self.now }
     {
-        for (_, waiting) in self.places.iter() {
-            if waiting.value.is_some() {
-                return waiting.value;
-            }
-        }
-        None
+        self.places.first_value()
     }
 }

@@ -6,19 +6,19 @@ ghost use Rattle.std.specs.Ordering.{nat_cmp};
 ghost use Rattle.std.specs.BTreeMap.{insert_entry, is_at};
 ghost use Rattle.ug_pending.specs.Tables.{value_at, with_value, has, rows_after};
 ghost use Rattle.ug_pending.specs.Pending.{with_desired, with_formatted, with_all_forced};
-ghost use Rattle.ug_pending.specs.Formatting.{fitting, withdrawals, alike};
+ghost use Rattle.ug_pending.specs.Formatting.{fitting, withdrawals, announcements, alike, value_of_first};
+ghost use Rattle.std.specs.Option.{option_map};
 ghost use Rattle.ug_adjout.specs.Waits.{keys_for, first_announced, waiting_keys};
 ghost use Rattle.ug_adjout.specs.Stored.{is_owed, IsFree, quiet, with_change, adj_of, with_one_forced, with_each_forced, IsShown, IsStored};
 
-use crate::after::{any_forced, count_formatted, first_desired, first_formatted};
-use crate::copied::copied;
+use crate::after::{first_desired, first_formatted};
 use crate::line::Line;
 use crate::marked::Marked;
 use crate::out_key::OutKey;
 use crate::row::{Change, Row};
+use crate::rows::Rows;
 use crate::waiting::Waiting;
 use std::alloc::Global;
-use std::collections::BTreeMap;
 use std::marker::Model;
 use ug_intern::AttrId;
 use ug_types::{KeyList, NoMemory, Sequence};
@@ -27,7 +27,7 @@ use ug_types::{KeyList, NoMemory, Sequence};
 /// its key has a place in the list.
 #[derive(Drop)]
 pub struct Table<K: OutKey> {
-    rows: BTreeMap<K, Row>,
+    rows: Rows<K>,
     line: Line<K>,
     next: u64,
 }
@@ -37,9 +37,9 @@ impl<K: OutKey> Model for Table<K> {
 
     ghost Value = { Stored K };
 
-    ghost view = { λ t. record { rows = t.rows.entries; waiting = t.line; next = t.next } };
+    ghost view = { λ t. record { rows = t.rows; waiting = t.line; next = t.next } };
 
-    ghost invariant = { λ t. IsStored K.cmp t.rows.entries t.line t.next };
+    ghost invariant = { λ t. IsStored K.cmp t.rows t.line t.next };
 }
 
 /// Whether a packet is owed for a key that is to be desired so.
@@ -55,7 +55,7 @@ impl<K: OutKey> Table<K> {
         ensures waiting { result.waiting ≡ [] }
     {
         Table {
-            rows: BTreeMap::new(alloc),
+            rows: Rows::new(alloc),
             line: Line::new(alloc),
             next: 0,
         }
@@ -65,10 +65,7 @@ impl<K: OutKey> Table<K> {
     pub fn row(&self, key: &K) -> Option<Row>
         ensures { result ≡ value_at K.cmp self.now.rows key.now }
     {
-        match self.rows.get(key) {
-            Some(row) => Some(*row),
-            None => None,
-        }
+        self.rows.row(key)
     }
 
     /// A key that waits for nothing waits for this value from now on, at the end of the list. Want of memory changes nothing.
@@ -283,13 +280,8 @@ impl<K: OutKey> Table<K> {
         ensures keys { IfOk result (λ keys. keys.items ≡ keys_of self.now.rows) }
         ensures stored { IsStored K.cmp self.now.rows self.now.waiting self.now.next }
     {
-        let mut keys = Sequence::new(alloc);
-        for key in self.rows.keys() {
-            let Ok(()) = keys.push(*key) else {
-                return Err(NoMemory);
-            };
-        }
-        Ok(keys)
+        let _next = self.next;
+        self.rows.keys(alloc)
     }
 
     /// These keys are forced, which all have a row.
@@ -357,32 +349,32 @@ impl<K: OutKey> Table<K> {
         }
     }
 
-    /// How many keys are formatted. It looks at every row.
+    /// How many keys are formatted.
     pub fn formatted_len(&self) -> usize
         ensures { result ≡ length (adj_of self.now.rows self.now.waiting).formatted }
     {
-        count_formatted(&self.rows)
+        self.rows.formatted_len()
     }
 
-    /// Whether a key is forced. It looks at every row.
+    /// Whether a key is forced.
     pub fn has_forced(&self) -> bool
         ensures { IsTrue result ↔ (0 < length (adj_of self.now.rows self.now.waiting).forced) }
     {
-        any_forced(&self.rows)
+        self.rows.forced_len() > 0
     }
 
     /// The least formatted row above the key, or the first one.
     pub fn formatted_after(&self, key: Option<&K>) -> Option<(K, AttrId)>
         ensures { result ≡ slice_get (rows_after K.cmp (option_copied key.entry) (adj_of self.now.rows self.now.waiting).formatted) 0 }
     {
-        first_formatted(&self.rows, key)
+        first_formatted(self.rows.as_map(), key)
     }
 
     /// The least desired row above the key, or the first one.
     pub fn desired_after(&self, key: Option<&K>) -> Option<(K, AttrId)>
         ensures { result ≡ slice_get (rows_after K.cmp (option_copied key.entry) (adj_of self.now.rows self.now.waiting).desired) 0 }
     {
-        first_desired(&self.rows, key)
+        first_desired(self.rows.as_map(), key)
     }
 
     /// An equal one of its own.
@@ -391,7 +383,7 @@ impl<K: OutKey> Table<K> {
         ensures waiting { IfOk result (λ copy. copy.waiting ≡ self.now.waiting) }
     {
         Ok(Table {
-            rows: copied(alloc, &self.rows)?,
+            rows: self.rows.copy(alloc)?,
             line: self.line.copy(alloc)?,
             next: self.next,
         })
@@ -430,5 +422,26 @@ impl<K: OutKey> Table<K> {
             None => Ok(Sequence::new(alloc)),
             Some(value) => self.line.first_for(alloc, Some(value), room),
         }
+    }
+
+    /// The first key that waits for its withdrawal.
+    pub fn first_withdrawal(&self) -> Option<K>
+        ensures { result ≡ slice_get (withdrawals K.cmp (adj_of self.now.rows self.now.waiting)) 0 }
+    {
+        self.line.first_of(None)
+    }
+
+    /// The first key that waits for its announcement, and the value that it waits for.
+    pub fn first_announcement(&self) -> Option<(K, AttrId)>
+        ensures key { option_map (λ e. e.0) result ≡ slice_get (alike K.cmp nat_eq (adj_of self.now.rows self.now.waiting)) 0 }
+        ensures value { option_map (λ e. e.1) result ≡ value_of_first (value_at K.cmp (adj_of self.now.rows self.now.waiting).desired) (announcements K.cmp (adj_of self.now.rows self.now.waiting)) }
+    {
+        let Some(value) = self.line.first_value() else {
+            return None;
+        };
+        let Some(key) = self.line.first_of(Some(value)) else {
+            unreachable!()
+        };
+        Some((key, value))
     }
 }

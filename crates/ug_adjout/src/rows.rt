@@ -1,0 +1,155 @@
+//! The rows by key, and how many are of formatted and of forced keys.
+ghost use Rattle.std.specs.Prelude.{◌≡◌, ◌+◌, ◌<◌, ◌≤◌, ◌^◌, [], is_some, length, IsTrue, IfOk, OnOk, OnErr, None, if◌then◌else◌};
+ghost use Rattle.std.specs.Map.{remove_entry, keys_of};
+ghost use Rattle.std.specs.BTreeMap.{insert_entry, is_at};
+ghost use Rattle.ug_pending.specs.Tables.{value_at, IsTable};
+ghost use Rattle.ug_adjout.specs.Stored.{projected, formatted_of, mark_of, of_row};
+
+use crate::copied::copied;
+use crate::row::Row;
+use std::alloc::Global;
+use std::collections::BTreeMap;
+use std::marker::Model;
+use ug_types::{KeyList, NoMemory, Sequence};
+
+/// The rows by key, and how many of them are of formatted and how many of forced keys.
+#[derive(Drop)]
+pub struct Rows<K: Ord> {
+    rows: BTreeMap<K, Row>,
+    formatted: usize,
+    forced: usize,
+}
+
+impl<K: Ord> Model for Rows<K> {
+    ghost use Rattle.std.specs.Prelude.{List};
+    ghost use Rattle.ug_adjout.specs.declared.row.Row.{Row};
+    ghost use Rattle.ug_adjout.specs.Counted.{IsCounted};
+
+    ghost Value = { List (K × Row) };
+
+    ghost view = { λ r. r.rows.entries };
+
+    ghost invariant = { λ r. IsCounted K.cmp r.rows.entries r.formatted r.forced };
+}
+
+impl<K: Ord + Copy + Drop> Rows<K> {
+    pub fn new(alloc: Global) -> Rows<K>
+        ensures { result ≡ [] }
+    {
+        Rows {
+            rows: BTreeMap::new(alloc),
+            formatted: 0,
+            forced: 0,
+        }
+    }
+
+    /// An equal one of its own.
+    pub fn copy(&self, alloc: Global) -> Result<Rows<K>, NoMemory>
+        ensures { IfOk result (λ copy. copy ≡ self.now) }
+    {
+        Ok(Rows {
+            rows: copied(alloc, &self.rows)?,
+            formatted: self.formatted,
+            forced: self.forced,
+        })
+    }
+
+    /// The rows as a map.
+    pub fn as_map(&self) -> &BTreeMap<K, Row>
+        ensures { result.now.entries ≡ self.now }
+    {
+        &self.rows
+    }
+
+    /// The keys that have a row.
+    pub fn keys(&self, alloc: Global) -> Result<KeyList<K>, NoMemory>
+        ensures { IfOk result (λ keys. keys.items ≡ keys_of self.now) }
+    {
+        let mut keys = Sequence::new(alloc);
+        for key in self.rows.keys() {
+            let Ok(()) = keys.push(*key) else {
+                return Err(NoMemory);
+            };
+        }
+        Ok(keys)
+    }
+
+    /// The key's row.
+    pub fn row(&self, key: &K) -> Option<Row>
+        ensures { result ≡ value_at K.cmp self.now key.now }
+    {
+        match self.rows.get(key) {
+            Some(row) => Some(*row),
+            None => None,
+        }
+    }
+
+    /// How many are of formatted keys.
+    pub fn formatted_len(&self) -> usize
+        ensures { result ≡ length (projected formatted_of self.now) }
+    {
+        self.formatted
+    }
+
+    /// How many are of forced keys.
+    pub fn forced_len(&self) -> usize
+        ensures { result ≡ length (projected mark_of self.now) }
+    {
+        self.forced
+    }
+
+    /// The key has this row now. Want of memory changes nothing, and comes only where the key had none.
+    pub fn insert(&mut self, key: K, row: Row) -> Result<(), NoMemory>
+        ensures entries { OnOk result (self.new ≡ insert_entry K.cmp self.old key row) }
+        ensures absent { OnErr result (value_at K.cmp self.old key ≡ None) }
+        ensures err { OnErr result (self.new ≡ self.old) }
+    {
+        let _len = self.rows.len();
+        let old = self.rows.insert(key, row)?;
+        self.formatted = recounted(self.formatted, is_formatted(old), row.formatted.is_some());
+        self.forced = recounted(self.forced, is_forced(old), row.forced);
+        Ok(())
+    }
+
+    /// The key has no row now.
+    pub fn remove(&mut self, key: &K)
+        ensures entries { self.new ≡ remove_entry (is_at (K.cmp key.now)) self.old }
+    {
+        let _len = self.rows.len();
+        let old = self.rows.remove(key);
+        self.formatted = recounted(self.formatted, is_formatted(old), false);
+        self.forced = recounted(self.forced, is_forced(old), false);
+    }
+}
+
+/// A count where what was counted, or wasn't, gives way to what is, or isn't.
+fn recounted(count: usize, old: bool, new: bool) -> usize
+    requires counted { IsTrue old → 0 < count }
+    requires small { count < 2 ^ 63 }
+    ensures { result + (if old then 1 else 0) ≡ count + (if new then 1 else 0) }
+{
+    if old == new {
+        return count;
+    }
+    if new { count + 1 } else { count - 1 }
+}
+
+/// Whether there is a row of a formatted key.
+fn is_formatted(row: Option<Row>) -> bool
+    ensures { result ≡ is_some (of_row formatted_of row) }
+{
+    match row {
+        Some(row) => row.formatted.is_some(),
+        None => false,
+    }
+}
+
+/// Whether there is a row of a forced key.
+fn is_forced(row: Option<Row>) -> bool
+    ensures { result ≡ is_some (of_row mark_of row) }
+{
+    match row {
+        Some(row) => row.forced,
+        None => false,
+    }
+}

@@ -1,0 +1,7 @@
+pub mod Fits
+pub mod Owed
+pub mod Keys
+pub mod Hops
+pub mod Runs
+pub mod Stays
+pub mod Filling

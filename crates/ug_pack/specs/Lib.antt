@@ -1,0 +1,4 @@
+pub mod Rooms
+pub mod Ready
+pub mod Packets
+pub mod Filled
