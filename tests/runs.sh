@@ -15,6 +15,7 @@
 #   limit               so many times 1,024 bytes a file may have
 #   workers             with which values of --workers alone the outcome is settled
 # A session that no file names must not be there.
+export LC_ALL=C
 cd "$(dirname "$0")/.." || exit 1
 root=$PWD
 program=${PROGRAM:-$root/out/ug_main}
@@ -156,6 +157,29 @@ if [ $# -gt 0 ]; then
 fi
 for case in "$root"/tests/runs/*/; do
     try_case "${case%/}"
+done
+
+# ---- the stories of the examples
+
+for name in route-reflector route-server spine; do
+    example=$root/examples/configurations/$name
+    for how in 0 1; do
+        rm -rf "$work/there"
+        mkdir "$work/there"
+        code=0
+        "$program" run "$example.toml" "$example.events" "$work/there" --workers $how > "$work/report" 2> "$work/errors" || code=$?
+        if [ "$code" = 0 ] && [ ! -s "$work/errors" ] && cmp -s "$work/report" "$example.report"; then
+            note "$name"
+        else
+            note "$name, workers $how:" "ends with $code, report: $(diff "$work/report" "$example.report" | head -n 10)"
+        fi
+        "$root/examples/rows.sh" "$example.toml" "$work/there" "$program" > "$work/rows" 2>&1
+        if cmp -s "$work/rows" "$example.rows"; then
+            note "sessions of $name"
+        else
+            note "sessions of $name, workers $how:" "$(diff "$work/rows" "$example.rows" | head -n 10)"
+        fi
+    done
 done
 
 # ---- statuses that the words and the files make
