@@ -1,6 +1,7 @@
 #!/bin/bash
 # Runs `run` over the cases of tests/runs, with workers and without: what it ends with, what it reports, and the bytes of
-# every session. PROGRAM is the program, or else out/ug_main. TIMES is how often each case runs with workers.
+# every session. PROGRAM is the program, or else out/ug_main. TIMES is how often each case runs with workers. With names of
+# cases, `stories` or `statuses` it runs these alone.
 #
 # A case is a folder:
 #   config.toml         the configuration, or `config`: the name of one of examples/configurations
@@ -14,6 +15,7 @@
 #   before.sh           is run in the folder of the sessions first
 #   limit               so many times 1,024 bytes a file may have
 #   workers             with which values of --workers alone the outcome is settled
+#   waits               why the case isn't run yet, unless it is named
 # A session that no file names must not be there.
 export LC_ALL=C
 cd "$(dirname "$0")/.." || exit 1
@@ -149,48 +151,29 @@ try_case() {
     done
 }
 
-if [ $# -gt 0 ]; then
-    for name in "$@"; do try_case "$root/tests/runs/$name"; done
-    echo "$passed passed, $failed failed"
-    [ "$failed" = 0 ]
-    exit
-fi
-for case in "$root"/tests/runs/*/; do
-    try_case "${case%/}"
-done
-
-# ---- the stories of the examples
-
-for name in route-reflector route-server spine; do
-    example=$root/examples/configurations/$name
-    for how in 0 1; do
-        rm -rf "$work/there"
-        mkdir "$work/there"
-        code=0
-        "$program" run "$example.toml" "$example.events" "$work/there" --workers $how > "$work/report" 2> "$work/errors" || code=$?
-        if [ "$code" = 0 ] && [ ! -s "$work/errors" ] && cmp -s "$work/report" "$example.report"; then
-            note "$name"
-        else
-            note "$name, workers $how:" "ends with $code, report: $(diff "$work/report" "$example.report" | head -n 10)"
-        fi
-        "$root/examples/rows.sh" "$example.toml" "$work/there" "$program" > "$work/rows" 2>&1
-        if cmp -s "$work/rows" "$example.rows"; then
-            note "sessions of $name"
-        else
-            note "sessions of $name, workers $how:" "$(diff "$work/rows" "$example.rows" | head -n 10)"
-        fi
+# The stories of the examples.
+stories() {
+    for name in route-reflector route-server spine; do
+        example=$root/examples/configurations/$name
+        for how in 0 1; do
+            rm -rf "$work/there"
+            mkdir "$work/there"
+            code=0
+            "$program" run "$example.toml" "$example.events" "$work/there" --workers $how > "$work/report" 2> "$work/errors" || code=$?
+            if [ "$code" = 0 ] && [ ! -s "$work/errors" ] && cmp -s "$work/report" "$example.report"; then
+                note "$name"
+            else
+                note "$name, workers $how:" "ends with $code, report: $(diff "$work/report" "$example.report" | head -n 10)"
+            fi
+            "$root/examples/rows.sh" "$example.toml" "$work/there" "$program" > "$work/rows" 2>&1
+            if cmp -s "$work/rows" "$example.rows"; then
+                note "sessions of $name"
+            else
+                note "sessions of $name, workers $how:" "$(diff "$work/rows" "$example.rows" | head -n 10)"
+            fi
+        done
     done
-done
-
-# ---- statuses that the words and the files make
-
-cd "$work" || exit 1
-cp "$root/examples/configurations/c2.toml" config
-printf '[local]\nas = 65001\nrouter_id = "192.0.2.254"\n[[policy]]\nname = "p"\nroute_map = "m9"\n' > refused
-printf 'up p1\nup p2\npaths 10.0.0.0/8 id=1 from=local nh=0.0.0.0 origin=igp as=-\n' > events
-head -c 1048577 /dev/zero | tr '\0' '#' > long
-mkdir -p folder
-touch file
+}
 
 # ends NAME STATUS REPORT WORDS..: whether the program ends so, and leaves no file in an empty folder.
 ends() {
@@ -222,77 +205,102 @@ leaves() {
     fi
 }
 
-ends "no words" 1 "status 1 usage"
-ends "run alone" 1 "status 1 usage" run
-ends "two words behind run" 1 "status 1 usage" run config events
-ends "four words behind run" 1 "status 1 usage" run config events there there
-ends "another value of --workers" 1 "status 1 usage" run config events there --workers 2
-ends "a value of --workers with more digits" 1 "status 1 usage" run config events there --workers 00
-ends "--workers without a value" 1 "status 1 usage" run config events there --workers
-ends "--workers= without a value" 1 "status 1 usage" run config events there --workers=
-ends "--workers twice" 1 "status 1 usage" run config events there --workers 0 --workers 0
-ends "--workers twice, in two forms" 1 "status 1 usage" run config --workers 1 events there --workers=1
-ends "an option of another command" 1 "status 1 usage" run --add-path config events there
-ends "--workers of another command" 1 "status 1 usage" groups config --workers 0
-ends "--workers before the command" 1 "status 1 usage" --workers 0 run config events there
-ends "--help" 1 "status 1 usage" run --help
-ends "a value before the option" 1 "status 1 usage" run config events there 0 --workers
-ends "--workers behind --" 1 "status 1 usage" run config events there -- --workers 0
-ends "words that are no text" 1 "status 1 usage" run config events $'\xff'
+# Statuses that the words and the files make.
+statuses() {
+    cd "$work" || exit 1
+    cp "$root/examples/configurations/c2.toml" config
+    printf '[local]\nas = 65001\nrouter_id = "192.0.2.254"\n[[policy]]\nname = "p"\nroute_map = "m9"\n' > refused
+    printf 'up p1\nup p2\npaths 10.0.0.0/8 id=1 from=local nh=0.0.0.0 origin=igp as=-\n' > events
+    head -c 1048577 /dev/zero | tr '\0' '#' > long
+    mkdir -p folder
+    touch file
 
-leaves "--workers behind the command" 0 "accepted 3 refused 0" run --workers 0 config events there
-leaves "--workers=0 between the words" 0 "accepted 3 refused 0" run config --workers=0 events there
-leaves "--workers 1 at the end" 0 "accepted 3 refused 0" run config events there --workers 1
-leaves "-- before the words" 0 "accepted 3 refused 0" run --workers 1 -- config events there
-leaves "-- between the words" 0 "accepted 3 refused 0" run config -- events there
-leaves "a folder with a slash" 0 "accepted 3 refused 0" run config events there/
+    ends "no words" 1 "status 1 usage"
+    ends "run alone" 1 "status 1 usage" run
+    ends "two words behind run" 1 "status 1 usage" run config events
+    ends "four words behind run" 1 "status 1 usage" run config events there there
+    ends "another value of --workers" 1 "status 1 usage" run config events there --workers 2
+    ends "a value of --workers with more digits" 1 "status 1 usage" run config events there --workers 00
+    ends "--workers without a value" 1 "status 1 usage" run config events there --workers
+    ends "--workers= without a value" 1 "status 1 usage" run config events there --workers=
+    ends "--workers twice" 1 "status 1 usage" run config events there --workers 0 --workers 0
+    ends "--workers twice, in two forms" 1 "status 1 usage" run config --workers 1 events there --workers=1
+    ends "an option of another command" 1 "status 1 usage" run --add-path config events there
+    ends "--workers of another command" 1 "status 1 usage" groups config --workers 0
+    ends "--workers before the command" 1 "status 1 usage" --workers 0 run config events there
+    ends "--help" 1 "status 1 usage" run --help
+    ends "a value before the option" 1 "status 1 usage" run config events there 0 --workers
+    ends "--workers behind --" 1 "status 1 usage" run config events there -- --workers 0
+    ends "words that are no text" 1 "status 1 usage" run config events $'\xff'
 
-ends "a configuration that is refused" 2 "status 2 config 6 policy.0.route_map" run refused events there
-ends "an empty configuration" 2 "status 2 config 2 local" run file events there
-ends "a refused configuration and no events" 2 "status 2 config 6 policy.0.route_map" run refused nothing there
-ends "a refused configuration and no folder" 2 "status 2 config 6 policy.0.route_map" run refused events nowhere
-ends "no configuration" 3 "status 3 read" run nothing events there
-ends "no configuration and no folder" 3 "status 3 read" run nothing events nowhere
-ends "a folder as the configuration" 3 "status 3 read" run folder events there
-ends "no events" 3 "status 3 read" run config nothing there
-ends "a folder as the events" 3 "status 3 read" run config folder there
-ends "no folder" 5 "status 5 site" run config events nowhere
-ends "no folder and no events" 5 "status 5 site" run config nothing nowhere
-ends "a file as the folder" 5 "status 5 site" run config events file
-ends "a configuration that is too long" 7 "status 7 too-long" run long events there
-ends "a configuration that is too long and no folder" 7 "status 7 too-long" run long events nowhere
+    leaves "--workers behind the command" 0 "accepted 3 refused 0" run --workers 0 config events there
+    leaves "--workers=0 between the words" 0 "accepted 3 refused 0" run config --workers=0 events there
+    leaves "--workers 1 at the end" 0 "accepted 3 refused 0" run config events there --workers 1
+    leaves "-- before the words" 0 "accepted 3 refused 0" run --workers 1 -- config events there
+    leaves "-- between the words" 0 "accepted 3 refused 0" run config -- events there
+    leaves "a folder with a slash" 0 "accepted 3 refused 0" run config events there/
 
-# A report that can't be written: the sessions are front parts of what they would be.
-for how in 0 1; do
+    ends "a configuration that is refused" 2 "status 2 config 6 policy.0.route_map" run refused events there
+    ends "an empty configuration" 2 "status 2 config 2 local" run file events there
+    ends "a refused configuration and no events" 2 "status 2 config 6 policy.0.route_map" run refused nothing there
+    ends "a refused configuration and no folder" 2 "status 2 config 6 policy.0.route_map" run refused events nowhere
+    ends "no configuration" 3 "status 3 read" run nothing events there
+    ends "no configuration and no folder" 3 "status 3 read" run nothing events nowhere
+    ends "a folder as the configuration" 3 "status 3 read" run folder events there
+    ends "no events" 3 "status 3 read" run config nothing there
+    ends "a folder as the events" 3 "status 3 read" run config folder there
+    ends "no folder" 5 "status 5 site" run config events nowhere
+    ends "no folder and no events" 5 "status 5 site" run config nothing nowhere
+    ends "a file as the folder" 5 "status 5 site" run config events file
+    ends "a configuration that is too long" 7 "status 7 too-long" run long events there
+    ends "a configuration that is too long and no folder" 7 "status 7 too-long" run long events nowhere
+
+    # A report that can't be written: the sessions are front parts of what they would be.
+    for how in 0 1; do
+        rm -rf there
+        mkdir there
+        code=0
+        (echo 'down p2'; cat events) > many
+        "$program" run config many there --workers $how > /dev/full 2> errors || code=$?
+        whole=$(spelled "$root/tests/runs/two-peers/p1.1.hex" | tr -d '\n')
+        sent=
+        [ -f there/p1.1 ] && sent=$(bytes there/p1.1)
+        if [ "$code" = 4 ] && [ ! -s errors ] && [ "${whole#"$sent"}" != "$whole" -o -z "$sent" ]; then
+            note "a report that can't be written"
+        else
+            note "a report that can't be written, workers $how:" "ends with $code, p1.1 is $sent, errors '$(cat errors)'"
+        fi
+        "$program" run refused events there > /dev/full 2> errors
+        [ $? = 2 ] && note "the report of a refused configuration can't be written" || note "the report of a refused configuration can't be written" "ends with another status"
+    done
+
+    # What stands in the folder already: a session's file is written anew, any other stays.
     rm -rf there
     mkdir there
-    code=0
-    (echo 'down p2'; cat events) > many
-    "$program" run config many there --workers $how > /dev/full 2> errors || code=$?
-    whole=$(spelled "$root/tests/runs/two-peers/p1.1.hex" | tr -d '\n')
-    sent=
-    [ -f there/p1.1 ] && sent=$(bytes there/p1.1)
-    if [ "$code" = 4 ] && [ ! -s errors ] && [ "${whole#"$sent"}" != "$whole" -o -z "$sent" ]; then
-        note "a report that can't be written"
+    head -c 1000 /dev/zero > there/p1.1
+    echo kept > there/p1.2
+    echo kept > there/other
+    "$program" run config events there > report 2> errors
+    if [ "$(bytes there/p1.1)" = "$(spelled "$root/tests/runs/two-peers/p1.1.hex" | tr -d '\n')" ] && [ "$(cat there/p1.2 there/other)" = $'kept\nkept' ]; then
+        note "files that were there"
     else
-        note "a report that can't be written, workers $how:" "ends with $code, p1.1 is $sent, errors '$(cat errors)'"
+        note "files that were there:" "$(ls -l there)"
     fi
-    "$program" run refused events there > /dev/full 2> errors
-    [ $? = 2 ] && note "the report of a refused configuration can't be written" || note "the report of a refused configuration can't be written" "ends with another status"
-done
+}
 
-# What stands in the folder already: a session's file is written anew, any other stays.
-rm -rf there
-mkdir there
-head -c 1000 /dev/zero > there/p1.1
-echo kept > there/p1.2
-echo kept > there/other
-"$program" run config events there > report 2> errors
-if [ "$(bytes there/p1.1)" = "$(spelled "$root/tests/runs/two-peers/p1.1.hex" | tr -d '\n')" ] && [ "$(cat there/p1.2 there/other)" = $'kept\nkept' ]; then
-    note "files that were there"
+if [ $# -gt 0 ]; then
+    for name in "$@"; do
+        case $name in
+            stories | statuses) $name ;;
+            *) try_case "$root/tests/runs/$name" ;;
+        esac
+    done
 else
-    note "files that were there:" "$(ls -l there)"
+    for case in "$root"/tests/runs/*/; do
+        [ -f "$case/waits" ] || try_case "${case%/}"
+    done
+    stories
+    statuses
 fi
-
 echo "$passed passed, $failed failed"
 [ "$failed" = 0 ]
