@@ -2,10 +2,11 @@
 # Runs `run` over 200,000 prefixes, ten an attribute set, to 1, 8 and 32 external peers, with the routes after the sessions
 # and before them, and with --workers 0 and 1. Prints for each the time, the processors' time, the peak memory and the
 # bytes written; then how the time grows from 100,000 to 400,000 prefixes, to 8 peers. Of RUNS runs (3) the shortest counts.
-# What is written goes to TMPDIR, up to half a gigabyte a run.
+# What is written goes to TMPDIR, up to half a gigabyte a run. PEERS and PREFIXES are other numbers than these.
 set -e
 source "$(dirname "$0")/measure.sh"
 runs=${RUNS:-3}
+prefixes=${PREFIXES:-200000}
 
 # A configuration of that many external peers.
 config() {
@@ -56,16 +57,16 @@ one_run() {
 for peers in ${PEERS:-1 8 32}; do
     for order in after before; do
         for workers in 0 1; do
-            one_run 200000 "$peers" "$order" "$workers"
+            one_run "$prefixes" "$peers" "$order" "$workers"
         done
     done
 done
 for order in after before; do
     for workers in 0 1; do
-        one_run 100000 8 "$order" "$workers" > /dev/null
+        one_run $((prefixes / 2)) 8 "$order" "$workers" > /dev/null
         small=$wall
-        one_run 400000 8 "$order" "$workers" > /dev/null
-        awk -v a="$small" -v b="$wall" -v o="$order" -v w="$workers" 'BEGIN {
-            printf "growth from 100000 to 400000 prefixes, routes %s the sessions, --workers %d: %.2f times (%.2f s, %.2f s)\n", o, w, b / a, a, b }'
+        one_run $((prefixes * 2)) 8 "$order" "$workers" > /dev/null
+        awk -v n="$prefixes" -v a="$small" -v b="$wall" -v o="$order" -v w="$workers" 'BEGIN {
+            printf "growth from %d to %d prefixes to 8 peers, routes %s the sessions, --workers %d: %.2f times (%.2f s, %.2f s)\n", n / 2, n * 2, o, w, b / a, a, b }'
     done
 done

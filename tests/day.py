@@ -1,11 +1,12 @@
 #!/usr/bin/env python3
-"""day.py FOLDER: a day of eight peers, and what it leaves, worked out plainly.
+"""day.py FOLDER [PART]: a day of eight peers, and what it leaves, worked out plainly.
 
 Writes FOLDER/config.toml and FOLDER/events: 20,000 prefixes, 5,000 further lines with two resets, a policy change,
 requests, filters, changes of a list, lines that are refused, and syncs. And what a run over them must end with:
 FOLDER/report, where * stands for the number of messages in a mark, FOLDER/sessions, a line for each peer that is up
 with its last session and the options of `check`, and FOLDER/rows/PEER.SESSION, what `check` prints of that session
-but for the number of messages. The seed is fixed: each run writes the same.
+but for the number of messages. The seed is fixed: each run writes the same. With PART the day is shorter: a PARTth of the
+prefixes and of the further lines.
 
 The model is a plain one: it keeps the world, and works out each peer's table from scratch, by the rules of
 docs/RULES.md and docs/POLICY.md. It shares nothing with the program.
@@ -691,11 +692,11 @@ class Day:
                 self.report.append("sync %d %s %d *" % (self.world.version, peer.name, peer.sessions))
 
 
-def lived(dice):
+def lived(dice, part):
     day = Day()
     world = day.world
     templates = Templates(dice)
-    known = places()
+    known = places()[::part]
 
     def put():
         place = dice.one_of(known)
@@ -747,9 +748,15 @@ def lived(dice):
         4700: lambda: day.event("up", "ext1"),
         4999: day.sync,
     }
-    for k in range(5000):
-        if k in special:
-            special[k]()
+    at = {}
+    for k, happens in special.items():
+        k //= part
+        while k in at:
+            k += 1
+        at[k] = happens
+    for k in range(5000 // part):
+        if k in at:
+            at[k]()
         elif dice.once_in(250):
             slip(k)
         elif dice.once_in(200):
@@ -758,7 +765,7 @@ def lived(dice):
             day.event("withdraw", dice.one_of(known))
         else:
             put()
-    assert len(day.lines) - begun == 5000
+    assert len(day.lines) - begun == 5000 // part
     return day
 
 
@@ -767,7 +774,7 @@ def main():
     world = configured()
     with open(os.path.join(folder, "config.toml"), "w") as file:
         file.write(config_text(world))
-    day = lived(Dice(20240611))
+    day = lived(Dice(20240611), int(sys.argv[2]) if len(sys.argv) > 2 else 1)
     with open(os.path.join(folder, "events"), "w") as file:
         file.write("\n".join(day.lines) + "\n")
     with open(os.path.join(folder, "report"), "w") as file:

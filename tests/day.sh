@@ -1,6 +1,7 @@
 #!/bin/bash
 # Runs the program over a day of eight peers, with workers and without, and compares its report and what each last session
 # leaves with what tests/day.py worked out from the rules. PROGRAM is the program, or else out/ug_main.
+# With a word N the day has an Nth of the prefixes and of the lines.
 export LC_ALL=C
 cd "$(dirname "$0")/.." || exit 1
 program=${PROGRAM:-$PWD/out/ug_main}
@@ -21,7 +22,7 @@ same() {
     fi
 }
 
-python3 tests/day.py "$work" || { echo "0 passed, 1 failed"; exit 1; }
+python3 tests/day.py "$work" "${1:-1}" || { echo "0 passed, 1 failed"; exit 1; }
 for how in 0 1; do
     rm -rf "$work/there"
     mkdir "$work/there"
