@@ -1,6 +1,6 @@
 # What the benchmarks share: the program, a folder to work in, and how a run of the program is measured.
 cd "$(dirname "${BASH_SOURCE[0]}")/.."
-program=$PWD/out/ug_main
+program=${PROGRAM:-$PWD/out/ug_main}
 [ -x "$program" ] || { echo "make build first" >&2; exit 1; }
 work=$(mktemp -d)
 trap 'rm -rf "$work"' EXIT

@@ -178,5 +178,90 @@ head -c 1048577 /dev/zero | tr '\0' '#' > long
 run groups long
 ends "groups of a configuration that is too long" 7 "status 7 too-long"
 
+# A configuration may have 1,048,576 bytes.
+(cat "$examples/configurations/c2.toml"; head -c 1048576 /dev/zero | tr '\0' '#') | head -c 1048576 > as-long-as-can-be
+run groups as-long-as-can-be
+ends "groups of a configuration as long as can be" 0 "$(cat "$examples/configurations/c2.groups")"
+(cat as-long-as-can-be; printf '#') > too-long
+run groups too-long
+ends "groups of a configuration of a byte more" 7 "status 7 too-long"
+rm -rf there/*
+run run too-long events there
+ends "run of a configuration of a byte more" 7 "status 7 too-long"
+
+# 64 peers in four policies, and one more.
+awk 'BEGIN {
+    print "[local]\nas = 65001\nrouter_id = \"10.255.0.1\""
+    print "[[prefix_list]]\nname = \"la\"\n[[prefix_list]]\nname = \"lb\"\n[[route_map]]\nname = \"ma\"\n[[route_map]]\nname = \"mb\""
+    print "[[policy]]\nname = \"q0\"\nprefix_list = \"la\"\nroute_map = \"ma\"\n[[policy]]\nname = \"q1\"\nprefix_list = \"lb\""
+    print "[[policy]]\nname = \"q2\"\nroute_map = \"mb\"\n[[policy]]\nname = \"q3\""
+    for (i = 0; i < 64; i++)
+        printf "[[peer]]\nname = \"p%d\"\nas = %d\nrouter_id = \"10.200.%d.2\"\naddress = \"10.200.%d.2\"\nlocal_address = \"10.200.%d.1\"\nsubnet = \"10.200.%d.0/24\"\npolicy = \"q%d\"\n", i, 65100 + i, i, i, i, i, i % 4
+}' > many-peers
+awk 'BEGIN {
+    split("la lb - -", list)
+    split("ma - mb -", map)
+    for (g = 1; g <= 4; g++) {
+        names = ""
+        for (i = g - 1; i < 64; i += 4) names = names (names == "" ? "" : ",") "p" i
+        printf "group %d external list=%s map=%s add-path=no next-hop-self=no as-override=- remove-private=no send-community=no extended=no enhanced-refresh=no peers=%s\n", g, list[g], map[g], names
+    }
+}' > many-groups
+run groups many-peers
+ends "groups of 64 peers in four policies" 0 "$(cat many-groups)"
+(cat many-peers; printf '[[peer]]\nname = "p64"\nas = 65200\nrouter_id = "10.200.64.2"\naddress = "10.200.64.2"\nlocal_address = "10.200.64.1"\nsubnet = "10.200.64.0/24"\n') > too-many-peers
+run groups too-many-peers
+ends "groups of 65 peers" 2 "status 2 config 7 peer"
+
+# ---- what `run` takes at most
+
+head -n 2000000 lines > as-many-lines
+rm -rf there/*
+run run "$examples/configurations/c1.toml" as-many-lines there
+ends "run over as many lines as are read" 0 "accepted 0 refused 0"
+run run "$examples/configurations/c1.toml" lines there
+ends "run over a line too many" 7 "status 7 too-long"
+(cat as-many-lines; printf '#') > as-many-and-a-byte
+run run "$examples/configurations/c1.toml" as-many-and-a-byte there
+ends "run over a line too many, without its newline" 7 "status 7 too-long"
+(head -n 1999998 lines; echo 'up p1'; printf 'up p1') > up-at-the-end
+run run "$examples/configurations/c1.toml" up-at-the-end there
+ends "run over a last line without its newline" 0 $'line 2000000 refused 2 already-up\naccepted 1 refused 1'
+
+# A table has 1,048,576 prefixes and 2,097,152 paths.
+printf '[local]\nas = 65001\nrouter_id = "192.0.2.254"\n' > no-peers
+awk 'BEGIN {
+    for (i = 0; i <= 1048576; i++) printf "paths 10.%d.%d.%d/32 id=1 from=local nh=0.0.0.0 origin=igp as=-\n", int(i / 65536), int(i / 256) % 256, i % 256
+    print "paths 10.0.0.0/32 id=1 from=local nh=0.0.0.0 origin=egp as=-"
+    print "paths 2001:db8::/32 id=1 from=local nh=:: origin=igp as=-"
+    print "withdraw 10.0.0.0/32"
+    print "paths 2001:db8::/32 id=1 from=local nh=:: origin=igp as=-"
+    print "paths 10.0.0.0/32 id=1 from=local nh=0.0.0.0 origin=igp as=-"
+}' > many-prefixes
+run run no-peers many-prefixes there
+ends "run over as many prefixes as there can be" 0 $'line 1048577 refused 9 table-full\nline 1048579 refused 9 table-full\nline 1048582 refused 9 table-full\naccepted 1048579 refused 3'
+rm many-prefixes
+awk '
+    function paths(n,   j, text) {
+        for (j = 1; j <= n; j++) text = text (j == 1 ? "" : " | ") "id=" j " from=local nh=0.0.0.0 origin=igp as=-"
+        return text
+    }
+    BEGIN {
+        eight = paths(8)
+        for (i = 0; i < 262144; i++) printf "paths 10.%d.%d.%d/32 %s\n", int(i / 65536), int(i / 256) % 256, i % 256, eight
+        print "paths 11.0.0.0/8 " paths(1)
+        print "paths 10.0.0.0/32 " paths(9)
+        print "paths 10.0.0.0/32 " eight
+        print "paths 10.0.0.0/32 " paths(7)
+        print "paths 11.0.0.0/8 " paths(2)
+        print "paths 11.0.0.0/8 " paths(1)
+        print "paths 10.0.0.0/32 " eight
+        print "withdraw 11.0.0.0/8"
+        print "paths 10.0.0.0/32 " eight
+    }' > many-paths
+run run no-peers many-paths there
+ends "run over as many paths as there can be" 0 $'line 262145 refused 9 table-full\nline 262146 refused 8 too-many-paths\nline 262149 refused 9 table-full\nline 262151 refused 9 table-full\naccepted 262149 refused 4'
+rm many-paths
+
 echo "$passed passed, $failed failed"
 [ "$failed" = 0 ]

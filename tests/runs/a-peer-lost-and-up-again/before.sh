@@ -1,0 +1,3 @@
+ln -s /dev/full p2.1
+ln -s /dev/full p2.2
+ln -s /dev/full p1.2
