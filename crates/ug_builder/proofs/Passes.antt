@@ -9,7 +9,7 @@ use Rattle.ug_events.specs.Events.{Saying}
 use Rattle.ug_events.specs.Reads.{Reads}
 use Rattle.ug_speaker.specs.Speech.{Speech}
 use Rattle.ug_report.specs.Report.{Answer}
-use Rattle.ug_builder.specs.Turns.{GoesOn, Answers, AnswersAt, IsLegalAt, IsDrainedAt}
+use Rattle.ug_builder.specs.Turns.{GoesOn, Answers, AnswersAt, IsLegalAt, IsEndedAt}
 use Rattle.ug_builder.proofs.Turning.{goes_further, goes_by_others, answers_later}
 
 pub if-ok : {A E : Type 0} (P Q : A → Type 0) (r : Result A E) → ((x : A) → P x → Q x) → IfOk r P → IfOk r Q
@@ -60,7 +60,9 @@ module _ {Opening State Job Said : Type 0} (rules : Rules Opening State Job Said
         subst (λ (r : Option Opening). IsLegalAt rules speech r seen) (sym root_is)
         (subst (λ (es : List (Entry Job Said)). IsLegal rules gave.opening es) (sym seen_is) legal)
 
-    pub drained-over : speech.drained (state_of rules gave) ≡ true → IsDrainedAt rules speech root seen
-    drained-over drained =
-        subst (λ (r : Option Opening). IsDrainedAt rules speech r seen) (sym root_is)
-        (subst (λ (es : List (Entry Job Said)). speech.drained (replay rules gave.opening es) ≡ true) (sym seen_is) drained)
+    pub ended-over : speech.drained (state_of rules gave) ≡ true → speech.closed (state_of rules gave) ≡ true → IsEndedAt rules speech root seen
+    ended-over drained closed =
+        subst (λ (r : Option Opening). IsEndedAt rules speech r seen) (sym root_is) (
+          subst (λ (es : List (Entry Job Said)). speech.drained (replay rules gave.opening es) ≡ true) (sym seen_is) drained,
+          subst (λ (es : List (Entry Job Said)). speech.closed (replay rules gave.opening es) ≡ true) (sym seen_is) closed,
+        )

@@ -1,5 +1,5 @@
 -- What the parts of a reading come to: the first event, the lines, and the end.
-use Rattle.std.proofs.Common.{◌≡◌, ℕ, Bool, true, false, inl, inr, List, [], ◌++◌, map, drop, Option, Some, None, refl, sym, ◌∙◌, ap, subst}
+use Rattle.std.proofs.Common.{◌≡◌, ℕ, Bool, true, false, inl, inr, List, [], ◌++◌, map, drop, Option, Some, None, refl, sym, ◌∙◌, ap, subst, arith}
 use Rattle.std.proofs.lemmas.List.{map-append, take-append-drop}
 use Rattle.ug_edge.specs.Told.{Rose, IsEnded}
 use Rattle.ug_pieces.specs.Pieces.{HasRead}
@@ -17,7 +17,7 @@ use Rattle.ug_builder.specs.declared.reading.End.TheVariants as ends
 use Rattle.ug_builder.specs.Turns.{GoesOn, IsLegalAt}
 use Rattle.ug_builder.specs.Standing.{said_by, BuilderView, IsSameBuilder, BuilderStands, BuilderStops, TakesLines, StopsWithin}
 use Rattle.ug_builder.specs.Files.{lines_begun, lines_read, most_lines}
-use Rattle.ug_builder.specs.Reading.{Outside, OfLinesBegun, LinesHalted, StandsBehind, StopsBefore, EndsAt, end_of}
+use Rattle.ug_builder.specs.Reading.{Outside, OfLinesBegun, LinesHalted, StandsBehind, StopsBefore, EndsAt, HasEnded, end_of}
 use Rattle.ug_builder.proofs.Builders.{builder-still, builder-stays-stopped, builder-starved}
 
 pub has-read : (left now : Option (List ℕ)) (P Q : List ℕ → Type 0) → ((read : List ℕ) → P read → Q read) → HasRead left now P → HasRead left now Q
@@ -91,3 +91,14 @@ module _ {Opening State Job Said : Type 0} (rules : Rules Opening State Job Said
       inr (record { none = h.none; stands = builder-still rules speech mid new same tally goes legal [] [] o.held o'.held h.stands })
   ends-still first old mid new o o' ends.Report read incomplete same tally goes legal h =
       (begun-so o'.left read _ _ (λ lines. builder-stays-stopped rules speech stops.Report mid new same goes legal first (map (said_by old.grammar) lines) o.held o'.held) h.0, h.1)
+
+  -- memory was wanting before anything was read
+  pub given-up : (first : List (Reads Saying)) (old new : BuilderView Opening Job Said) (o : Outside) → IsSameBuilder old new → new.tally ≡ old.tally → GoesOn rules speech old.pass.seen new.pass.seen
+      → IsLegalAt rules speech new.pass.root new.pass.seen → HasEnded rules speech first old new o o ends.NoMemory
+  given-up first old new o same tally goes legal = record {
+    same = same;
+    ended = λ stands. read-nothing o.left _ (inr (record { none = refl; stands = builder-still rules speech old new same tally goes legal [] [] o.held o.held stands }));
+    unharmed = λ other. refl;
+    reads = omega arith;
+    writes = omega arith;
+  }

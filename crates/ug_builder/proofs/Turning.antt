@@ -14,7 +14,7 @@ use Rattle.ug_events.specs.Reads.{Reads}
 use Rattle.ug_world.specs.Verdicts.{verdict}
 use Rattle.ug_speaker.specs.Speech.{Speech, Purpose, TakesEvent, MarksTold, Ends}
 use Rattle.ug_speaker.specs.Told.{world_at}
-use Rattle.ug_speaker.specs.Owes.{StepsRight, StaysDrained}
+use Rattle.ug_speaker.specs.Owes.{StepsRight, StaysDrained, closed_by}
 use Rattle.ug_speaker.specs.Story.{IsUnasked, IsBetween}
 use Rattle.ug_report.specs.Report.{Answer, Passed, Refused, Took, Synced}
 use Rattle.ug_builder.specs.Turns.{GoesOn, Answers, AnswersAt}
@@ -161,6 +161,20 @@ module _ {Opening State Job Said : Type 0} (rules : Rules Opening State Job Said
       ∙ (ap (replay rules old.opening) history
       ∙ replay_from-append rules (rules.start old.opening) old.history (job_entry rules 0 job (state_of rules old) ∷ [])) in
       rw there (stays_by (speech.purpose job) (state_of rules old) (rules.after job (state_of rules old)) is (steps.drained_after_job job (state_of rules old) legal) drained)
+
+  closes_by : (purpose : Purpose) (closed closed' : Bool) → purpose ≡ Ends → closed' ≡ closed_by rules speech purpose closed → closed' ≡ true
+  closes_by purpose closed closed' is by = subst (λ (p : Purpose). closed' ≡ closed_by rules speech p closed) is by
+
+  pub closed_closed :
+      (steps : StepsRight rules speech) (old new : BoardState Opening Job Said) (job : Job) → speech.purpose job ≡ Ends
+      → rules.legal job (state_of rules old) ≡ true → new.opening ≡ old.opening → new.history ≡ old.history ++ job_entry rules 0 job (state_of rules old) ∷ []
+      → speech.closed (state_of rules new) ≡ true
+  closed_closed steps old new job is legal opening history =
+      let there : state_of rules new ≡ rules.after job (state_of rules old) =
+      ap (λ (o : Opening). replay rules o new.history) opening
+      ∙ (ap (replay rules old.opening) history
+      ∙ replay_from-append rules (rules.start old.opening) old.history (job_entry rules 0 job (state_of rules old) ∷ [])) in
+      rw there (closes_by (speech.purpose job) (speech.closed (state_of rules old)) (speech.closed (rules.after job (state_of rules old))) is (steps.closed_after_job job (state_of rules old) legal))
 
   -- ---- lines for which nothing is done
 

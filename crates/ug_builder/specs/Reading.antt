@@ -14,7 +14,7 @@ use Rattle.ug_builder.specs.declared.stop.Stop.{Stop}
 use Rattle.ug_builder.specs.declared.stop.Stop.TheVariants as stops
 use Rattle.ug_builder.specs.declared.reading.End.{End}
 use Rattle.ug_builder.specs.declared.reading.End.TheVariants as ends
-use Rattle.ug_builder.specs.Turns.{IsDrainedAt}
+use Rattle.ug_builder.specs.Turns.{IsEndedAt}
 use Rattle.ug_builder.specs.Standing.{said_by, BuilderView, IsSameBuilder, BuilderStands, BuilderStops, TakesLines, StopsWithin}
 use Rattle.ug_builder.specs.Files.{lines_begun, lines_read, IsPastLimits}
 
@@ -69,7 +69,7 @@ module _ {Opening State Job Said : Type 0} (rules : Rules Opening State Job Said
     -- What the bytes that were read came to, by how reading ended.
     abbrev pub EndsAt : End → List ℕ → Type 0
     EndsAt ends.Complete read =
-        IsEnded outside'.left × (IsPastLimits read → ⊥) × StandsBehind (lines_read true read) × IsDrainedAt rules speech new.pass.root new.pass.seen
+        IsEnded outside'.left × (IsPastLimits read → ⊥) × StandsBehind (lines_read true read) × IsEndedAt rules speech new.pass.root new.pass.seen
     EndsAt ends.Read read = (IsPastLimits read → ⊥) × StandsBehind (lines_read false read) × Rose outside.reads_failed outside'.reads_failed
     EndsAt ends.TooLong read = IsPastLimits read × ((whole : Bool) → StandsBehind (lines_read whole read))
     EndsAt ends.NoMemory read = OfLinesBegun outside'.left read (StopsBefore stops.NoMemory) ⊎ IsNotBegun read

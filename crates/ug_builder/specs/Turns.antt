@@ -62,11 +62,12 @@ module _ {Opening State Job Said : Type 0} (rules : Rules Opening State Job Said
   AnswersAt None line answer old new = Unit {0}
   AnswersAt (Some opening) line answer old new = Answers opening line answer old new
 
-  -- the same of the replay: the history is legal, and everything is told behind it
+  -- the same of the replay: the history is legal
   abbrev pub IsLegalAt : Option Opening → List (Entry Job Said) → Type 0
   IsLegalAt None seen = Unit {0}
   IsLegalAt (Some opening) seen = IsLegal rules opening seen
 
-  abbrev pub IsDrainedAt : Option Opening → List (Entry Job Said) → Type 0
-  IsDrainedAt None seen = Unit {0}
-  IsDrainedAt (Some opening) seen = speech.drained (replay rules opening seen) ≡ true
+  -- and the work is ended: everything is told, and no job may be done any more
+  abbrev pub IsEndedAt : Option Opening → List (Entry Job Said) → Type 0
+  IsEndedAt None seen = Unit {0}
+  IsEndedAt (Some opening) seen = (speech.drained (replay rules opening seen) ≡ true) × (speech.closed (replay rules opening seen) ≡ true)

@@ -179,6 +179,7 @@ fn close<S: Speaker, L: Ledger>(board: &mut Board<S>, steps: &mut Steps<L>) -> R
     ensures adds { Adds (λ entry. entry.pass) 0 board.old.history board.new.history }
     ensures history { GoesOn S.Machine.rules S.speech board.old.history board.new.history }
     ensures drained { OnOk result (S.speech.drained (state_of S.Machine.rules board.old) ≡ true → S.speech.drained (state_of S.Machine.rules board.new) ≡ true) }
+    ensures closed { OnOk result (S.speech.closed (state_of S.Machine.rules board.new) ≡ true) }
     ensures legal { IsLegal S.Machine.rules board.new.opening board.new.history }
 {
     do_job(board, S::close_job(), steps)?;
@@ -196,6 +197,7 @@ pub(crate) fn conclude<S: Speaker, R: Wait, L: Ledger>(
     ensures adds { Adds (λ entry. entry.pass) 0 board.old.history board.new.history }
     ensures history { GoesOn S.Machine.rules S.speech board.old.history board.new.history }
     ensures drained { IfOk result (λ told. told ≡ true → S.speech.drained (state_of S.Machine.rules board.new) ≡ true) }
+    ensures closed { IfOk result (λ told. told ≡ true → S.speech.closed (state_of S.Machine.rules board.new) ≡ true) }
     ensures legal { IsLegal S.Machine.rules board.new.opening board.new.history }
 {
     if board.is_spent() {

@@ -10,7 +10,7 @@ ghost use Rattle.ug_events.specs.Events.{IsEvent, Says, SaysSync};
 ghost use Rattle.ug_events.specs.Views.{event_of};
 ghost use Rattle.ug_report.specs.Report.{answer_texts};
 ghost use Rattle.ug_crew.specs.Posts.{AreHere};
-ghost use Rattle.ug_builder.specs.Turns.{GoesOn, AnswersAt, IsLegalAt, IsDrainedAt, answer_of};
+ghost use Rattle.ug_builder.specs.Turns.{GoesOn, AnswersAt, IsLegalAt, IsEndedAt, answer_of};
 ghost use Rattle.ug_builder.specs.Standing.{said_by, IsSameBuilder, BuilderStands, TakesLines, StopsWithin};
 
 use crate::came::Came;
@@ -267,7 +267,7 @@ impl<S: Speaker> Builder<S> {
         ensures tally { self.new.tally ≡ self.old.tally }
         ensures posts { crew.new ≡ crew.old }
         ensures history { GoesOn S.Machine.rules S.speech self.old.pass.seen self.new.pass.seen }
-        ensures drained { OnOk result (IsDrainedAt S.Machine.rules S.speech self.new.pass.root self.new.pass.seen) }
+        ensures ended { OnOk result (IsEndedAt S.Machine.rules S.speech self.new.pass.root self.new.pass.seen) }
         ensures legal { IsLegalAt S.Machine.rules S.speech self.new.pass.root self.new.pass.seen }
     {
         for _ in rt.forever() {

@@ -8,7 +8,7 @@ ghost use Rattle.ug_events.specs.Views.{event_of};
 ghost use Rattle.ug_crew.specs.Posts.{AreHere};
 ghost use Rattle.ug_builder.specs.Standing.{said_by, IsSameBuilder, BuilderStands};
 ghost use Rattle.ug_builder.specs.Files.{lines_read, IsPastLimits};
-ghost use Rattle.ug_builder.specs.Reading.{first_of, end_of, EndsAt, HasEnded, IsRead};
+ghost use Rattle.ug_builder.specs.Reading.{Outside, first_of, end_of, EndsAt, HasEnded, IsRead};
 
 use crate::builder::Builder;
 use crate::files::read_events;
@@ -84,6 +84,20 @@ impl<S: Speaker> Reading<S> {
             report,
         );
         self.end = Some(end);
+    }
+
+    /// Ends the work on the board before anything is read, since memory was wanting.
+    pub fn give_up<R: Wait, L: Ledger>(
+        &mut self,
+        rt: &R,
+        turnstile: &Turnstile<Board<S>>,
+        steps: &mut Steps<L>,
+    )
+        requires here { self.old.builder.pass.turnstile ≡ turnstile.now.id }
+        ensures ended { (outside : Outside) → IsRead S.Machine.rules S.speech (first_of self.old.first) self.old.builder self.new.builder outside outside self.new.end }
+    {
+        self.builder.break_off(rt, turnstile, steps);
+        self.end = Some(End::NoMemory);
     }
 }
 

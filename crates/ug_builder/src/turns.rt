@@ -4,7 +4,7 @@ ghost use Rattle.std.specs.Prelude.{◌≡◌, ◌≤◌, true, false, Ok, OnOk,
 ghost use Rattle.ug_turnstile.specs.Passes.{IsSamePass};
 ghost use Rattle.ug_events.specs.Events.{IsEvent, Says, SaysSync};
 ghost use Rattle.ug_events.specs.Views.{event_of};
-ghost use Rattle.ug_builder.specs.Turns.{GoesOn, AnswersAt, IsLegalAt, IsDrainedAt, answer_of};
+ghost use Rattle.ug_builder.specs.Turns.{GoesOn, AnswersAt, IsLegalAt, IsEndedAt, answer_of};
 
 use crate::board::{break_off, conclude, mark, offer};
 use crate::came::Came;
@@ -78,7 +78,7 @@ pub(crate) fn conclude_in_turn<S: Speaker, R: Wait, L: Ledger>(
     ensures same { IsSamePass pass.old pass.new }
     ensures free { pass.new.holds ≡ false }
     ensures history { GoesOn S.Machine.rules S.speech pass.old.seen pass.new.seen }
-    ensures drained { IfOk result (λ told. told ≡ true → IsDrainedAt S.Machine.rules S.speech pass.new.root pass.new.seen) }
+    ensures ended { IfOk result (λ told. told ≡ true → IsEndedAt S.Machine.rules S.speech pass.new.root pass.new.seen) }
     ensures legal { IsLegalAt S.Machine.rules S.speech pass.new.root pass.new.seen }
 {
     let mut turn = turnstile.take(rt, pass);

@@ -1,15 +1,20 @@
 //! The program: a run over the files of the system.
 #![tactic(auto)]
 
-ghost use Rattle.std.specs.Prelude.{◌≡◌, ◌<◌, ◌↔◌, IfErr, true, false, map, length, List, [], ◌∷◌, Some};
+ghost use Rattle.std.specs.Prelude.{◌≡◌, ◌<◌, ◌↔◌, IfErr, true, false, map, take, length, List, [], Some};
 ghost use Rattle.std.specs.String.{string_bytes};
 ghost use Rattle.ug_edge.specs.Told.{Rose, IsEnded, file_told, Missing};
-ghost use Rattle.ug_rib.specs.One.{configured_world, up_p1};
-ghost use Rattle.ug_run.specs.Words.{OneCommand, CheckCommand, GroupsCommand, One, Check, Groups, command_of, is_command};
-ghost use Rattle.ug_run.specs.Statuses.{is_fixed, is_complete, ends_unread, status_text};
-ghost use Rattle.ug_run.specs.Checked.{IsChecked};
-ghost use Rattle.ug_run.specs.Listed.{IsListed};
-ghost use Rattle.ug_run.specs.Promise.{AppendsThenStatus, IsPromised, HasMade, WireTold};
+ghost use Rattle.ug_board.specs.Entry.{Entry};
+ghost use Rattle.ug_report.specs.Report.{names_in};
+ghost use Rattle.ug_sound.specs.One.{one_world};
+ghost use Rattle.ug_words.specs.Words.{OneCommand, RunCommand, CheckCommand, GroupsCommand, One, Run, Check, Groups, command_of, is_command};
+ghost use Rattle.ug_wiring.specs.Wires.{HasMade};
+ghost use Rattle.ug_commands.specs.Statuses.{row_of, is_fixed, status_text};
+ghost use Rattle.ug_commands.specs.Files.{AppendsThenStatus};
+ghost use Rattle.ug_commands.specs.Checked.{IsChecked};
+ghost use Rattle.ug_commands.specs.Listed.{IsListed};
+ghost use Rattle.ug_promise.specs.Contents.{WireTold};
+ghost use Rattle.ug_run.specs.Commands.{IsOne, IsRunOf};
 
 use std::alloc::Global;
 use std::io::{self, ErrorKind, Write};
@@ -20,8 +25,11 @@ use std::sync::Wait;
 use std::sync::ledger::{Blank, Ledger};
 use std::thread::Threads;
 use std::{env, fs};
+use ug_commands::Status;
 use ug_edge::{HostSite, Sink, Site, StdoutSink};
-use ug_run::{Status, serve};
+use ug_plain::Plain;
+use ug_run::serve;
+use ug_speaker::Speaker;
 use ug_types::Steps;
 
 /// Runs the command that the arguments are, and ends with the number of its status.
@@ -33,7 +41,7 @@ fn main(rt: HostRuntime) -> ExitCode {
         Ok(words) => {
             let mut site = HostSite::new(rt, rt.alloc());
             let mut report = StdoutSink::new(rt);
-            run::<Brand, _, _, _>(
+            run::<Brand, Plain, _, _, _>(
                 &rt,
                 rt.alloc(),
                 words.as_slice(),
@@ -91,8 +99,9 @@ fn words(rt: &HostRuntime) -> Result<Vec<String>, Status>
     Ok(words)
 }
 
-/// A run, with a counter of its own. Its status is that of `serve`, with all that holds of a run that ends so.
-fn run<L: Ledger, R: Threads + Wait + Sync, E: Site, K: Sink>(
+/// A run, with a counter of its own. Its status is that of `serve`, with all that holds of a run that ends so, whatever the
+/// machine behind it.
+fn run<L: Ledger, S: Speaker, R: Threads + Wait + Sync, E: Site, K: Sink>(
     rt: &R,
     alloc: Global,
     words: &[String],
@@ -103,32 +112,35 @@ fn run<L: Ledger, R: Threads + Wait + Sync, E: Site, K: Sink>(
     requires name { blank.name ≡ L.name }
     requires parts { blank.parts ≡ L.parts }
     requires some { 0 < blank.parts }
-    ensures promise { (command : OneCommand) → command_of (map string_bytes words.now) ≡ Some (One command) →
-        ((wires : List WireTold) × IsPromised configured_world (up_p1 ∷ []) (file_told (E.files site.old) command.events) result wires
+    ensures one { (command : OneCommand) → command_of (map string_bytes words.now) ≡ Some (One command) →
+        (wires : List WireTold) × (history : List (Entry S.Job S.Said)) × IsOne S.Machine.rules S.speech (file_told (E.files site.old) command.events) result wires history
         (E.is_picked site.new) (E.left site.new) (K.held report.old) (K.held report.new) (Rose (K.faults report.old) (K.faults report.new))
-        × HasMade (E.made site.old) (E.made site.new) command.dir configured_world (length wires)) }
+        × HasMade (E.made site.old) (E.made site.new) command.dir (take (length wires) (names_in one_world)) }
+    ensures run { (command : RunCommand) → command_of (map string_bytes words.now) ≡ Some (Run command) →
+        (wires : List WireTold) × (history : List (Entry S.Job S.Said)) × IsRunOf S.Machine.rules S.speech (file_told (E.files site.old) command.config) (file_told (E.files site.old) command.events) command.dir result wires history
+        (E.made site.old) (E.made site.new) (E.is_picked site.new) (E.left site.new) (K.held report.old) (K.held report.new) (Rose (K.faults report.old) (K.faults report.new)) }
     ensures checked { (command : CheckCommand) → command_of (map string_bytes words.now) ≡ Some (Check command) →
         IsChecked command (file_told (E.files site.old) command.stream) (E.is_picked site.new) (E.left site.new) result (K.held report.old) (K.held report.new) (Rose (K.faults report.old) (K.faults report.new)) }
     ensures check_missing { (command : CheckCommand) → command_of (map string_bytes words.now) ≡ Some (Check command) →
-        file_told (E.files site.old) command.stream ≡ Missing → ends_unread result ≡ true }
+        file_told (E.files site.old) command.stream ≡ Missing → (row_of result).may_be_unread ≡ true }
     ensures check_unmade { (command : CheckCommand) → command_of (map string_bytes words.now) ≡ Some (Check command) → E.made site.new ≡ E.made site.old }
     ensures listed { (command : GroupsCommand) → command_of (map string_bytes words.now) ≡ Some (Groups command) →
         IsListed (file_told (E.files site.old) command.config) result (K.held report.old) (K.held report.new) (Rose (K.faults report.old) (K.faults report.new)) }
     ensures groups_missing { (command : GroupsCommand) → command_of (map string_bytes words.now) ≡ Some (Groups command) →
-        file_told (E.files site.old) command.config ≡ Missing → ends_unread result ≡ true }
+        file_told (E.files site.old) command.config ≡ Missing → (row_of result).may_be_unread ≡ true }
     ensures groups_unmade { (command : GroupsCommand) → command_of (map string_bytes words.now) ≡ Some (Groups command) → E.made site.new ≡ E.made site.old }
     ensures no_command { is_command (map string_bytes words.now) ≡ false →
         AppendsThenStatus (K.held report.old) (K.held report.new) (Rose (K.faults report.old) (K.faults report.new)) [] (status_text Status.Usage) }
     ensures unmade { is_command (map string_bytes words.now) ≡ false → E.made site.new ≡ E.made site.old }
     ensures unread { is_command (map string_bytes words.now) ≡ false → E.left site.new ≡ E.left site.old }
-    ensures ended { is_complete result ≡ true → IsEnded (E.left site.new) }
     ensures usage { (result ≡ Status.Usage) ↔ (is_command (map string_bytes words.now) ≡ false) }
+    ensures ended { (row_of result).completed ≡ true → IsEnded (E.left site.new) }
     ensures read { result ≡ Status.ReadFault → Rose (E.faults site.old) (E.faults site.new) }
     ensures report { result ≡ Status.ReportFault → Rose (K.faults report.old) (K.faults report.new) }
     ensures site { result ≡ Status.SiteFault → Rose (E.wire_faults site.old) (E.wire_faults site.new) }
 {
     let mut steps = Steps::<L>::new(blank);
-    let done = serve(rt, alloc, words, site, report, &mut steps);
+    let done = serve::<S, R, E, K, L>(rt, alloc, words, site, report, &mut steps);
     done.status
 }
 

@@ -18,7 +18,7 @@ use Rattle.ug_types.specs.declared.key.Key.{Key}
 use Rattle.ug_types.specs.Attributes.{Attributes}
 use Rattle.ug_types.specs.Messages.{Message}
 use Rattle.ug_types.specs.Sessions.{message_limit}
-use Rattle.ug_message.specs.Spelling.{routes, attributes, attributes_but_next_hop}
+use Rattle.ug_message.specs.Spelling.{routes, attributes}
 use Rattle.ug_message.specs.Spellable.{is_key, is_ipv4, where_there, has_ipv4_addresses, can_be_spelled}
 use Rattle.ug_message.specs.Texts.{framed, withdrawal, announcement, within, written}
 use Rattle.ug_message.specs.Texts as texts

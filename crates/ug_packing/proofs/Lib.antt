@@ -3,3 +3,4 @@ pub mod Fitting
 pub mod Grouping
 pub mod Running
 pub mod Keyed
+pub mod Placing

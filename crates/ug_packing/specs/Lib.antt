@@ -1,3 +1,4 @@
 pub mod Packing
 pub mod Seen
 pub mod Frames
+pub mod Placed

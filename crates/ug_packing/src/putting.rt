@@ -83,7 +83,11 @@ pub fn put_all(
     put_announcements(alloc, c, &groups, texts)
 }
 
-fn all_grouped(alloc: Global, keys: &[Key], new: &[Option<Attrs>]) -> Result<Groups, NoMemory>
+fn all_grouped<'a>(
+    alloc: Global,
+    keys: &[Key],
+    new: &'a [Option<Attrs>],
+) -> Result<Groups<'a>, NoMemory>
     requires { length new.now ≡ length keys.now }
     ensures { IfOk result (λ groups. (after : Table) → new.now ≡ map after keys.now → groups ≡ by_attributes after [] keys.now) }
 {
@@ -95,7 +99,11 @@ fn all_grouped(alloc: Global, keys: &[Key], new: &[Option<Attrs>]) -> Result<Gro
 }
 
 /// Adds a key with its route, where there is one.
-fn add_route(groups: &mut Groups, route: &Option<Attrs>, key: Key) -> Result<(), NoMemory>
+fn add_route<'a>(
+    groups: &mut Groups<'a>,
+    route: &'a Option<Attrs>,
+    key: Key,
+) -> Result<(), NoMemory>
     ensures { OnOk result (groups.new ≡ with_route route.now key groups.old) }
 {
     let Some(attrs) = route else {
@@ -123,12 +131,12 @@ pub fn put_new(
     put_announcements(alloc, c, &groups, texts)
 }
 
-fn new_grouped(
+fn new_grouped<'a>(
     alloc: Global,
     keys: &[Key],
     old: &[Option<Attrs>],
-    new: &[Option<Attrs>],
-) -> Result<Groups, NoMemory>
+    new: &'a [Option<Attrs>],
+) -> Result<Groups<'a>, NoMemory>
     requires old { length old.now ≡ length keys.now }
     requires new { length new.now ≡ length keys.now }
     ensures { IfOk result (λ groups. (before after : Table) → old.now ≡ map before keys.now → new.now ≡ map after keys.now →
@@ -142,10 +150,10 @@ fn new_grouped(
 }
 
 /// Adds a key with its route, where there is one and it was another one or none.
-fn add_new(
-    groups: &mut Groups,
+fn add_new<'a>(
+    groups: &mut Groups<'a>,
     old: &Option<Attrs>,
-    new: &Option<Attrs>,
+    new: &'a Option<Attrs>,
     key: Key,
 ) -> Result<(), NoMemory>
     ensures { OnOk result (groups.new ≡ (if is_some new.now && differ old.now new.now then with_route new.now key groups.old else groups.old)) }

@@ -38,7 +38,7 @@ pub fn put_withdrawals(
 pub fn put_announcements(
     alloc: Global,
     c: Capabilities,
-    groups: &Groups,
+    groups: &Groups<'_>,
     texts: &mut Texts,
 ) -> Result<(), NoMemory>
     ensures { OnOk result (texts.new ≡ texts.old ++ texts_in c (announced c groups.now)) }
@@ -53,7 +53,7 @@ pub fn put_announcements(
 fn put_group(
     alloc: Global,
     c: Capabilities,
-    group: &Group,
+    group: &Group<'_>,
     texts: &mut Texts,
 ) -> Result<(), NoMemory>
     ensures { OnOk result (texts.new ≡ texts.old ++ texts_in c (announcements_of c group.now)) }

@@ -32,7 +32,7 @@ use Rattle.ug_promise.proofs.Marked.{IsMarkedAt, story-line-there, marks-rise, b
 
 -- ---- wires by their place
 
-each_wire_so : (P Q : ℕ → WireTold → List Content → List ℕ → Type 0) → ((p : ℕ) (wire : WireTold) (c : List Content) (l : List ℕ) → P p wire c l → Q p wire c l)
+pub each_wire_so : (P Q : ℕ → WireTold → List Content → List ℕ → Type 0) → ((p : ℕ) (wire : WireTold) (c : List Content) (l : List ℕ) → P p wire c l → Q p wire c l)
     → (p : ℕ) (wires : List WireTold) (contents : List (List Content)) (lost : List (List ℕ)) → EachWireFrom P p wires contents lost → EachWireFrom Q p wires contents lost
 each_wire_so P Q f p [] [] [] h = tt
 each_wire_so P Q f p [] [] (l ∷ lost) h = absurd h

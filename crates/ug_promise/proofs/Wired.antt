@@ -218,6 +218,7 @@ module _ {Opening State Job Said : Type 0} (rules : Rules Opening State Job Said
     rise = lost-rise 0 1 courses (omega arith) numbered;
     were = λ n has. (let found = lost-were 1 courses n numbered has in let high = found.1 in let few = begun_few in omega arith);
     faults = (let few = lost-few courses in let most = crewed.kept.kept.faults in omega arith);
+    harmless = λ none. crewed.kept.kept.harmless (sym (lost-few courses) ∙ ap length none);
     end = sessions_whole wire.sessions contents own;
   }
 

@@ -36,13 +36,15 @@ AreCounted complete count None = Unit {0}
 AreCounted true count (Some sessions) = length sessions ≡ count
 AreCounted false count (Some sessions) = length sessions ≤ count
 
--- A wire. The numbers of the lost sessions rise; they are of sessions that were, and at most as many as the wire's faults.
+-- A wire. The numbers of the lost sessions rise; they are of sessions that were, and at most as many as the wire's faults, of
+-- which there are none where no session was lost.
 pub record IsWireRight (ws : List World) (last : World) (complete : Bool) (p : ℕ) (s : PeerState) (wire : WireTold) (contents : List Content) (lost : List ℕ) : Type 0 where
   pub counted : AreCounted complete s.sessions wire.sessions
   pub each : EachSession (IsSessionRight ws p s lost) wire.sessions contents
   pub rise : RiseFrom 0 lost
   pub were : (n : ℕ) → has_number lost n ≡ true → n ≤ s.sessions
   pub faults : length lost ≤ wire.faults
+  pub harmless : lost ≡ [] → wire.faults ≡ 0
   pub end : complete ≡ true → s.up ≡ true → has_number lost s.sessions ≡ false
       → EachSession (λ n bytes c. n ≡ s.sessions → IsSessionWhole last p c) wire.sessions contents
 

@@ -1,19 +1,11 @@
-//! The run.
+//! The run: events read beside lanes that send, the report, and how it ends.
 #![tactic(auto)]
 
-mod announce;
-mod checking;
-mod frame;
-mod grouping;
-mod intake;
-mod reader;
-mod report;
+mod course;
+mod ending;
+mod losses;
 mod serving;
-mod session;
-mod speaker;
-mod status;
-mod stop;
-mod words;
+mod setup;
 
-pub use serving::{Done, WireList, serve};
-pub use status::Status;
+pub use course::Done;
+pub use serving::serve;

@@ -18,7 +18,7 @@ returns-in-Ok-conclude-clause-ended g c = record {
         so.1,
         builder-still g.S.Machine.rules g.S.Speaker.speech c.take_all.new.builder c.conclude.new.self c.conclude.ensures.same c.conclude.ensures.tally c.conclude.ensures.history c.conclude.ensures.legal
             (first_of c.args.first) (map (said_by c.args.builder.now.grammar) (lines_read true read)) (g.K.Sink.held c.args.report.now) (g.K.Sink.held c.take_all.new.report) so.2,
-        c.in-Ok-conclude.ensures.drained,
+        c.in-Ok-conclude.ensures.ended,
       ))
       (c.in-Ok.ensures.taken stands);
   unharmed = λ other. c.in-Ok.ensures.unharmed (λ is. cc);

@@ -1,4 +1,4 @@
-use Rattle.std.proofs.Common.{◌≡◌, sym, ◌∙◌}
+use Rattle.std.proofs.Common.{sym, ◌∙◌}
 use Rattle.ug_packing.proofs.Grouping.{decides_same}
 use Rattle.ug_packing.proofs.groups.are_same.Goals as goal
 

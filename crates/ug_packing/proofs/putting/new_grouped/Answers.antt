@@ -1,10 +1,7 @@
-use Rattle.std.proofs.Common.{◌≡◌, ◌+◌, ℕ, List, Option, ◌++◌, [], ◌∷◌, map, drop, ap, sym, subst, ◌∙◌, append_assoc, append-nil}
-use Rattle.std.specs.Prelude.{filter, is_some, is_none, ◌&&◌}
+use Rattle.std.proofs.Common.{◌+◌, List, drop, ap, sym, ◌∙◌}
+use Rattle.std.specs.Prelude.{filter}
 use Rattle.ug_types.specs.declared.key.Key.{Key}
-use Rattle.ug_types.specs.Attributes.{Attributes}
-use Rattle.ug_tables.specs.Tables.{Table}
-use Rattle.ug_packing.specs.Packing.{Shared, by_attributes, is_gone, is_new}
-use Rattle.ug_packing.specs.Seen.{key_where}
+use Rattle.ug_packing.specs.Packing.{Shared, by_attributes, is_new}
 use Rattle.ug_packing.proofs.Running.{none_left}
 use Rattle.ug_packing.proofs.Keyed.{new_step}
 use Rattle.ug_packing.proofs.putting.new_grouped.Goals as goal

@@ -1,4 +1,4 @@
-use Rattle.std.proofs.Common.{◌≡◌, ℕ, Some, List, ◌++◌, ap, sym, ◌∙◌}
+use Rattle.std.proofs.Common.{ℕ, Some, List, ◌++◌, ap}
 use Rattle.std.proofs.lemmas.Result.{IfOk-equal}
 use Rattle.ug_packing.specs.Packing.{announcements_of}
 use Rattle.ug_packing.specs.Seen.{texts_in}

@@ -1,4 +1,4 @@
-use Rattle.std.proofs.Common.{◌≡◌, ℕ, None, List, ◌++◌, ap}
+use Rattle.std.proofs.Common.{ℕ, None, List, ◌++◌, ap}
 use Rattle.std.proofs.lemmas.Result.{IfOk-equal}
 use Rattle.ug_packing.specs.Packing.{withdrawals}
 use Rattle.ug_packing.specs.Seen.{texts_in}

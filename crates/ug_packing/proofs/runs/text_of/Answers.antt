@@ -1,4 +1,3 @@
-use Rattle.std.proofs.Common.{Some}
 use Rattle.std.specs.Option.{option_map}
 use Rattle.ug_packing.proofs.Fitting.{good_of, front_none}
 use Rattle.ug_packing.proofs.runs.text_of.Goals as goal

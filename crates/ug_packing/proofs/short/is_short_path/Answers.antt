@@ -1,4 +1,4 @@
-use Rattle.std.proofs.Common.{◌≡◌, ◌+◌, ◌*◌, length, map, drop, ap, sym, ◌∙◌, arith}
+use Rattle.std.proofs.Common.{arith}
 use Rattle.ug_packing.proofs.Loads.{rest_segments}
 use Rattle.ug_packing.proofs.short.is_short_path.Goals as goal
 

@@ -1,0 +1,10 @@
+use Rattle.ug_builder.specs.Reading.{first_of}
+use Rattle.ug_builder.proofs.Readings.{given-up}
+use Rattle.ug_builder.proofs.reading.Reading.give_up.Goals as goal
+
+pub returns : goal.returns
+returns g c = record {
+  ended = λ outside.
+      given-up g.S.Machine.rules g.S.Speaker.speech (first_of c.args.self.now.first) c.args.self.now.builder c.break_off.new.self outside
+      c.break_off.ensures.same c.break_off.ensures.tally c.break_off.ensures.history c.break_off.ensures.legal;
+}

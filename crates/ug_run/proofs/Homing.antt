@@ -1,0 +1,269 @@
+-- What comes back at the end of a run, and what the run comes to.
+use Rattle.std.proofs.Common.{◌≡◌, ℕ, ◌+◌, ◌<◌, ◌≤◌, Bool, true, false, List, [], ◌∷◌, length, map, All, Option, Some, None, inl, inr, refl, sym, ◌∙◌, ap, subst, arith}
+use Rattle.std.specs.Prelude.{IfSome}
+use Rattle.std.specs.List.{list_any}
+use Rattle.std.proofs.lemmas.List.{length-map}
+use Rattle.ug_edge.specs.Told.{Rose, IsEnded, HasPicked, FileText, file_told}
+use Rattle.ug_pieces.specs.ReadingLaws.{Rose-later}
+use Rattle.ug_board.specs.Entry.{Entry}
+use Rattle.ug_board.specs.Rules.{Rules, IsMachine}
+use Rattle.ug_deeds.specs.Deeds.{Each}
+use Rattle.ug_turnstile.specs.Passes.{Gate, Held, Agrees}
+use Rattle.ug_board.specs.History.{IsLegal}
+use Rattle.ug_sender.specs.Lanes.{LaneView}
+use Rattle.ug_events.specs.Events.{IsEvent, Saying}
+use Rattle.ug_events.specs.Reads.{Reads}
+use Rattle.ug_events.specs.Views.{event_of}
+use Rattle.ug_events.specs.declared.event.Event.{Event}
+use Rattle.ug_world.specs.World.{World}
+use Rattle.ug_speaker.specs.Speech.{Speech}
+use Rattle.ug_speaker.specs.Ranges.{IsEventInRange}
+use Rattle.ug_speaker.specs.Owes.{IsOpening, IsSpeaker}
+use Rattle.ug_speaker.specs.Story.{IsSound}
+use Rattle.ug_report.specs.declared.endings.Loss.{Loss}
+use Rattle.ug_report.specs.Report.{names_in, losses_from, losses_status}
+use Rattle.ug_crew.specs.Posts.{Post, post_of, posts, AreHere}
+use Rattle.ug_builder.specs.declared.grammar.Grammar.{Grammar}
+use Rattle.ug_builder.specs.declared.tally.Tally.{Tally}
+use Rattle.ug_builder.specs.declared.reading.End.{End}
+use Rattle.ug_builder.specs.declared.reading.End.TheVariants as ends
+use Rattle.ug_builder.specs.Standing.{BuilderView, IsSameBuilder, BuilderStands}
+use Rattle.ug_builder.specs.FreshLaws.{fresh-stands}
+use Rattle.ug_builder.specs.Reading.{Outside, first_of, EndsAt, HasEnded, IsRead}
+use Rattle.ug_wiring.specs.Lanes.{AreAtPosts, AreKept, fresh_lanes}
+use Rattle.ug_wiring.specs.Run.{IsBegun, IsHistoryOf}
+use Rattle.ug_wiring.proofs.LaneLaws.{posts_fresh, posts_stay, posts_here, lanes_many}
+use Rattle.ug_commands.specs.Statuses.{row_of, status_text}
+use Rattle.ug_commands.specs.declared.status.Status.{Status}
+use Rattle.ug_commands.specs.declared.status.Status.TheVariants as statuses
+use Rattle.ug_commands.proofs.Ends.{part_read, later_status}
+use Rattle.ug_promise.specs.Contents.{WireTold}
+use Rattle.ug_promise.specs.Crew.{all_losses}
+use Rattle.ug_run.specs.Ends.{last_text, IsConcluded, CompletesBy, IsFinished}
+use Rattle.ug_run.specs.Promise.{IsRun}
+use Rattle.ug_run.proofs.Closing.{crew-from, IsBehind, behind}
+use Rattle.ug_run.proofs.Coming.{comes}
+
+-- ---- lanes and their posts
+
+module _ {W Opening Job Said : Type 0} where
+  pub same-many : (lanes old : List (LaneView W Opening Job Said)) → posts lanes ≡ posts old → length lanes ≡ length old
+  same-many lanes old same = sym (length-map lanes post_of) ∙ (ap length same ∙ length-map old post_of)
+
+  module _ {State : Type 0} (speech : Speech Opening State Job Said) (w : World) (gate : Gate) (b0 : Held (Entry Job Said) Opening) (passes : List (Held (Entry Job Said) Opening)) (wires : List W) (is : IsBegun speech w gate b0 passes) where
+    pub fresh-at : AreAtPosts gate.id (Some is.root) 0 (fresh_lanes 0 wires passes)
+    fresh-at = posts_fresh gate.id is.root 0 wires passes is.others
+
+    pub back-at : (lanes : List (LaneView W Opening Job Said)) → posts lanes ≡ posts (fresh_lanes 0 wires passes) → AreAtPosts gate.id (Some is.root) 0 lanes
+    back-at lanes same =
+        posts_stay post_of (λ a b e. (ap (λ (p : Post Opening). p.turnstile) e, ap (λ (p : Post Opening). p.root) e, ap (λ (p : Post Opening). p.number) e, ap (λ (p : Post Opening). p.peer) e))
+        gate.id (Some is.root) 0 lanes (fresh_lanes 0 wires passes) same fresh-at
+
+    pub here-at : (lanes : List (LaneView W Opening Job Said)) → AreAtPosts gate.id (Some is.root) 0 lanes → AreHere gate.id (posts lanes)
+    here-at lanes at = posts_here post_of (λ (p : Post Opening). p.turnstile) (λ a. refl) gate.id (Some is.root) 0 lanes at
+
+    pub root-is : b0.root ≡ Some is.root
+    root-is = ap (λ (p : Held (Entry Job Said) Opening). p.root) is.head
+
+-- ---- the first event
+
+pub first-sound : (first : Option Event) → IfSome first (λ event. IsEvent (event_of event)) → IfSome first (λ event. IsEventInRange (event_of event)) → Each IsSound (first_of first)
+first-sound None form in_range = tt
+first-sound (Some event) form in_range = ((form, in_range), tt)
+
+-- ---- a fault within a part of a run is one of the run
+
+module _ (names : List (List ℕ)) (losses : List Loss) (accepted refused : ℕ) (before held : Option (List ℕ)) (F G : Type 0) (f : F → G) where
+  concluded_later : (status : Status) → IsConcluded names losses accepted refused before held F status → IsConcluded names losses accepted refused before held G status
+  concluded_later statuses.Ok h = h
+  concluded_later (statuses.Lost peer session) h = (h.0, later_status before held F G (last_text names losses accepted refused) (losses_status names losses) f h.1)
+  concluded_later statuses.ReportFault h = (f h.0, h.1)
+  concluded_later statuses.NoMemory h = later_status before held F G [] (status_text statuses.NoMemory) f h
+  concluded_later statuses.Usage h = absurd h
+  concluded_later (statuses.Config number field) h = absurd h
+  concluded_later statuses.ReadFault h = absurd h
+  concluded_later statuses.SiteFault h = absurd h
+  concluded_later statuses.TooLong h = absurd h
+  concluded_later (statuses.Malformed cause offset) h = absurd h
+
+  completes_later : (unnoted : Bool) (status : Status) → CompletesBy names losses accepted refused before held F unnoted status → CompletesBy names losses accepted refused before held G unnoted status
+  completes_later false status h = concluded_later status h
+  completes_later true status h = (h.0, later_status before held F G [] (status_text statuses.NoMemory) f h.1)
+
+  pub finished-later : (end : End) (unnoted : Bool) (status : Status) → IsFinished names losses accepted refused before held F end unnoted status → IsFinished names losses accepted refused before held G end unnoted status
+  finished-later ends.Complete unnoted status h = completes_later unnoted status h
+  finished-later ends.Read unnoted status h = (h.0, later_status before held F G [] (status_text statuses.ReadFault) f h.1)
+  finished-later ends.Report unnoted status h = h
+  finished-later ends.NoMemory unnoted status h = (h.0, later_status before held F G [] (status_text statuses.NoMemory) f h.1)
+  finished-later ends.TooLong unnoted status h = (h.0, later_status before held F G [] (status_text statuses.TooLong) f h.1)
+
+-- ---- what a status says of the outside
+
+module _ (names : List (List ℕ)) (losses : List Loss) (accepted refused : ℕ) (before held : Option (List ℕ)) (F : Type 0) where
+  -- the statuses that need a cause
+  record Causes (status : Status) : Type 0 where
+    unread : status ≡ statuses.ReadFault → ⊥
+    made : status ≡ statuses.SiteFault → ⊥
+    failed : status ≡ statuses.ReportFault → F
+
+  concluded_causes : (status : Status) → IsConcluded names losses accepted refused before held F status → Causes status
+  concluded_causes statuses.Ok h = record { unread = λ is. cc; made = λ is. cc; failed = λ is. absurd cc }
+  concluded_causes (statuses.Lost peer session) h = record { unread = λ is. cc; made = λ is. cc; failed = λ is. absurd cc }
+  concluded_causes statuses.ReportFault h = record { unread = λ is. cc; made = λ is. cc; failed = λ is. h.0 }
+  concluded_causes statuses.NoMemory h = record { unread = λ is. cc; made = λ is. cc; failed = λ is. absurd cc }
+  concluded_causes statuses.Usage h = absurd h
+  concluded_causes (statuses.Config number field) h = absurd h
+  concluded_causes statuses.ReadFault h = absurd h
+  concluded_causes statuses.SiteFault h = absurd h
+  concluded_causes statuses.TooLong h = absurd h
+  concluded_causes (statuses.Malformed cause offset) h = absurd h
+
+  completes_causes : (unnoted : Bool) (status : Status) → CompletesBy names losses accepted refused before held F unnoted status → Causes status
+  completes_causes false status h = concluded_causes status h
+  completes_causes true status h = record { unread = λ is. (let at : statuses.NoMemory ≡ statuses.ReadFault = sym h.0 ∙ is in cc); made = λ is. (let at : statuses.NoMemory ≡ statuses.SiteFault = sym h.0 ∙ is in cc); failed = λ is. (let at : statuses.NoMemory ≡ statuses.ReportFault = sym h.0 ∙ is in absurd cc) }
+
+  pub finished-read : (P : Type 0) (end : End) (unnoted : Bool) (status : Status) → IsFinished names losses accepted refused before held F end unnoted status → (end ≡ ends.Read → P) → status ≡ statuses.ReadFault → P
+  finished-read P ends.Complete unnoted status h by_read is = absurd ((completes_causes unnoted status h).unread is)
+  finished-read P ends.Read unnoted status h by_read is = by_read refl
+  finished-read P ends.Report unnoted status h by_read is = let at : statuses.ReportFault ≡ statuses.ReadFault = sym h.0 ∙ is in absurd cc
+  finished-read P ends.NoMemory unnoted status h by_read is = let at : statuses.NoMemory ≡ statuses.ReadFault = sym h.0 ∙ is in absurd cc
+  finished-read P ends.TooLong unnoted status h by_read is = let at : statuses.TooLong ≡ statuses.ReadFault = sym h.0 ∙ is in absurd cc
+
+  pub finished-report : (P : Type 0) (end : End) (unnoted : Bool) (status : Status) → IsFinished names losses accepted refused before held F end unnoted status → (end ≡ ends.Report → P) → (F → P) → status ≡ statuses.ReportFault → P
+  finished-report P ends.Complete unnoted status h by_report by_last is = by_last ((completes_causes unnoted status h).failed is)
+  finished-report P ends.Read unnoted status h by_report by_last is = let at : statuses.ReadFault ≡ statuses.ReportFault = sym h.0 ∙ is in absurd cc
+  finished-report P ends.Report unnoted status h by_report by_last is = by_report refl
+  finished-report P ends.NoMemory unnoted status h by_report by_last is = let at : statuses.NoMemory ≡ statuses.ReportFault = sym h.0 ∙ is in absurd cc
+  finished-report P ends.TooLong unnoted status h by_report by_last is = let at : statuses.TooLong ≡ statuses.ReportFault = sym h.0 ∙ is in absurd cc
+
+  pub finished-made : (end : End) (unnoted : Bool) (status : Status) → IsFinished names losses accepted refused before held F end unnoted status → status ≡ statuses.SiteFault → ⊥
+  finished-made ends.Complete unnoted status h is = (completes_causes unnoted status h).made is
+  finished-made ends.Read unnoted status h is = let at : statuses.ReadFault ≡ statuses.SiteFault = sym h.0 ∙ is in cc
+  finished-made ends.Report unnoted status h is = let at : statuses.ReportFault ≡ statuses.SiteFault = sym h.0 ∙ is in cc
+  finished-made ends.NoMemory unnoted status h is = let at : statuses.NoMemory ≡ statuses.SiteFault = sym h.0 ∙ is in cc
+  finished-made ends.TooLong unnoted status h is = let at : statuses.TooLong ≡ statuses.SiteFault = sym h.0 ∙ is in cc
+
+  pub finished-whole : (P : Type 0) (end : End) (unnoted : Bool) (status : Status) → IsFinished names losses accepted refused before held F end unnoted status → (end ≡ ends.Complete → P) → (row_of status).completed ≡ true → P
+  finished-whole P ends.Complete unnoted status h by_end done = by_end refl
+  finished-whole P ends.Read unnoted status h by_end done = let at : (row_of statuses.ReadFault).completed ≡ true = subst (λ (s : Status). (row_of s).completed ≡ true) h.0 done in absurd cc
+  finished-whole P ends.Report unnoted status h by_end done = let at : (row_of statuses.ReportFault).completed ≡ true = subst (λ (s : Status). (row_of s).completed ≡ true) h.0 done in absurd cc
+  finished-whole P ends.NoMemory unnoted status h by_end done = let at : (row_of statuses.NoMemory).completed ≡ true = subst (λ (s : Status). (row_of s).completed ≡ true) h.0 done in absurd cc
+  finished-whole P ends.TooLong unnoted status h by_end done = let at : (row_of statuses.TooLong).completed ≡ true = subst (λ (s : Status). (row_of s).completed ≡ true) h.0 done in absurd cc
+
+-- ---- how the reading ended
+
+module _ {Opening State Job Said : Type 0} (rules : Rules Opening State Job Said) (speech : Speech Opening State Job Said) where
+  pub read-same : (first : List (Reads Saying)) (old new : BuilderView Opening Job Said) (o o' : Outside) (end : Option End) → IsRead rules speech first old new o o' end → IsSameBuilder old new
+  read-same first old new o o' None h = absurd h
+  read-same first old new o o' (Some end) h = h.same
+
+  pub read-faults : (first : List (Reads Saying)) (old new : BuilderView Opening Job Said) (o o' : Outside) (end : Option End) → IsRead rules speech first old new o o' end → o.reads_failed ≤ o'.reads_failed
+  read-faults first old new o o' None h = absurd h
+  read-faults first old new o o' (Some end) h = h.reads
+
+  pub read-ended : (first : List (Reads Saying)) (old new : BuilderView Opening Job Said) (o o' : Outside) (e : Option End) (end : End) → e ≡ Some end → IsRead rules speech first old new o o' e → HasEnded rules speech first old new o o' end
+  read-ended first old new o o' e end is h = subst (λ (x : Option End). IsRead rules speech first old new o o' x) is h
+
+  -- a builder as it is made, over the pass of a run that begins
+  pub start-stands : (old : BuilderView Opening Job Said) (b0 : Held (Entry Job Said) Opening) (root : Opening) (names : List (List ℕ)) (grammar : Grammar) (held : Option (List ℕ))
+      → old ≡ record { pass = b0; names = names; grammar = grammar; tally = record { lines = 0; accepted = 0; refused = 0 } } → b0.root ≡ Some root → b0.seen ≡ [] → BuilderStands rules speech old [] [] held held
+  start-stands old b0 root names grammar held is root_is seen_is =
+      fresh-stands rules speech old root held (ap (λ (b : BuilderView Opening Job Said). b.pass.root) is ∙ root_is) (ap (λ (b : BuilderView Opening Job Said). b.pass.seen) is ∙ seen_is) (ap (λ (b : BuilderView Opening Job Said). b.tally) is)
+
+  module _ (first : List (Reads Saying)) (old new : BuilderView Opening Job Said) (o o' : Outside) (read : List ℕ) where
+    pub read-rose : (end : End) → EndsAt rules speech first old new o o' end read → end ≡ ends.Read → Rose o.reads_failed o'.reads_failed
+    read-rose ends.Read h is = h.2
+    read-rose ends.Complete h is = absurd cc
+    read-rose ends.Report h is = absurd cc
+    read-rose ends.NoMemory h is = absurd cc
+    read-rose ends.TooLong h is = absurd cc
+
+    pub report-rose : (end : End) → EndsAt rules speech first old new o o' end read → end ≡ ends.Report → Rose o.writes_failed o'.writes_failed
+    report-rose ends.Report h is = h.1
+    report-rose ends.Complete h is = absurd cc
+    report-rose ends.Read h is = absurd cc
+    report-rose ends.NoMemory h is = absurd cc
+    report-rose ends.TooLong h is = absurd cc
+
+    pub whole-ended : (end : End) → EndsAt rules speech first old new o o' end read → end ≡ ends.Complete → IsEnded o'.left
+    whole-ended ends.Complete h is = h.0
+    whole-ended ends.Read h is = absurd cc
+    whole-ended ends.Report h is = absurd cc
+    whole-ended ends.NoMemory h is = absurd cc
+    whole-ended ends.TooLong h is = absurd cc
+
+pub rose-sooner : (a b c : ℕ) → Rose a b → b ≤ c → Rose a c
+rose-sooner a b c (inl less) le = inl (omega arith)
+rose-sooner a b c (inr full) le = inr full
+
+-- ---- the whole
+
+abbrev toldl : {W Opening Job Said : Type 0} → (W → Option (List (List ℕ))) → (W → ℕ) → LaneView W Opening Job Said → WireTold
+toldl sessions faults lane = record { sessions = sessions lane.wire; faults = faults lane.wire }
+
+abbrev told_one : {W : Type 0} → (W → Option (List (List ℕ))) → (W → ℕ) → W → WireTold
+told_one sessions faults wire = record { sessions = sessions wire; faults = faults wire }
+
+told_wires : {W Opening Job Said : Type 0} (sessions : W → Option (List (List ℕ))) (faults : W → ℕ) (lanes : List (LaneView W Opening Job Said))
+    → map (told_one sessions faults) (map (λ (lane : LaneView W Opening Job Said). lane.wire) lanes) ≡ map (toldl sessions faults) lanes
+told_wires sessions faults [] = refl
+told_wires sessions faults (lane ∷ lanes) = ap (λ (ts : List WireTold). toldl sessions faults lane ∷ ts) (told_wires sessions faults lanes)
+
+some_is : {A : Type 0} (x y : A) → Some x ≡ Some y → x ≡ y
+some_is x y e = cc
+
+abbrev agrees_at : {Opening Job Said : Type 0} → Opening → List (Entry Job Said) → Held (Entry Job Said) Opening → Type 0
+agrees_at {Opening} {Job} {Said} root history pass = Agrees (λ (entry : Entry Job Said). entry.pass) root history pass
+
+abbrev legal_at : {Opening State Job Said : Type 0} → Rules Opening State Job Said → Opening → List (Entry Job Said) → Type 0
+legal_at rules root history = IsLegal rules root history
+
+module _ {W Opening State Job Said : Type 0} (rules : Rules Opening State Job Said) (speech : Speech Opening State Job Said) (machine : IsMachine rules) (speaks : IsSpeaker rules speech)
+    (sessions : W → Option (List (List ℕ))) (begun faults : W → ℕ) where
+  pub came-home :
+      (w : World) → IsOpening w → (gate : Gate) (b0 : Held (Entry Job Said) Opening) (passes : List (Held (Entry Job Said) Opening)) (wires : List W) (is : IsBegun speech w gate b0 passes)
+      → length passes ≡ length wires → length w.peers ≡ length wires
+      → (first : List (Reads Saying)) → Each IsSound first → (names : List (List ℕ)) → names ≡ names_in w → (grammar : Grammar)
+      → (old new : BuilderView Opening Job Said) → old ≡ record { pass = b0; names = names; grammar = grammar; tally = record { lines = 0; accepted = 0; refused = 0 } }
+      → (o o' : Outside) (end : End) → HasEnded rules speech first old new o o' end
+      → (lanes : List (LaneView W Opening Job Said)) → posts lanes ≡ posts (fresh_lanes 0 wires passes)
+      → (pass : Held (Entry Job Said) Opening) → pass ≡ new.pass → (history : List (Entry Job Said)) → IsHistoryOf rules pass lanes history → AreKept rules sessions begun faults lanes
+      → (unnoted : Bool) → unnoted ≡ list_any (λ (lane : LaneView W Opening Job Said). lane.unnoted) lanes
+      → (files : Option (List FileText)) (name : List ℕ) → HasPicked files name o.left → (is_picked : Bool) → is_picked ≡ true
+      → (peers : ℕ) → peers ≡ length w.peers → (names' : List (List ℕ)) → names' ≡ new.names → (tally : Tally) → tally ≡ new.tally → (history' : List (Entry Job Said)) → history' ≡ history
+      → (held : Option (List ℕ)) (F G : Type 0) → (F → G) → (status : Status)
+      → IsFinished names' (losses_from 0 (all_losses 0 peers history')) tally.accepted tally.refused o'.held held F end unnoted status
+      → (back : List W) → back ≡ map (λ (lane : LaneView W Opening Job Said). lane.wire) lanes
+      → IsRun rules speech w grammar first (file_told files name) status (map (told_one sessions faults) back) history is_picked o'.left o.held held G
+  came-home w opens gate b0 passes wires is many all first sound names names_is grammar old new old_is o o' end ended lanes same pass pass_is history hist kept unnoted unnoted_is files name picked is_picked stays
+      peers peers_is names' names'_is tally tally_is history' history'_is held F G f status finished back back_is =
+      let root_old : b0.root ≡ Some is.root = root-is speech w gate b0 passes wires is in
+      let root_new : new.pass.root ≡ Some is.root = ended.same.pass.2 ∙ (ap (λ (b : BuilderView Opening Job Said). b.pass.root) old_is ∙ root_old) in
+      let at = back-at speech w gate b0 passes wires is lanes same in
+      let number : pass.number ≡ 0 =
+      ap (λ (p : Held (Entry Job Said) Opening). p.number) pass_is ∙ (ended.same.pass.1 ∙ (ap (λ (b : BuilderView Opening Job Said). b.pass.number) old_is ∙ ap (λ (p : Held (Entry Job Said) Opening). p.number) is.head)) in
+      let root_same : hist.root ≡ is.root = some_is hist.root is.root (sym hist.known ∙ (ap (λ (p : Held (Entry Job Said) Opening). p.root) pass_is ∙ root_new)) in
+      let count : length (map (toldl sessions faults) lanes) ≡ length lanes = length-map lanes (toldl sessions faults) in
+      let lanes_many' : length lanes ≡ length wires = same-many lanes (fresh_lanes 0 wires passes) same ∙ lanes_many 0 wires passes many in
+      let wires_all : length (map (toldl sessions faults) lanes) ≡ length w.peers = count ∙ (lanes_many' ∙ sym all) in
+      let stands = start-stands rules speech old b0 is.root names grammar o.held old_is root_old (ap (λ (p : Held (Entry Job Said) Opening). p.seen) is.head) in
+      let done = ended.ended stands in
+      let agree = subst (λ (r : Opening). Each (λ (lane : LaneView W Opening Job Said). agrees_at r history lane.pass) lanes) root_same hist.lanes_agree in
+      let behind_new : IsBehind rules speech is.root history new.pass.seen =
+      subst (λ (p : Held (Entry Job Said) Opening). IsBehind rules speech is.root history p.seen) pass_is
+      (behind rules speech is.root history pass number (subst (λ (r : Opening). agrees_at r history pass) root_same hist.builder_agrees)) in
+      let fine = subst (λ (h : List (Entry Job Said)). IsFinished new.names (losses_from 0 (all_losses 0 peers h)) new.tally.accepted new.tally.refused o'.held held G end unnoted status) history'_is
+      (subst (λ (t : Tally). IsFinished new.names (losses_from 0 (all_losses 0 peers history')) t.accepted t.refused o'.held held G end unnoted status) tally_is
+      (subst (λ (ns : List (List ℕ)). IsFinished ns (losses_from 0 (all_losses 0 peers history')) tally.accepted tally.refused o'.held held G end unnoted status) names'_is
+      (finished-later names' (losses_from 0 (all_losses 0 peers history')) tally.accepted tally.refused o'.held held F G f end unnoted status finished))) in
+      let run = comes rules speech machine speaks w opens grammar first sound is.root is.first (map (toldl sessions faults) lanes) wires_all history
+      (subst (λ (r : Opening). legal_at rules r history) root_same hist.legal)
+      (subst (λ n. Each (λ (entry : Entry Job Said). entry.pass ≤ n) history) (sym count) hist.owned)
+      unnoted
+      (λ complete noted. crew-from rules speech sessions begun faults gate.id is.root history complete 0 lanes at kept agree (λ over. sym unnoted_is ∙ noted over))
+      new root_new (ended.same.names ∙ (ap (λ (b : BuilderView Opening Job Said). b.names) old_is ∙ names_is)) behind_new
+      files name o.left o'.left picked is_picked stays o.held o'.held held G
+      done.read (part_read files name o.left o'.left done.read picked done.taken)
+      peers (peers_is ∙ sym wires_all) old (ap (λ (b : BuilderView Opening Job Said). b.grammar) old_is) o.reads_failed o'.reads_failed o.writes_failed o'.writes_failed end status done.so fine in
+      subst (λ (ts : List WireTold). IsRun rules speech w grammar first (file_told files name) status ts history is_picked o'.left o.held held G)
+      (sym (ap (λ (ws : List W). map (told_one sessions faults) ws) back_is ∙ told_wires sessions faults lanes)) run

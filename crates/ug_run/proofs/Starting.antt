@@ -1,0 +1,122 @@
+-- A run before its first line.
+use Rattle.std.proofs.Common.{◌≡◌, ℕ, zero, suc, ◌+◌, ◌≤◌, Bool, true, List, [], ◌∷◌, length, map, take, Option, Some, None, inl, inr, refl, sym, ◌∙◌, ap, subst, arith}
+use Rattle.std.proofs.lemmas.List.{append-nil, length-map}
+use Rattle.ug_edge.specs.Told.{IsFresh, WireName, WiresMade, AppendsNames, FileText, FileTold, file_told}
+use Rattle.ug_board.specs.Rules.{Rules}
+use Rattle.ug_events.specs.Events.{Saying}
+use Rattle.ug_events.specs.Reads.{Reads}
+use Rattle.ug_speaker.specs.Speech.{Speech}
+use Rattle.ug_builder.specs.declared.grammar.Grammar.{Grammar}
+use Rattle.ug_deeds.specs.Deeds.{Each}
+use Rattle.ug_world.specs.World.{World}
+use Rattle.ug_report.specs.Report.{names_in}
+use Rattle.ug_wiring.specs.Wires.{AreNewWires, HasMade}
+use Rattle.ug_promise.specs.Contents.{WireTold}
+use Rattle.ug_board.specs.Entry.{Entry}
+use Rattle.ug_commands.specs.Files.{AppendsThenStatus}
+use Rattle.ug_commands.specs.Statuses.{row_of, status_text, IsUnbegun}
+use Rattle.ug_commands.specs.declared.status.Status.{Status}
+use Rattle.ug_commands.specs.declared.status.Status.TheVariants as statuses
+use Rattle.ug_run.specs.Promise.{IsUnmade, IsEarly, IsUntouched, EndsEarly, IsRun}
+use Rattle.ug_run.specs.Commands.{IsUnconfigured}
+
+-- wires as they are made are untouched
+pub new-untouched : {W : Type 0} (sessions : W → Option (List (List ℕ))) (begun faults : W → ℕ) (wires : List W) → AreNewWires sessions begun faults wires
+    → Each IsUntouched (map (λ (wire : W). record { sessions = sessions wire; faults = faults wire }) wires)
+new-untouched sessions begun faults [] new = tt
+new-untouched sessions begun faults (wire ∷ wires) new = ((new.0, new.2), new-untouched sessions begun faults wires new.3)
+
+same_names : (names : Option (List WireName)) → AppendsNames names names []
+same_names None = tt
+same_names (Some names) = sym (append-nil names)
+
+-- no wire was made
+pub made-none : (made : WiresMade) (dir : List ℕ) (names : List (List ℕ)) → HasMade made made dir (take 0 names)
+made-none made dir names = record { counted = omega arith; named = same_names made.names }
+
+-- all names of a world, or as many as there are wires
+pub all-names : (w : World) → length (names_in w) ≡ length w.peers
+all-names w = length-map w.peers _
+
+module _ {W : Type 0} (sessions : W → Option (List (List ℕ))) (begun faults : W → ℕ) where
+  abbrev pub seen_of : W → WireTold
+  seen_of wire = record { sessions = sessions wire; faults = faults wire }
+
+  -- A run that ended before its first line.
+  pub ends-early : {J R : Type 0} (w : World) (status : Status) (wires : List W) (history : List (Entry J R)) (before held : Option (List ℕ)) (failed : Type 0)
+      → IsEarly status → length wires ≤ length w.peers → ((row_of status).made_wires ≡ true → length wires ≡ length w.peers) → AreNewWires sessions begun faults wires → history ≡ []
+      → AppendsThenStatus before held failed [] (status_text status) → EndsEarly w status (map seen_of wires) history before held failed
+  ends-early {J} {R} w status wires history before held failed early few all new none report = record {
+    early = early;
+    few = rw (length-map wires seen_of) few;
+    all = λ made. length-map wires seen_of ∙ all made;
+    untouched = new-untouched sessions begun faults wires new;
+    none = none;
+    report = report;
+  }
+
+-- the statuses of wires that could not be made don't say that all were
+pub unmade-early : (status : Status) → IsUnmade status → IsEarly status
+unmade-early status is = inr is
+
+pub unmade-some : (status : Status) (P : Type 0) → IsUnmade status → (row_of status).made_wires ≡ true → P
+unmade-some status P (inl is) made = let at : (row_of statuses.SiteFault).made_wires ≡ true = subst (λ (s : Status). (row_of s).made_wires ≡ true) is made in absurd cc
+unmade-some status P (inr is) made = let at : (row_of statuses.NoMemory).made_wires ≡ true = subst (λ (s : Status). (row_of s).made_wires ≡ true) is made in absurd cc
+
+-- nor do those of a file that could not be picked say that it was read
+pub unbegun-early : (status : Status) → IsUnbegun status → IsEarly status
+unbegun-early status (inl is) = inl is
+unbegun-early status (inr is) = inr (inr is)
+
+pub early-completed : (status : Status) (P : Type 0) → IsEarly status → (row_of status).completed ≡ true → P
+early-completed status P (inl is) done = let at : (row_of statuses.ReadFault).completed ≡ true = subst (λ (s : Status). (row_of s).completed ≡ true) is done in absurd cc
+early-completed status P (inr (inl is)) done = let at : (row_of statuses.SiteFault).completed ≡ true = subst (λ (s : Status). (row_of s).completed ≡ true) is done in absurd cc
+early-completed status P (inr (inr is)) done = let at : (row_of statuses.NoMemory).completed ≡ true = subst (λ (s : Status). (row_of s).completed ≡ true) is done in absurd cc
+
+pub unmade-unread : (status : Status) (P : Type 0) → IsUnmade status → status ≡ statuses.ReadFault → P
+unmade-unread status P (inl is) e = let at : statuses.SiteFault ≡ statuses.ReadFault = sym is ∙ e in absurd cc
+unmade-unread status P (inr is) e = let at : statuses.NoMemory ≡ statuses.ReadFault = sym is ∙ e in absurd cc
+
+pub early-reported : (status : Status) (P : Type 0) → IsEarly status → status ≡ statuses.ReportFault → P
+early-reported status P (inl is) e = let at : statuses.ReadFault ≡ statuses.ReportFault = sym is ∙ e in absurd cc
+early-reported status P (inr (inl is)) e = let at : statuses.SiteFault ≡ statuses.ReportFault = sym is ∙ e in absurd cc
+early-reported status P (inr (inr is)) e = let at : statuses.NoMemory ≡ statuses.ReportFault = sym is ∙ e in absurd cc
+
+pub unbegun-made : (status : Status) (P : Type 0) → IsUnbegun status → status ≡ statuses.SiteFault → P
+unbegun-made status P (inl is) e = let at : statuses.ReadFault ≡ statuses.SiteFault = sym is ∙ e in absurd cc
+unbegun-made status P (inr is) e = let at : statuses.NoMemory ≡ statuses.SiteFault = sym is ∙ e in absurd cc
+
+module _ {W : Type 0} (sessions : W → Option (List (List ℕ))) (begun faults : W → ℕ) where
+  -- the same, with the status and the wires as they are handed on
+  pub early-home : {J R : Type 0} (w : World) (status mid given : Status) (wires back : List W) (history : List (Entry J R)) (before held : Option (List ℕ)) (failed : Type 0)
+      → given ≡ mid → mid ≡ status → back ≡ wires → history ≡ []
+      → IsEarly status → length wires ≤ length w.peers → ((row_of status).made_wires ≡ true → length wires ≡ length w.peers) → AreNewWires sessions begun faults wires
+      → AppendsThenStatus before held failed [] (status_text status) → EndsEarly w given (map (seen_of sessions begun faults) back) history before held failed
+  early-home {J} {R} w status mid given wires back history before held failed one other back_is none early few all new report =
+      subst (λ (s : Status). EndsEarly w s (map (seen_of sessions begun faults) back) history before held failed) (sym (one ∙ other))
+      (subst (λ (ws : List W). EndsEarly w status (map (seen_of sessions begun faults) ws) history before held failed) (sym back_is)
+      (ends-early sessions begun faults w status wires history before held failed early few all new none report))
+
+-- no wire was made, and none is given back
+pub made-idle : {W : Type 0} (wires : List W) (made : WiresMade) (dir : List ℕ) (names : List (List ℕ)) → wires ≡ [] → HasMade made made dir (take (length wires) names)
+made-idle {W} wires made dir names none = subst (λ (ws : List W). HasMade made made dir (take (length ws) names)) (sym none) (made-none made dir names)
+
+-- the file is the same, however the site tells of it
+pub same-files : {Opening State Job Said : Type 0} (rules : Rules Opening State Job Said) (speech : Speech Opening State Job Said) (w : World) (grammar : Grammar) (first : List (Reads Saying))
+    (old new : Option (List FileText)) (name : List ℕ) (status : Status) (wires : List WireTold) (history : List (Entry Job Said)) (is_picked : Bool) (left before held : Option (List ℕ)) (failed : Type 0) → new ≡ old
+    → IsRun rules speech w grammar first (file_told new name) status wires history is_picked left before held failed → IsRun rules speech w grammar first (file_told old name) status wires history is_picked left before held failed
+same-files rules speech w grammar first old new name status wires history is_picked left before held failed same run =
+    subst (λ (fs : Option (List FileText)). IsRun rules speech w grammar first (file_told fs name) status wires history is_picked left before held failed) same run
+
+-- a configuration that stands for no world ends no run that completed
+pub unset-completed : (file : FileTold) (status : Status) (P : Type 0) → IsUnconfigured file status → (row_of status).completed ≡ true → P
+unset-completed file (statuses.Config number field) P h done = absurd cc
+unset-completed file statuses.TooLong P h done = absurd cc
+unset-completed file statuses.ReadFault P h done = absurd cc
+unset-completed file statuses.NoMemory P h done = absurd cc
+unset-completed file statuses.Ok P h done = absurd h
+unset-completed file statuses.Usage P h done = absurd h
+unset-completed file statuses.ReportFault P h done = absurd h
+unset-completed file statuses.SiteFault P h done = absurd h
+unset-completed file (statuses.Lost peer session) P h done = absurd h
+unset-completed file (statuses.Malformed cause offset) P h done = absurd h

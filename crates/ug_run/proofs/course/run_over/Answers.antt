@@ -1,0 +1,62 @@
+use Rattle.ug_commands.specs.Statuses.{row_of}
+use Rattle.std.proofs.Common.{◌≡◌, true, inl, inr, Err, length, map, ◌∙◌, ap, sym, subst, refl, arith}
+use Rattle.ug_pieces.specs.ReadingLaws.{Rose-later}
+use Rattle.ug_edge.specs.Told.{HasPicked}
+use Rattle.ug_commands.specs.declared.status.Status.TheVariants as statuses
+use Rattle.ug_run.proofs.Starting.{same-files, unmade-early, unmade-some, unmade-unread, unbegun-early, unbegun-made, early-completed, early-reported, early-home}
+use Rattle.ug_run.proofs.course.run_over.Goals as goal
+
+pub returns-in-Err-clause-promised : goal.returns-in-Err-clause-promised
+returns-in-Err-clause-promised g c =
+    inl (early-home g.E.Wire.Wire.sessions g.E.Wire.Wire.begun g.E.Wire.Wire.faults c.args.plan.world c.in-Err.status c.end.result c.idle.result.status c.prepare.new.wires.items c.idle.result.wires.items c.idle.result.history.items
+    _ _ _ c.idle.ensures.status c.end.ensures.status c.idle.ensures.wires c.idle.ensures.history
+    (unmade-early c.in-Err.status c.in-Err.ensures.status) c.prepare.ensures.most (unmade-some c.in-Err.status _ c.in-Err.ensures.status) c.prepare.ensures.fresh c.end.ensures.report)
+
+pub returns-in-Err-clause-read : goal.returns-in-Err-clause-read
+returns-in-Err-clause-read g c = λ is. unmade-unread c.in-Err.status _ c.in-Err.ensures.status (sym (c.idle.ensures.status ∙ c.end.ensures.status) ∙ is)
+
+pub returns-in-Err-clause-report : goal.returns-in-Err-clause-report
+returns-in-Err-clause-report g c = λ is. early-reported c.in-Err.status _ (unmade-early c.in-Err.status c.in-Err.ensures.status) (sym (c.idle.ensures.status ∙ c.end.ensures.status) ∙ is)
+
+pub returns-in-Err-clause-site : goal.returns-in-Err-clause-site
+returns-in-Err-clause-site g c = λ is. c.in-Err.ensures.failed (ap Err (sym (c.idle.ensures.status ∙ c.end.ensures.status) ∙ is))
+
+pub returns-in-Err-clause-ended : goal.returns-in-Err-clause-ended
+returns-in-Err-clause-ended g c = λ is. early-completed c.in-Err.status _ (unmade-early c.in-Err.status c.in-Err.ensures.status) (subst (λ s. (row_of s).completed ≡ true) (c.idle.ensures.status ∙ c.end.ensures.status) is)
+
+pub returns-in-Err-pick-clause-promised : goal.returns-in-Err-pick-clause-promised
+returns-in-Err-pick-clause-promised g c =
+    inl (early-home g.E.Wire.Wire.sessions g.E.Wire.Wire.begun g.E.Wire.Wire.faults c.args.plan.world c.in-Err-pick.status c.end-in-Err-pick.result c.idle-in-Err-pick.result.status c.prepare.new.wires.items c.idle-in-Err-pick.result.wires.items c.idle-in-Err-pick.result.history.items
+    _ _ _ c.idle-in-Err-pick.ensures.status c.end-in-Err-pick.ensures.status c.idle-in-Err-pick.ensures.wires c.idle-in-Err-pick.ensures.history
+    (unbegun-early c.in-Err-pick.status c.in-Err-pick.ensures.status) c.prepare.ensures.most (λ _. c.in-Ok.ensures.all) c.prepare.ensures.fresh c.end-in-Err-pick.ensures.report)
+
+pub returns-in-Err-pick-clause-read : goal.returns-in-Err-pick-clause-read
+returns-in-Err-pick-clause-read g c = λ is. rw (sym c.prepare.ensures.faults) (c.in-Err-pick.ensures.failed (ap Err (sym (c.idle-in-Err-pick.ensures.status ∙ c.end-in-Err-pick.ensures.status) ∙ is)))
+
+pub returns-in-Err-pick-clause-report : goal.returns-in-Err-pick-clause-report
+returns-in-Err-pick-clause-report g c = λ is. early-reported c.in-Err-pick.status _ (unbegun-early c.in-Err-pick.status c.in-Err-pick.ensures.status) (sym (c.idle-in-Err-pick.ensures.status ∙ c.end-in-Err-pick.ensures.status) ∙ is)
+
+pub returns-in-Err-pick-clause-site : goal.returns-in-Err-pick-clause-site
+returns-in-Err-pick-clause-site g c = λ is. unbegun-made c.in-Err-pick.status _ c.in-Err-pick.ensures.status (sym (c.idle-in-Err-pick.ensures.status ∙ c.end-in-Err-pick.ensures.status) ∙ is)
+
+pub returns-in-Err-pick-clause-ended : goal.returns-in-Err-pick-clause-ended
+returns-in-Err-pick-clause-ended g c = λ is. early-completed c.in-Err-pick.status _ (unbegun-early c.in-Err-pick.status c.in-Err-pick.ensures.status) (subst (λ s. (row_of s).completed ≡ true) (c.idle-in-Err-pick.ensures.status ∙ c.end-in-Err-pick.ensures.status) is)
+
+pub returns-in_default-clause-promised : goal.returns-in_default-clause-promised
+returns-in_default-clause-promised g c =
+    inl (early-home g.E.Wire.Wire.sessions g.E.Wire.Wire.begun g.E.Wire.Wire.faults c.args.plan.world statuses.NoMemory c.end-in_default.result c.idle-in_default.result.status c.prepare.new.wires.items c.idle-in_default.result.wires.items c.idle-in_default.result.history.items
+    _ _ _ c.idle-in_default.ensures.status c.end-in_default.ensures.status c.idle-in_default.ensures.wires c.idle-in_default.ensures.history
+    (inr (inr refl)) c.prepare.ensures.most (λ _. c.in-Ok.ensures.all) c.prepare.ensures.fresh c.end-in_default.ensures.report)
+
+pub returns-clause-promised : goal.returns-clause-promised
+returns-clause-promised g c =
+    let files = c.pick.ensures.files ∙ c.prepare.ensures.files in
+    inr (same-files _ _ _ _ _ (g.E.Source.files c.args.site.now) (g.E.Source.files c.pick.new.site) c.args.events.now _ _ _ _ _ _ _ _ files
+    (c.run_begun.ensures.done c.args.plan.world c.args.events.now c.requires.opening c.in-Ok-begin.ensures.begun c.requires.in_range c.in-Ok.ensures.names c.peers-peers.ensures (sym c.in-Ok.ensures.all)
+    (subst (λ fs. HasPicked fs c.args.events.now (g.E.Source.left c.pick.new.site)) (sym c.pick.ensures.files) c.in-Ok-pick.ensures.picked) c.in-Ok-pick.ensures.is_picked))
+
+pub returns-clause-read : goal.returns-clause-read
+returns-clause-read g c = λ is.
+    let same = c.prepare.ensures.faults in
+    let risen = c.pick.ensures.faults in
+    Rose-later _ _ _ (omega arith) c.run_begun.ensures.faults (c.run_begun.ensures.read is)

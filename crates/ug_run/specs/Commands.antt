@@ -1,0 +1,66 @@
+-- What the commands with sessions promise: `one` and `run`.
+use Rattle.std.specs.Prelude.{◌≡◌, ℕ, ◌⊎◌, Bool, true, List, [], ◌∷◌, length, take, Option, Ok, Err, codes}
+use Rattle.ug_edge.specs.Told.{FileTold, Missing, WiresMade}
+use Rattle.ug_board.specs.Entry.{Entry}
+use Rattle.ug_board.specs.Rules.{Rules}
+use Rattle.ug_events.specs.Events.{Saying, Says, ComesUp}
+use Rattle.ug_events.specs.Reads.{Reads}
+use Rattle.ug_world.specs.World.{World}
+use Rattle.ug_speaker.specs.Speech.{Speech}
+use Rattle.ug_builder.specs.declared.grammar.Grammar.TheVariants.{Every, Routes}
+use Rattle.ug_sound.specs.One.{one_world}
+use Rattle.ug_commands.specs.Files.{AppendsThenStatus}
+use Rattle.ug_commands.specs.Statuses.{row_of, status_text}
+use Rattle.ug_commands.specs.Listed.{IsConfigured, IsTooLong}
+use Rattle.ug_commands.specs.declared.status.Status.{Status}
+use Rattle.ug_commands.specs.declared.status.Status.TheVariants as statuses
+use Rattle.ug_promise.specs.Contents.{WireTold}
+use Rattle.ug_report.specs.Report.{names_in}
+use Rattle.ug_wiring.specs.Wires.{HasMade}
+use Rattle.ug_run.specs.Promise.{IsPromised}
+
+-- the line before those of the file that `one` reads: its peer comes up
+abbrev pub up_p1 : List (Reads Saying)
+up_p1 = Ok (Says (ComesUp (codes "p1"))) ∷ []
+
+-- Why a configuration stands for no world, by the status; of a read that failed and of want of memory nothing is said.
+abbrev pub IsUnconfigured : FileTold → Status → Type 0
+IsUnconfigured file (statuses.Config number field) = IsConfigured file (Err (record { number = number; field = field.items }))
+IsUnconfigured file statuses.TooLong = IsTooLong file
+IsUnconfigured file statuses.ReadFault = Unit {0}
+IsUnconfigured file statuses.NoMemory = Unit {0}
+IsUnconfigured file statuses.Ok = ⊥
+IsUnconfigured file statuses.Usage = ⊥
+IsUnconfigured file statuses.ReportFault = ⊥
+IsUnconfigured file statuses.SiteFault = ⊥
+IsUnconfigured file (statuses.Lost peer session) = ⊥
+IsUnconfigured file (statuses.Malformed cause offset) = ⊥
+
+-- A run that ended with its configuration: no wire was made, nothing was done, and the report has the status line alone.
+pub record EndsUnset {J R : Type 0} (config : FileTold) (status : Status) (wires : List WireTold) (history : List (Entry J R)) (made made' : WiresMade) (before held : Option (List ℕ)) (failed : Type 0) : Type 0 where
+  pub cause : IsUnconfigured config status
+  pub missing : config ≡ Missing → (row_of status).may_be_unread ≡ true
+  pub no_wires : wires ≡ []
+  pub unmade : made' ≡ made
+  pub none : history ≡ []
+  pub report : AppendsThenStatus before held failed [] (status_text status)
+
+module _ {Opening State Job Said : Type 0} (rules : Rules Opening State Job Said) (speech : Speech Opening State Job Said) where
+  -- `one`: a run over its fixed world, whose peer is up, with the verbs of routes alone.
+  abbrev pub IsOne : FileTold → Status → List WireTold → List (Entry Job Said) → Bool → Option (List ℕ) → Option (List ℕ) → Option (List ℕ) → Type 0 → Type 0
+  IsOne = IsPromised rules speech one_world Routes up_p1
+
+  -- A run over the world of a configuration, with every verb: the site made the wires that are given back, in this folder,
+  -- for the first of the peers in configured order.
+  pub record IsConfiguredRun (config events : FileTold) (dir : List ℕ) (status : Status) (wires : List WireTold) (history : List (Entry Job Said)) (made made' : WiresMade)
+      (is_picked : Bool) (left before held : Option (List ℕ)) (failed : Type 0) : Type 0 where
+    pub there : config ≡ Missing → ⊥
+    pub world : World
+    pub configured : IsConfigured config (Ok world)
+    pub made_all : HasMade made made' dir (take (length wires) (names_in world))
+    pub promised : IsPromised rules speech world Every [] events status wires history is_picked left before held failed
+
+  -- `run`: over the world of the configuration, where it stands for one.
+  abbrev pub IsRunOf : FileTold → FileTold → List ℕ → Status → List WireTold → List (Entry Job Said) → WiresMade → WiresMade → Bool → Option (List ℕ) → Option (List ℕ) → Option (List ℕ) → Type 0 → Type 0
+  IsRunOf config events dir status wires history made made' is_picked left before held failed =
+      EndsUnset config status wires history made made' before held failed ⊎ IsConfiguredRun config events dir status wires history made made' is_picked left before held failed
