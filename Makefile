@@ -1,4 +1,4 @@
-# The commands of the repository. Each needs the toolchain alone.
+# The commands of the repository. Each but `test` needs the toolchain alone, and that Python 3 beside it.
 
 .PHONY: build demo test bench clean
 
