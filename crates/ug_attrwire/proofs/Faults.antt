@@ -9,7 +9,9 @@ use Rattle.ug_attrwire.specs.declared.fault.AttrFault.TheVariants as faults
 use Rattle.ug_attrwire.specs.declared.fault.AttributeFault.{AttributeFault}
 use Rattle.ug_attrwire.specs.declared.fault.AttributeFault.TheVariants as one
 use Rattle.ug_message.specs.Walking.{Fault, fault, ◌>>=◌, at, walk, walk_all, with_one}
-use Rattle.ug_message.specs.AttributesRead.{ReadSoFar, segment_at, path_in, one_attribute, attribute_step, nothing_read, Multiprotocol, with_mandatory, next_hop_in, attributes_in, at_end, has_routes, announced_in, withdrawn_in, is_alone_in, read_multiprotocol}
+use Rattle.ug_message.specs.Kind.{ReadSoFar, nothing_read}
+use Rattle.ug_message.specs.AttributeTable.{segment_at, path_in}
+use Rattle.ug_message.specs.AttributesRead.{one_attribute, attribute_step, Multiprotocol, with_mandatory, next_hop_in, attributes_in, at_end, has_routes, announced_in, withdrawn_in, is_alone_in, read_multiprotocol}
 use Rattle.ug_attrwire.specs.Views.{Fails, FailsOne, placed}
 use Rattle.ug_message.proofs.Walks.{collect_stops, walk_stops}
 

@@ -2,3 +2,4 @@ pub mod Faults
 pub mod Parts
 pub mod Sizes
 pub mod Spelled
+pub mod Rows

@@ -2,9 +2,10 @@
 use Rattle.std.proofs.Common.{◌≡◌, ℕ, zero, suc, ◌+◌, ◌-◌, ◌≤◌, Bool, true, false, nat_lt, List, [], ◌∷◌, ◌++◌, length, take, drop, Result, Ok, Err, refl, sym, ap, ◌∙◌, arith, append_assoc}
 use Rattle.std.specs.Prelude.{if◌then◌else◌, slice_index}
 use Rattle.std.proofs.lemmas.List.{drop-drop, drop-take, length-drop, length-take-le}
-use Rattle.ug_message.specs.AttributesRead.{Attribute, head_size, value_size, attribute_at}
+use Rattle.ug_message.specs.Attribute.{Attribute, head_size, value_size, attribute_at}
 use Rattle.ug_types.specs.Ip.{IpAddress}
-use Rattle.ug_message.specs.Spelling.{optional, ipv6_unicast, sixteen_bytes}
+use Rattle.ug_message.specs.Attribute.{optional}
+use Rattle.ug_message.specs.Values.{ipv6_unicast, sixteen_bytes}
 use Rattle.ug_message.specs.Heads.{head, reach_head}
 use Rattle.ug_attrwire.specs.Views.{StandsAt}
 

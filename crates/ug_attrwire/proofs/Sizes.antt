@@ -4,7 +4,9 @@ use Rattle.std.specs.Prelude.{if◌then◌else◌}
 use Rattle.std.specs.Int.{w32, to_be_bytes}
 use Rattle.ug_types.specs.declared.attrs.Aggregator.{Aggregator}
 use Rattle.ug_types.specs.Attributes.{Attributes}
-use Rattle.ug_message.specs.Spelling.{attribute, numbers, where_present, where_some, four_bytes, origin, as_path, multi_exit_disc, local_pref, atomic_aggregate, aggregator, communities, originator_id, cluster_list, before_next_hop, after_next_hop}
+use Rattle.ug_message.specs.Attribute.{attribute}
+use Rattle.ug_message.specs.Values.{numbers, where_present, where_some, four_bytes}
+use Rattle.ug_message.specs.AttributeTable.{origin, as_path, multi_exit_disc, local_pref, atomic_aggregate, aggregator, communities, originator_id, cluster_list, before_next_hop, after_next_hop}
 use Rattle.ug_message.specs.Lengths.{HasShortValues}
 use Rattle.ug_message.proofs.Heads.{length_attribute}
 

@@ -13,14 +13,16 @@ use Rattle.ug_message.specs.Walking.{Fault, fault}
 use Rattle.ug_attrwire.specs.declared.multiprotocol.Placed.{Placed}
 use Rattle.ug_attrwire.specs.declared.multiprotocol.Reach.{Reach}
 use Rattle.ug_attrwire.specs.declared.multiprotocol.Multiprotocol.{Multiprotocol}
-use Rattle.ug_message.specs.AttributesRead.{ReadSoFar, Attribute}
+use Rattle.ug_message.specs.Attribute.{Attribute}
+use Rattle.ug_message.specs.Kind.{ReadSoFar}
+use Rattle.ug_message.specs.Kind as kinds
 use Rattle.ug_message.specs.AttributesRead as reading
 
 -- routes at a place of all bytes
-abbrev pub placed_of : List ℕ → Placed → reading.Placed
+abbrev pub placed_of : List ℕ → Placed → kinds.Placed
 placed_of all p = record { place = p.place; routes = take p.size (drop p.place all) }
 
-abbrev pub reach_of : List ℕ → Reach → reading.Reach
+abbrev pub reach_of : List ℕ → Reach → kinds.Reach
 reach_of all r = record { next_hop = r.next_hop; routes = placed_of all r.routes }
 
 abbrev pub so_far : List ℕ → Found → ReadSoFar

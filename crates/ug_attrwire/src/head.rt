@@ -2,9 +2,10 @@
 
 ghost use Rattle.std.specs.Prelude.{◌≡◌, ℕ, ◌+◌, ◌*◌, ◌<◌, ◌≤◌, ◌^◌, ◌++◌, length, IfOk, IfErr};
 ghost use Rattle.std.specs.Int.{w32, to_be_bytes};
-ghost use Rattle.ug_message.specs.Spelling.{attribute, numbers, where_some};
+ghost use Rattle.ug_message.specs.Attribute.{attribute};
+ghost use Rattle.ug_message.specs.Values.{numbers, where_some};
 ghost use Rattle.ug_message.specs.Heads.{head, size_around};
-ghost use Rattle.ug_message.specs.AttributesRead.{attribute_at, head_size, value_size};
+ghost use Rattle.ug_message.specs.Attribute.{attribute_at, head_size, value_size};
 ghost use Rattle.ug_attrwire.specs.Views.{standing, GivesOne, HasNumber};
 
 use crate::fault::AttributeFault;
@@ -97,7 +98,7 @@ pub fn put_list(out: &mut ByteList, flags: u8, kind: u8, list: &[u32])
 }
 
 /// The attribute that the bytes begin with, and how many of them it takes.
-#[tactic(auto, unfolding(ug_message::specs::AttributesRead::attribute_at))]
+#[tactic(auto, unfolding(ug_message::specs::Attribute::attribute_at))]
 pub fn attribute_at(place: usize, bytes: &[u8]) -> Result<(Standing<'_>, usize), AttributeFault>
     requires { place + length bytes.now < 2 ^ 64 }
     ensures exact { GivesOne (λ x. standing x.0) result (attribute_at place bytes.now) }

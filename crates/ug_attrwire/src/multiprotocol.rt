@@ -2,7 +2,8 @@
 
 ghost use Rattle.std.specs.Prelude.{◌≡◌, ◌+◌, ◌≤◌, true, List, ℕ, length};
 ghost use Rattle.ug_types.specs.declared.family.Family.TheVariants.{V6};
-ghost use Rattle.ug_message.specs.AttributesRead.{is_ipv6_unicast, has_routes, is_alone_in, withdrawn_in, announced_in, next_hop_in};
+ghost use Rattle.ug_message.specs.Values.{is_ipv6_unicast};
+ghost use Rattle.ug_message.specs.AttributesRead.{has_routes, is_alone_in, withdrawn_in, announced_in, next_hop_in};
 ghost use Rattle.ug_attrwire.specs.Views.{so_far, placed_of};
 
 use crate::attributes::mp_unreach_nlri::MpUnreachNlri;

@@ -1,8 +1,10 @@
 //! Reading the attributes of one message.
 
-ghost use Rattle.std.specs.Prelude.{◌≡◌, ◌+◌, ◌≤◌, true, false, List, ℕ, length, drop, IfOk, IfErr};
+ghost use Rattle.std.specs.Prelude.{◌≡◌, ◌+◌, ◌≤◌, false, List, ℕ, Ok, Some, None, is_some, length, drop, IfOk, IfErr};
 ghost use Rattle.ug_message.specs.Walking.{walk_all};
-ghost use Rattle.ug_message.specs.AttributesRead.{is_known, with_known, with_attribute, one_attribute, attribute_step, nothing_read, with_mandatory, at_end, read_attributes, read_multiprotocol};
+ghost use Rattle.ug_message.specs.Kind.{Kind, nothing_read};
+ghost use Rattle.ug_message.specs.AttributeTable.{kind_of};
+ghost use Rattle.ug_message.specs.AttributesRead.{with_known, with_attribute, one_attribute, attribute_step, with_mandatory, at_end, read_attributes, read_multiprotocol};
 ghost use Rattle.ug_attrwire.specs.Views.{so_far, standing, StandsAt, placed, multiprotocol_of, Gives, GivesOne, HasNumber, IsWithin};
 
 use crate::fault::{AttrFault, AttributeFault};
@@ -17,6 +19,7 @@ use std::alloc::Global;
 use ug_types::{Addr, AttrParts, Attrs, Family, Sequence};
 
 /// Reads the attribute if it is one of those that messages of the family have, and answers whether it is.
+#[tactic(auto, unfolding(ug_message::specs::AttributeTable::kinds))]
 fn read_known(
     alloc: Global,
     family: Family,
@@ -27,9 +30,9 @@ fn read_known(
     requires within { a.place + length a.value.now ≤ length all.now }
     requires stands { StandsAt all.now a.place a.value.now }
     requires limit { found.old.limit ≡ length all.now }
-    ensures known { IfOk result (λ known. known ≡ is_known family a.entry.kind) }
-    ensures exact { is_known family a.entry.kind ≡ true → GivesOne (λ _. so_far all.now found.new) result (with_known (standing a.entry) (so_far all.now found.old)) }
-    ensures other { is_known family a.entry.kind ≡ false → (result ≡ Ok false) × (so_far all.now found.new ≡ so_far all.now found.old) }
+    ensures known { IfOk result (λ known. known ≡ is_some (kind_of family a.entry.kind)) }
+    ensures exact { (kind : Kind) → kind_of family a.entry.kind ≡ Some kind → GivesOne (λ _. so_far all.now found.new) result (with_known kind (standing a.entry) (so_far all.now found.old)) }
+    ensures other { kind_of family a.entry.kind ≡ None → (result ≡ Ok false) × (so_far all.now found.new ≡ so_far all.now found.old) }
     ensures limit { found.new.limit ≡ found.old.limit }
     ensures number { IfErr result HasNumber }
 {

@@ -1,9 +1,9 @@
 //! What there is to know of a path attribute, side by side: its number, its flags, its lengths, how its value is read, and
 //! how it is spelled. Each attribute has a module of its own with both of these traits, and a row in `table`.
 
-ghost use Rattle.std.specs.Prelude.{◌≡◌, ℕ, ◌+◌, ◌<◌, ◌≤◌, ◌^◌, ◌++◌, ◌==◌, ◌||◌, true, List, length, IfErr};
+ghost use Rattle.std.specs.Prelude.{◌≡◌, ℕ, ◌+◌, ◌<◌, ◌≤◌, ◌^◌, ◌++◌, true, List, length, IfErr};
 ghost use Rattle.ug_types.specs.Attributes.{Attributes, attributes_of, IsAttributes};
-ghost use Rattle.ug_message.specs.AttributesRead.{flags_of, is_length, with_value};
+ghost use Rattle.ug_message.specs.Kind.{Kind};
 ghost use Rattle.ug_message.specs.Lengths.{HasShortValues};
 ghost use Rattle.ug_attrwire.specs.Views.{so_far, StandsAt, GivesOne, HasNumber};
 
@@ -23,6 +23,8 @@ pub const OPTIONAL_TRANSITIVE: u8 = 192;
 
 /// An attribute as it is read.
 pub trait Known {
+    ghost kind: { Kind };
+
     ghost NUMBER: { ℕ };
 
     ghost FLAGS: { ℕ };
@@ -33,9 +35,13 @@ pub trait Known {
     /// The flags of its type.
     const FLAGS: u8;
 
+    ghost number_is: { kind.type ≡ NUMBER };
+
+    ghost flags_are: { kind.flags ≡ FLAGS };
+
     /// Whether its values can have this length.
     fn is_length(len: usize) -> bool
-        ensures { result ≡ is_length NUMBER len };
+        ensures { result ≡ kind.is_length len };
 
     /// Puts its value, which stands at a place of all attributes, where it belongs.
     fn read(
@@ -44,18 +50,13 @@ pub trait Known {
         all: &[u8],
         a: Standing<'_>,
     ) -> Result<(), AttributeFault>
-        requires sized { is_length NUMBER (length a.value.now) ≡ true }
+        requires sized { kind.is_length (length a.value.now) ≡ true }
         requires within { a.place + length a.value.now ≤ length all.now }
         requires stands { StandsAt all.now a.place a.value.now }
         requires limit { found.old.limit ≡ length all.now }
-        ensures exact { GivesOne (λ _. so_far all.now found.new) result (with_value NUMBER a.entry.place a.entry.value.now (so_far all.now found.old)) }
+        ensures exact { GivesOne (λ _. so_far all.now found.new) result (kind.read a.entry.place a.entry.value.now (so_far all.now found.old)) }
         ensures limit { found.new.limit ≡ found.old.limit }
         ensures number { IfErr result HasNumber };
-
-    ghost flags_are: { flags_of NUMBER ≡ FLAGS };
-
-    // A router that doesn't know an attribute marks it where it passes it on.
-    ghost partial_is: { ((NUMBER == 7) || (NUMBER == 8)) ≡ (FLAGS == 192) };
 }
 
 /// What is written of a path's attributes: one of them, or those of a table one after the other.

@@ -1,7 +1,8 @@
 //! The table of all attributes, by ascending type: a row each. Whoever adds one adds its module and its row.
 
-ghost use Rattle.std.specs.Prelude.{◌≡◌, ℕ, ◌+◌, ◌≤◌, ◌++◌, ◌==◌, ◌||◌, true, false, Bool, [], Ok, length, IfOk, IfErr};
-ghost use Rattle.ug_message.specs.AttributesRead.{are_flags, with_known};
+ghost use Rattle.std.specs.Prelude.{◌≡◌, ◌+◌, ◌≤◌, ◌++◌, ◌∷◌, false, List, [], Ok, Some, None, is_some, length, IfOk, IfErr};
+ghost use Rattle.ug_message.specs.Kind.{Kind, are_flags, kind_among};
+ghost use Rattle.ug_message.specs.AttributesRead.{with_known};
 ghost use Rattle.ug_attrwire.specs.Views.{so_far, standing, StandsAt, GivesOne, HasNumber};
 
 use crate::attributes::aggregator::Aggregator;
@@ -54,8 +55,7 @@ const PARTIAL: u8 = 32;
 
 /// The attributes that a message can have.
 pub trait Table {
-    // whether a type is one of them
-    ghost has: { ℕ → Bool };
+    ghost kinds: { List Kind };
 
     /// Reads an attribute if it is one of them, and answers whether it is.
     fn read(
@@ -67,15 +67,15 @@ pub trait Table {
         requires within { a.place + length a.value.now ≤ length all.now }
         requires stands { StandsAt all.now a.place a.value.now }
         requires limit { found.old.limit ≡ length all.now }
-        ensures known { IfOk result (λ known. known ≡ has a.entry.kind) }
-        ensures exact { has a.entry.kind ≡ true → GivesOne (λ _. so_far all.now found.new) result (with_known (standing a.entry) (so_far all.now found.old)) }
-        ensures other { has a.entry.kind ≡ false → (result ≡ Ok false) × (so_far all.now found.new ≡ so_far all.now found.old) }
+        ensures known { IfOk result (λ known. known ≡ is_some (kind_among kinds a.entry.kind)) }
+        ensures exact { (kind : Kind) → kind_among kinds a.entry.kind ≡ Some kind → GivesOne (λ _. so_far all.now found.new) result (with_known kind (standing a.entry) (so_far all.now found.old)) }
+        ensures other { kind_among kinds a.entry.kind ≡ None → (result ≡ Ok false) × (so_far all.now found.new ≡ so_far all.now found.old) }
         ensures limit { found.new.limit ≡ found.old.limit }
         ensures number { IfErr result HasNumber };
 }
 
 impl Table for () {
-    ghost has = { λ _. false };
+    ghost kinds = { [] };
 
     fn read(
         _alloc: Global,
@@ -88,16 +88,18 @@ impl Table for () {
 }
 
 impl<Above: Table, A: Known> Table for (Above, A) {
-    ghost has = { λ kind. Above.has kind || (kind == A.NUMBER) };
+    ghost kinds = { Above.kinds ++ A.kind ∷ [] };
 
+    #[tactic(auto, using(crate::proofs::Rows::row_steps))]
     fn read(
         alloc: Global,
         found: &mut Found,
         all: &[u8],
         a: Standing<'_>,
     ) -> Result<bool, AttributeFault> {
-        if Above::read(alloc, found, all, a)? {
-            return Ok(true);
+        match Above::read(alloc, found, all, a) {
+            Ok(false) => {}
+            read => return read,
         }
         if a.kind != A::NUMBER {
             return Ok(false);
@@ -119,7 +121,7 @@ fn read_as<A: Known>(
     requires within { a.place + length a.value.now ≤ length all.now }
     requires stands { StandsAt all.now a.place a.value.now }
     requires limit { found.old.limit ≡ length all.now }
-    ensures exact { GivesOne (λ _. so_far all.now found.new) result (with_known (standing a.entry) (so_far all.now found.old)) }
+    ensures exact { GivesOne (λ _. so_far all.now found.new) result (with_known A.kind (standing a.entry) (so_far all.now found.old)) }
     ensures limit { found.new.limit ≡ found.old.limit }
     ensures number { IfErr result HasNumber }
 {
@@ -134,7 +136,7 @@ fn read_as<A: Known>(
 
 /// Whether an attribute of this type may have these flags. The lower four bits say nothing.
 fn are_flags<A: Known>(flags: u8) -> bool
-    ensures { result ≡ are_flags A.NUMBER flags }
+    ensures { result ≡ are_flags A.kind flags }
 {
     flags & OPTIONAL_TRANSITIVE == A::FLAGS
         && (A::FLAGS == OPTIONAL_TRANSITIVE || flags & PARTIAL == 0)

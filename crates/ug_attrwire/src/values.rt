@@ -1,8 +1,8 @@
 //! The parts of values: numbers and addresses.
 
 ghost use Rattle.std.specs.Prelude.{◌≡◌, ◌+◌, ◌/◌, ◌≤◌, ◌++◌, length, IfOk};
-ghost use Rattle.ug_message.specs.Spelling.{numbers, four_bytes, sixteen_bytes};
-ghost use Rattle.ug_message.specs.AttributesRead.{number_in, address_in, numbers_in};
+ghost use Rattle.ug_message.specs.Values.{numbers, four_bytes, sixteen_bytes};
+ghost use Rattle.ug_message.specs.Values.{number_in, address_in, numbers_in};
 
 use byteorder::{BigEndian, ByteOrder};
 use std::alloc::{AllocError, Global};

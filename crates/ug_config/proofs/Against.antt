@@ -8,7 +8,7 @@ use Rattle.std.proofs.lemmas.List.{append-nil, length-map}
 use Rattle.std.proofs.lemmas.Bool.Decides.{nat_tests}
 use Rattle.std.proofs.Math.Seq.{take-append_seam}
 use Rattle.ug_types.specs.declared.named.Named.{Named}
-use Rattle.ug_prefixlist.specs.Named.{same_name}
+use Rattle.ug_types.specs.Bytes.{same_bytes}
 use Rattle.ug_prefixlist.specs.Order.{repeats}
 use Rattle.ug_world.specs.Names.{is_name_among, are_distinct}
 use Rattle.ug_world.specs.Parts.{are_few, names_of}
@@ -64,10 +64,10 @@ none_more p (y ∷ ys) x h e = or_false (p y) (list_any p (ys ++ x ∷ [])) (lef
 distinct_more : (ns : List (List ℕ)) (x : List ℕ) → are_distinct ns ≡ true → is_name_among ns x ≡ false → are_distinct (ns ++ x ∷ []) ≡ true
 distinct_more [] x h e = refl
 distinct_more (n ∷ ns) x h e =
-    let apart : same_name x n ≡ false = nat_list_eq_equiv.symm x n ∙ left_false (same_name n x) (is_name_among ns x) e in
+    let apart : same_bytes x n ≡ false = nat_list_eq_equiv.symm x n ∙ left_false (same_bytes n x) (is_name_among ns x) e in
     both (not (is_name_among (ns ++ x ∷ []) n)) (are_distinct (ns ++ x ∷ []))
-    (ap not (none_more (λ (m : List ℕ). same_name m n) ns x (was_false (is_name_among ns n) (first_of (not (is_name_among ns n)) (are_distinct ns) h)) apart))
-    (distinct_more ns x (second_of (not (is_name_among ns n)) (are_distinct ns) h) (right_false (same_name n x) (is_name_among ns x) e))
+    (ap not (none_more (λ (m : List ℕ). same_bytes m n) ns x (was_false (is_name_among ns n) (first_of (not (is_name_among ns n)) (are_distinct ns) h)) apart))
+    (distinct_more ns x (second_of (not (is_name_among ns n)) (are_distinct ns) h) (right_false (same_bytes n x) (is_name_among ns x) e))
 
 distinct_from : (array : List ℕ) (seen rest : List (List ℕ)) → first_fault (repeated_name array (seen ++ rest)) (length seen) rest ≡ None → are_distinct seen ≡ true → are_distinct (seen ++ rest) ≡ true
 unfolding repeated_name

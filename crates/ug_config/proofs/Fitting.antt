@@ -6,10 +6,10 @@ use Rattle.ug_types.specs.Ip.{IpAddress, IpPrefix, same_family, prefix_of, width
 use Rattle.ug_types.specs.Names.{is_name}
 use Rattle.ug_types.specs.declared.family.Family.{Family}
 use Rattle.ug_types.specs.declared.family.Family.TheVariants.{V4, V6}
-use Rattle.ug_text.specs.Cutting.{◌>>=◌ as ◌>=>◌, same_bytes, cut_at}
+use Rattle.ug_text.specs.Cutting.{◌>>=◌ as ◌>=>◌, cut_at}
 use Rattle.ug_text.specs.Addresses.{bits_in, length_in, address_in, prefix_in}
 use Rattle.ug_text.specs.Paths.{origin}
-use Rattle.ug_prefixlist.specs.Named.{same_name}
+use Rattle.ug_types.specs.Bytes.{same_bytes}
 use Rattle.ug_world.specs.Parts.{may_filter}
 use Rattle.ug_fields.specs.declared.kind.Kind.{Kind}
 use Rattle.ug_fields.specs.declared.kind.Kind.TheVariants as kinds
@@ -28,7 +28,7 @@ within least most (Some n) = nat_le least n && nat_le n most
 
 abbrev pub is_no_local : Option (List ℕ) → Bool
 is_no_local None = false
-is_no_local (Some name) = not (same_name name (codes "local"))
+is_no_local (Some name) = not (same_bytes name (codes "local"))
 
 abbrev pub is_of : Family → Option IpAddress → Bool
 is_of f None = false

@@ -7,7 +7,7 @@ use Rattle.toml.specs.Data.{Data}
 use Rattle.ug_types.specs.Ip.{same_family}
 use Rattle.ug_types.specs.declared.family.Family.TheVariants.{V4}
 use Rattle.ug_types.specs.declared.named.Named.{Named}
-use Rattle.ug_prefixlist.specs.Named.{same_name}
+use Rattle.ug_types.specs.Bytes.{same_bytes}
 use Rattle.ug_prefixlist.specs.declared.entry.ListEntry.{ListEntry}
 use Rattle.ug_prefixlist.specs.Lists.{seq_of, is_good}
 use Rattle.ug_prefixlist.specs.Order.{repeats}
@@ -46,7 +46,7 @@ one_more false b c d e f g i h k = absurd cc
 
 peer_whole : (names : List (List ℕ)) (p : Peer) → is_peer_right p ≡ true → is_one_of names p.policy ≡ true → is_peer_good names p ≡ true
 peer_whole names p h k =
-    one_more (not (same_name p.name (codes "local"))) (nat_le 1 p.asn) (is_ipv4 p.router_id) (same_family p.address.family p.family) (same_family p.local_address.family p.family) (same_family p.subnet.family p.family)
+    one_more (not (same_bytes p.name (codes "local"))) (nat_le 1 p.asn) (is_ipv4 p.router_id) (same_family p.address.family p.family) (same_family p.local_address.family p.family) (same_family p.subnet.family p.family)
     (may_filter p.family p.orf) (is_one_of names p.policy) h k
 
 -- ---- what each table is known to be

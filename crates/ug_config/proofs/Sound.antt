@@ -7,7 +7,7 @@ use Rattle.ug_types.specs.Ip.{IpAddress, IpPrefix, same_family, ipv4}
 use Rattle.ug_types.specs.declared.family.Family.{Family}
 use Rattle.ug_types.specs.declared.family.Family.TheVariants.{V4, V6}
 use Rattle.ug_types.specs.declared.named.Named.{Named}
-use Rattle.ug_prefixlist.specs.Named.{same_name}
+use Rattle.ug_types.specs.Bytes.{same_bytes}
 use Rattle.ug_prefixlist.specs.declared.entry.ListEntry.{ListEntry}
 use Rattle.ug_prefixlist.specs.Lists.{is_good}
 use Rattle.ug_routemap.specs.Rules.{MapRule}
@@ -152,12 +152,12 @@ entry_good way d e h =
 -- what the world asks of a peer, but that its policy is there
 abbrev pub is_peer_right : Peer → Bool
 is_peer_right p =
-    not (same_name p.name (codes "local")) && (nat_le 1 p.asn && (is_ipv4 p.router_id && (same_family p.address.family p.family && (same_family p.local_address.family p.family
+    not (same_bytes p.name (codes "local")) && (nat_le 1 p.asn && (is_ipv4 p.router_id && (same_family p.address.family p.family && (same_family p.local_address.family p.family
     && (same_family p.subnet.family p.family && may_filter p.family p.orf)))))
 
-name_right : (o : Option (List ℕ)) (field name : List ℕ) → is_no_local o ≡ true → or_refused missing field o ≡ ok name → not (same_name name (codes "local")) ≡ true
+name_right : (o : Option (List ℕ)) (field name : List ℕ) → is_no_local o ≡ true → or_refused missing field o ≡ ok name → not (same_bytes name (codes "local")) ≡ true
 name_right None field name e h = absurd cc
-name_right (Some x) field name e h = subst (λ (n : List ℕ). not (same_name n (codes "local")) ≡ true) (ok_is x name h) e
+name_right (Some x) field name e h = subst (λ (n : List ℕ). not (same_bytes n (codes "local")) ≡ true) (ok_is x name h) e
 
 pub peer_good : (way : List ℕ) (d : Data) (p : Peer) → peer way d ≡ ok p → is_peer_right p ≡ true
 unfolding peer peer_rows

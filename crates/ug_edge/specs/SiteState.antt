@@ -1,5 +1,6 @@
 -- What a site in memory holds, and what each of its calls makes of it.
 use Rattle.std.specs.Prelude.{ℕ, Bool, true, false, List, [], ◌∷◌, ◌++◌, Option, Some, None, map, drop, slice_get, if◌then◌else◌}
+use Rattle.ug_types.specs.Bytes.{same_bytes}
 use Rattle.ug_edge.specs.declared.lists.CallKind.TheVariants.{Pick, Read, Wire}
 use Rattle.ug_edge.specs.declared.lists.FailAt.{FailAt}
 use Rattle.ug_edge.specs.declared.lists.File.{File}
@@ -7,7 +8,7 @@ use Rattle.ug_edge.specs.declared.lists.Cut.{Cut}
 use Rattle.ug_edge.specs.declared.lists.BeginFails.{BeginFails}
 use Rattle.ug_edge.specs.Fails.{raised, lists}
 use Rattle.ug_edge.specs.declared.lists.Made.{Made}
-use Rattle.ug_edge.specs.Told.{FileText, same_name, file_named, WireName}
+use Rattle.ug_edge.specs.Told.{FileText, file_named, WireName}
 
 -- a total of bytes at which a send of the wires to a peer fails
 pub record PeerCut : Type 0 where
@@ -66,12 +67,12 @@ fresh_site files fails cuts = record { files = files; is_picked = false; left = 
 -- the totals of the cuts of a peer
 abbrev pub totals_to : List ℕ → List PeerCut → List ℕ
 totals_to peer [] = []
-totals_to peer (cut ∷ cuts) = if same_name peer cut.peer then cut.total ∷ totals_to peer cuts else totals_to peer cuts
+totals_to peer (cut ∷ cuts) = if same_bytes peer cut.peer then cut.total ∷ totals_to peer cuts else totals_to peer cuts
 
 -- the sessions of a peer whose begin fails
 abbrev pub begins_to : List ℕ → List PeerBegins → List ℕ
 begins_to peer [] = []
-begins_to peer (fails ∷ begins) = if same_name peer fails.peer then fails.sessions ++ begins_to peer begins else begins_to peer begins
+begins_to peer (fails ∷ begins) = if same_bytes peer fails.peer then fails.sessions ++ begins_to peer begins else begins_to peer begins
 
 -- The next pick, read or wire is listed to fail.
 abbrev pub next_pick_fails : SiteState → Bool

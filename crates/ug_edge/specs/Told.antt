@@ -1,7 +1,7 @@
 -- What the objects of the outside tell. Content is told as an option: `None` keeps it to itself, and an object
 -- that tells goes on telling.
-use Rattle.std.specs.Prelude.{◌≡◌, ℕ, ◌+◌, ◌<◌, ◌⊎◌, ◌==◌, Bool, List, [], ◌∷◌, ◌++◌, Option, Some, None, if◌then◌else◌}
-use Rattle.std.specs.Cmp.Lexicographic.{pointwise}
+use Rattle.std.specs.Prelude.{◌≡◌, ℕ, ◌+◌, ◌<◌, ◌⊎◌, List, [], ◌∷◌, ◌++◌, Option, Some, None, if◌then◌else◌}
+use Rattle.ug_types.specs.Bytes.{same_bytes}
 
 -- A count of faults rose in a call, or stands at the last value of its type and can't rise further.
 abbrev pub Rose : ℕ → ℕ → Type 0
@@ -56,13 +56,10 @@ pub record FileText : Type 0 where
   pub name : List ℕ
   pub bytes : List ℕ
 
-abbrev pub same_name : List ℕ → List ℕ → Bool
-same_name = pointwise ◌==◌
-
 -- the bytes of the first file of that name
 abbrev pub file_named : List ℕ → List FileText → Option (List ℕ)
 file_named name [] = None
-file_named name (file ∷ files) = if same_name name file.name then Some file.bytes else file_named name files
+file_named name (file ∷ files) = if same_bytes name file.name then Some file.bytes else file_named name files
 
 -- What is left to read is the whole file of that name.
 abbrev pub HasPicked : Option (List FileText) → List ℕ → Option (List ℕ) → Type 0

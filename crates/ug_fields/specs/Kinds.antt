@@ -7,7 +7,8 @@ use Rattle.ug_types.specs.Names.{is_name}
 use Rattle.ug_types.specs.Ip.{IpAddress, IpPrefix}
 use Rattle.ug_types.specs.declared.family.Family.{Family}
 use Rattle.ug_types.specs.declared.family.Family.TheVariants.{V4, V6}
-use Rattle.ug_text.specs.Cutting.{◌>>=◌, same_bytes, cut_at}
+use Rattle.ug_types.specs.Bytes.{same_bytes}
+use Rattle.ug_text.specs.Cutting.{◌>>=◌, cut_at}
 use Rattle.ug_text.specs.Numbers.{positive_number, community}
 use Rattle.ug_text.specs.Addresses.{address_in, prefix_in}
 use Rattle.ug_text.specs.Paths.{origin}

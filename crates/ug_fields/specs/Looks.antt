@@ -1,7 +1,7 @@
 -- What the fields that were read say, by their names.
 use Rattle.std.specs.Prelude.{ℕ, Bool, true, false, List, [], ◌∷◌, Option, Some, None, if◌then◌else◌}
 use Rattle.ug_types.specs.Ip.{IpAddress, IpPrefix, ipv4}
-use Rattle.ug_text.specs.Cutting.{same_bytes}
+use Rattle.ug_types.specs.Bytes.{same_bytes}
 use Rattle.ug_routemap.specs.declared.entry.OnMatch.{OnMatch}
 use Rattle.ug_routemap.specs.declared.entry.OnMatch.TheVariants as on_matches
 use Rattle.ug_fields.specs.declared.given.Given.{Given}

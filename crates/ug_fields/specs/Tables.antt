@@ -7,7 +7,7 @@ use Rattle.toml.specs.Parse.{parse_document}
 use Rattle.std.specs.Str.{is_utf8}
 use Rattle.ug_types.specs.declared.family.Family.{Family}
 use Rattle.ug_types.specs.declared.family.Family.TheVariants.{V4, V6}
-use Rattle.ug_text.specs.Cutting.{same_bytes}
+use Rattle.ug_types.specs.Bytes.{same_bytes}
 use Rattle.ug_fields.specs.declared.kind.Need.{Need}
 use Rattle.ug_fields.specs.declared.kind.Need.TheVariants as needs
 use Rattle.ug_fields.specs.Rows.{FieldRow}

@@ -7,9 +7,10 @@ use Rattle.std.proofs.lemmas.List.{take_at, drop_at}
 use Rattle.byteorder.specs.Endian.{big_number}
 use Rattle.byteorder.specs.Numbers.{big_number-reads_back}
 use Rattle.ug_types.specs.declared.family.Family.{Family}
-use Rattle.ug_message.specs.Spelling.{attribute}
+use Rattle.ug_message.specs.Attribute.{Attribute, has, head_size, value_size, attribute_at, attribute}
+use Rattle.ug_message.specs.Kind.{ReadSoFar}
 use Rattle.ug_message.specs.Walking.{at, ◌>>=◌, walk}
-use Rattle.ug_message.specs.AttributesRead.{Attribute, ReadSoFar, has, head_size, value_size, attribute_at, with_attribute, one_attribute, attribute_step}
+use Rattle.ug_message.specs.AttributesRead.{with_attribute, one_attribute, attribute_step}
 use Rattle.ug_message.proofs.Walks.{walk_on}
 
 abbrev found_by : Bool → Bool → ℕ → ℕ → ℕ → List ℕ → Result Attribute ℕ

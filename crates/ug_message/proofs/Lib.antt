@@ -8,7 +8,9 @@ pub mod Digits
 pub mod RoutesAgain
 pub mod ValuesAgain
 pub mod AttributesAgain
+pub mod RowsAgain
 pub mod AllAgain
+pub mod WorkedFaults
 pub mod Headers
 pub mod Fronts
 pub mod WholeMessages

@@ -13,9 +13,9 @@ use Rattle.ug_types.specs.declared.family.Family.TheVariants.{V4}
 use Rattle.ug_types.specs.declared.attrs.Aggregator.{Aggregator}
 use Rattle.ug_types.specs.Ip.{IpAddress}
 use Rattle.ug_types.specs.Attributes.{PathSegment, is_segment}
-use Rattle.ug_message.specs.Spelling.{numbers, four_bytes, segment, segments}
+use Rattle.ug_message.specs.Values.{numbers, numbers_in, number_in, four_bytes, address_in}
 use Rattle.ug_message.specs.Walking.{◌>>=◌, walk, with_one}
-use Rattle.ug_message.specs.AttributesRead.{numbers_in, number_in, address_in, aggregator_in, segment_at, path_in}
+use Rattle.ug_message.specs.AttributeTable.{segment, segments, segment_at, path_in, aggregator_in}
 use Rattle.ug_message.proofs.Formed.{AreNumbers, HaveNumbers, IsAddressOf, IsAggregator}
 use Rattle.ug_message.proofs.Heads.{length_numbers}
 use Rattle.ug_message.proofs.Walks.{walk_on}

@@ -18,7 +18,8 @@ use Rattle.ug_message.specs.Spelling.{route, routes, attributes, attributes_but_
 use Rattle.ug_message.specs.Spellable.{is_route}
 use Rattle.ug_message.specs.Texts.{framed, field, withdrawing, announcing}
 use Rattle.ug_message.specs.Walking.{Fault, ◌>>=◌, walk, with_one}
-use Rattle.ug_message.specs.AttributesRead.{Placed, Multiprotocol, has_routes, read_attributes}
+use Rattle.ug_message.specs.Kind.{Placed}
+use Rattle.ug_message.specs.AttributesRead.{Multiprotocol, has_routes, read_attributes}
 use Rattle.ug_message.specs.Reading.{size_at, message_size, is_size, header_fault, Parts, parts_in, one_route, route_read, routes_in, attributes_read, placed_routes, ipv4_changes, ipv6_changes, changes_in, read_update}
 use Rattle.ug_message.proofs.Formed.{both, IsSpellable}
 use Rattle.ug_message.proofs.RoutesAgain.{route_again, route_some}

@@ -1,8 +1,12 @@
+pub mod Walking
+pub mod Attribute
+pub mod Values
+pub mod Kind
+pub mod AttributeTable
 pub mod Spelling
 pub mod Spellable
 pub mod Texts
 pub mod Streams
-pub mod Walking
 pub mod RoutesRead
 pub mod AttributesRead
 pub mod Reading

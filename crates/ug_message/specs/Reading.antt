@@ -12,7 +12,8 @@ use Rattle.ug_types.specs.Sessions.{message_limit}
 use Rattle.ug_message.specs.Texts.{afi}
 use Rattle.ug_message.specs.RoutesRead.{route_at}
 use Rattle.ug_message.specs.Walking.{Fault, fault, ◌>>=◌, walk, with_one}
-use Rattle.ug_message.specs.AttributesRead.{Placed, Multiprotocol, has_routes, read_attributes, read_multiprotocol}
+use Rattle.ug_message.specs.Kind.{Placed}
+use Rattle.ug_message.specs.AttributesRead.{Multiprotocol, has_routes, read_attributes, read_multiprotocol}
 
 -- a length in two bytes
 abbrev pub size_at : ℕ → List ℕ → ℕ

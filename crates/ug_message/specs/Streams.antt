@@ -1,7 +1,8 @@
 -- A session's bytes as messages.
-use Rattle.std.specs.Prelude.{◌≡◌, ℕ, ◌<◌, Bool, true, false, ◌&&◌, List, [], ◌∷◌, ◌++◌, length, Some}
+use Rattle.std.specs.Prelude.{◌≡◌, ℕ, ◌<◌, Bool, false, ◌&&◌, List, [], ◌∷◌, ◌++◌, length, Some}
 use Rattle.ug_types.specs.declared.capabilities.Capabilities.{Capabilities}
 use Rattle.ug_types.specs.Messages.{Message, Updates, Begins, Ends, Ignored}
+use Rattle.ug_types.specs.Bytes.{is_empty}
 use Rattle.ug_message.specs.Texts.{written}
 
 -- The bytes are the texts of these messages, one after the other.
@@ -45,10 +46,6 @@ IsHeeded (Updates u) = Unit {0}
 IsHeeded Begins = Unit {0}
 IsHeeded Ends = Unit {0}
 IsHeeded Ignored = ⊥
-
-abbrev is_empty : {T : Type 0} → List T → Bool
-is_empty [] = true
-is_empty (x ∷ xs) = false
 
 -- The message is End-of-RIB (RFC 4724 section 2): an UPDATE that withdraws nothing and announces nothing.
 abbrev pub says_nothing : Message → Bool

@@ -1,6 +1,6 @@
 //! Laws over the definitions, each on a function that does nothing.
 
-ghost use Rattle.std.specs.Prelude.{◌≡◌, ◌≤◌, List, ℕ, length, Some, None, true, Ok, Bool, ◌++◌, ◌⊎◌, []};
+ghost use Rattle.std.specs.Prelude.{◌≡◌, ◌≤◌, List, ℕ, length, Some, None, true, false, Ok, Err, Bool, ◌∷◌, ◌++◌, ◌⊎◌, []};
 ghost use Rattle.ug_types.specs.declared.capabilities.Capabilities as sessions;
 ghost use Rattle.ug_types.specs.Messages.{Message};
 ghost use Rattle.ug_types.specs.Sessions.{message_limit};
@@ -9,8 +9,8 @@ ghost use Rattle.ug_types.specs.declared.key.Key as keys;
 ghost use Rattle.ug_message.specs.Spellable.{is_route, can_be_spelled};
 ghost use Rattle.ug_types.specs.declared.family.Family.TheVariants.{V4};
 ghost use Rattle.ug_message.specs.RoutesRead.{route_at};
-ghost use Rattle.ug_message.specs.AttributesRead.{read_attributes};
-ghost use Rattle.ug_message.specs.Walking.{Fault};
+ghost use Rattle.ug_message.specs.AttributesRead.{read_attributes, read_multiprotocol};
+ghost use Rattle.ug_message.specs.Walking.{Fault, fault};
 ghost use Rattle.ug_message.specs.Reading.{message_type, IsWhole, Spells, HasFault};
 ghost use Rattle.ug_message.specs.Received.{IsStream, IsFaultyAt};
 ghost use Rattle.ug_message.specs.Streams.{IsCut, IsSentForm, IsUpdate, IsHeeded};
@@ -43,6 +43,25 @@ pub fn route_again()
 /// Attributes that were written are read as the same, whether they are needed or not.
 pub fn attributes_again()
     ensures { (need : Bool) (a : Attributes) → can_be_spelled V4 a ≡ true → HasShortValues a → read_attributes need (attributes a) ≡ Ok (Some a) }
+{}
+
+/// Attributes whose first fault is known: the head passes the end, a type comes twice, flags and a length of another
+/// kind, a partial bit on one that nobody passes on unknown, a fourth origin, a segment without numbers, a path that is
+/// missing, an unknown type that isn't optional, another family, and a next hop of four bytes. An unknown optional type
+/// is passed over.
+pub fn attribute_faults()
+    ensures cut_short { read_attributes false (64 ∷ 1 ∷ []) ≡ Err (fault 1 0) }
+    ensures twice { read_attributes false (64 ∷ 1 ∷ 1 ∷ 0 ∷ 64 ∷ 1 ∷ 1 ∷ 0 ∷ []) ≡ Err (fault 2 4) }
+    ensures other_flags { read_attributes false (192 ∷ 1 ∷ 1 ∷ 0 ∷ []) ≡ Err (fault 3 0) }
+    ensures partial { read_attributes false (160 ∷ 4 ∷ 4 ∷ 0 ∷ 0 ∷ 0 ∷ 7 ∷ []) ≡ Err (fault 3 0) }
+    ensures other_length { read_attributes false (64 ∷ 1 ∷ 2 ∷ 0 ∷ 0 ∷ []) ≡ Err (fault 4 0) }
+    ensures fourth_origin { read_attributes false (64 ∷ 1 ∷ 1 ∷ 3 ∷ []) ≡ Err (fault 5 0) }
+    ensures empty_segment { read_attributes false (64 ∷ 2 ∷ 2 ∷ 2 ∷ 0 ∷ []) ≡ Err (fault 6 0) }
+    ensures missing { read_attributes true (64 ∷ 1 ∷ 1 ∷ 0 ∷ []) ≡ Err (fault 7 0) }
+    ensures unknown { read_attributes false (64 ∷ 30 ∷ 0 ∷ []) ≡ Err (fault 8 0) }
+    ensures unknown_optional { read_attributes false (128 ∷ 30 ∷ 0 ∷ []) ≡ Ok None }
+    ensures other_family { read_multiprotocol (128 ∷ 15 ∷ 3 ∷ 0 ∷ 1 ∷ 1 ∷ []) ≡ Err (fault 9 0) }
+    ensures short_next_hop { read_multiprotocol (128 ∷ 14 ∷ 5 ∷ 0 ∷ 2 ∷ 1 ∷ 4 ∷ 0 ∷ []) ≡ Err (fault 9 0) }
 {}
 
 /// No whole message is a proper front of another. A whole message says one thing or has one first fault, and never

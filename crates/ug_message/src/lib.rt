@@ -6,7 +6,7 @@ mod laws;
 mod room;
 
 pub use laws::{
-    attributes_again, one_text, route_again, sent_and_received, streams, values_are_short,
-    whole_messages, written_again,
+    attribute_faults, attributes_again, one_text, route_again, sent_and_received, streams,
+    values_are_short, whole_messages, written_again,
 };
 pub use room::{put, put_u16, put_u32};

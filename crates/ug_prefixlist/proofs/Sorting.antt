@@ -197,7 +197,7 @@ module _ {T : Type 0} (number : T → ℕ) where
       one true e = refl
       one false e = ap (λ (b : Bool). p y || b) e ∙ or_swap (p y) (p x) (list_any p ys)
 
-  ascending_any : (p : T → Bool) (xs : List T) → list_any p (ascending number xs) ≡ list_any p xs
+  pub ascending_any : (p : T → Bool) (xs : List T) → list_any p (ascending number xs) ≡ list_any p xs
   ascending_any p [] = refl
   ascending_any p (x ∷ xs) = placed_any p x (ascending number xs) ∙ ap (λ (b : Bool). p x || b) (ascending_any p xs)
 

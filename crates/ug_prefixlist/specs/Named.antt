@@ -1,18 +1,15 @@
 -- Values by name.
-use Rattle.std.specs.Prelude.{ℕ, Bool, true, false, nat_eq, List, [], ◌∷◌, Option, Some, None, if◌then◌else◌}
-use Rattle.std.specs.Cmp.Lexicographic.{pointwise}
+use Rattle.std.specs.Prelude.{ℕ, Bool, true, false, List, [], ◌∷◌, Option, Some, None, if◌then◌else◌}
 use Rattle.ug_types.specs.Ip.{IpPrefix}
 use Rattle.ug_types.specs.declared.named.Named.{Named}
+use Rattle.ug_types.specs.Bytes.{same_bytes}
 use Rattle.ug_prefixlist.specs.declared.entry.ListEntry.{ListEntry}
 use Rattle.ug_prefixlist.specs.Lists.{permits}
-
-abbrev pub same_name : List ℕ → List ℕ → Bool
-same_name = pointwise nat_eq
 
 -- the first value of that name
 abbrev pub value_named : {T : Type 0} → List (Named T) → List ℕ → Option T
 value_named [] name = None
-value_named (x ∷ xs) name = if same_name x.name name then Some x.value else value_named xs name
+value_named (x ∷ xs) name = if same_bytes x.name name then Some x.value else value_named xs name
 
 -- a prefix list and its name
 abbrev pub NamedList : Type 0

@@ -3,7 +3,7 @@
 ghost use Rattle.std.specs.Prelude.{◌≡◌, ℕ, IfOk};
 ghost use Rattle.ug_prefixlist.specs.Order.{ascending, rises, rises_above};
 
-use ug_types::NoMemory;
+use ug_types::{Key, NoMemory};
 
 /// An item with a sequence number.
 pub trait Numbered {
@@ -12,6 +12,15 @@ pub trait Numbered {
     /// The sequence number.
     fn number(&self) -> u32
         ensures { result ≡ number_of self.now };
+}
+
+/// The keys of one prefix are numbered by their path identifiers.
+impl Numbered for Key {
+    ghost number_of = { λ key. key.id };
+
+    fn number(&self) -> u32 {
+        self.id
+    }
 }
 
 /// The items in ascending order of their numbers.

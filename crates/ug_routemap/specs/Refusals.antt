@@ -2,7 +2,7 @@
 use Rattle.std.specs.Prelude.{◌≡◌, ℕ, ◌+◌, nat_lt, nat_le, Bool, true, ◌&&◌, not, List, [], length, sum_by, Option, Some, None, unwrap_or, if◌then◌else◌}
 use Rattle.std.specs.List.{list_all, list_any}
 use Rattle.ug_prefixlist.specs.Order.{repeats, rises}
-use Rattle.ug_prefixlist.specs.Named.{same_name}
+use Rattle.ug_types.specs.Bytes.{same_bytes}
 use Rattle.ug_routemap.specs.declared.entry.OnMatch.{OnMatch}
 use Rattle.ug_routemap.specs.declared.entry.OnMatch.TheVariants as on_matches
 use Rattle.ug_routemap.specs.declared.refusal.MapRefusal.{MapRefusal}
@@ -20,7 +20,7 @@ is_ahead r = leads_ahead r.seq r.on_match
 
 abbrev pub is_among : List (List ℕ) → Option (List ℕ) → Bool
 is_among names None = true
-is_among names (Some name) = list_any (λ n. same_name n name) names
+is_among names (Some name) = list_any (λ n. same_bytes n name) names
 
 -- the list that an entry names is one of these
 abbrev pub is_known : List (List ℕ) → MapRule → Bool

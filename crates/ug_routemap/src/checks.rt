@@ -2,7 +2,7 @@
 
 ghost use Rattle.std.specs.Prelude.{◌≡◌, [], length, map, min, unwrap_or};
 ghost use Rattle.std.specs.List.{list_all, list_any};
-ghost use Rattle.ug_prefixlist.specs.Named.{same_name};
+ghost use Rattle.ug_types.specs.Bytes.{same_bytes};
 ghost use Rattle.ug_routemap.specs.Rules.{rule_of, numbers_of};
 ghost use Rattle.ug_routemap.specs.Refusals.{is_origin, sets_origin, is_ahead, leads_ahead, is_among, is_known, count_in, prepends_in, communities_in, has_few_sets, refusal_in_order};
 
@@ -104,7 +104,7 @@ fn is_among(names: &NameList, name: &Option<Name>) -> bool
 }
 
 fn is_name_among(names: &[Name], name: &Name) -> bool
-    ensures { result ≡ list_any (λ n. same_name n name.now) names.now }
+    ensures { result ≡ list_any (λ n. same_bytes n name.now) names.now }
 {
     for one in names {
         if *one == *name {

@@ -1,7 +1,10 @@
--- Groups of sixteen bits, and the room that eight of them take.
-use Rattle.std.proofs.Common.{◌≡◌, ℕ, zero, suc, ◌+◌, ◌-◌, ◌*◌, ◌^◌, ◌<◌, ◌≤◌, List, [], ◌∷◌, length, drop, Option, Some, None, refl, arith}
+-- Groups of sixteen bits, the room that eight of them take, and the text of those that are 0.
+use Rattle.std.proofs.Common.{◌≡◌, ℕ, zero, suc, ◌+◌, ◌-◌, ◌*◌, ◌%◌, ◌^◌, ◌<◌, ◌≤◌, false, List, [], ◌∷◌, ◌++◌, length, drop, Option, Some, None, refl, ap, ◌∙◌, arith}
+use Rattle.std.specs.Prelude.{codes}
+use Rattle.std.specs.Fmt.{digits}
 use Rattle.std.proofs.Math.Nat.{pow-le-pow_right}
 use Rattle.ug_text.specs.Cutting.{◌>>=◌}
+use Rattle.ug_text.specs.Texts.{group, group_text, four_groups}
 use Rattle.ug_text.specs.Addresses.{Groups, with_group, with_zeros, cut_at_gap}
 
 -- four hexadecimal digits fit sixteen bits
@@ -30,3 +33,16 @@ pub zeros_step : (n : ℕ) (groups : Groups) → 0 < n → with_zeros n groups �
 unfolding with_zeros
 zeros_step zero groups some = absurd (omega arith)
 zeros_step (suc n) groups some = let e : suc n - 1 ≡ n = omega arith in rw e refl
+
+abbrev spelled : ℕ → ℕ → ℕ → ℕ → List ℕ
+spelled a b c d = digits 16 false a ++ codes ":" ++ digits 16 false b ++ codes ":" ++ digits 16 false c ++ codes ":" ++ digits 16 false d
+
+pub no_groups : (bits : ℕ) → bits % 2 ^ 64 ≡ 0 → four_groups bits ≡ codes "0:0:0:0"
+unfolding four_groups group_text digits
+no_groups bits e =
+    let a : group 3 bits ≡ 0 = omega arith in
+    let b : group 2 bits ≡ 0 = omega arith in
+    let c : group 1 bits ≡ 0 = omega arith in
+    let d : group 0 bits ≡ 0 = omega arith in
+    ap (λ (n : ℕ). spelled n (group 2 bits) (group 1 bits) (group 0 bits)) a ∙ ap (λ (n : ℕ). spelled 0 n (group 1 bits) (group 0 bits)) b
+    ∙ ap (λ (n : ℕ). spelled 0 0 n (group 0 bits)) c ∙ ap (λ (n : ℕ). spelled 0 0 0 n) d

@@ -1,9 +1,5 @@
 -- Texts cut into parts, and parts read one by one.
-use Rattle.std.specs.Prelude.{ℕ, ◌==◌, Bool, List, [], ◌∷◌, ◌++◌, Option, Some, None, if◌then◌else◌}
-use Rattle.std.specs.Cmp.Lexicographic.{pointwise}
-
-abbrev pub same_bytes : List ℕ → List ℕ → Bool
-same_bytes = pointwise ◌==◌
+use Rattle.std.specs.Prelude.{ℕ, ◌==◌, List, [], ◌∷◌, ◌++◌, Option, Some, None, if◌then◌else◌}
 
 -- a text read step by step, as far as each step can be read
 infixl 10 ◌>>=◌

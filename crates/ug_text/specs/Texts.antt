@@ -16,9 +16,13 @@ dotted n = decimal (n / 16777216) ++ codes "." ++ decimal (n / 65536 % 256) ++ c
 abbrev pub leading : ℕ → ℕ
 leading bits = bits / 2 ^ 96
 
--- a group of sixteen bits, with 16 k bits below it: hexadecimal, in lower case, without leading zeros
+-- a group of sixteen bits, with 16 k bits below it
+abbrev pub group : ℕ → ℕ → ℕ
+group k bits = bits / 2 ^ (16 * k) % 65536
+
+-- hexadecimal, in lower case, without leading zeros
 unfoldable pub group_text : ℕ → ℕ → List ℕ
-group_text k bits = digits 16 false (bits / 2 ^ (16 * k) % 65536)
+group_text k bits = digits 16 false (group k bits)
 
 -- the lowest four groups, with colons between
 unfoldable pub four_groups : ℕ → List ℕ

@@ -2,7 +2,7 @@
 
 ghost use Rattle.std.specs.Prelude.{◌≡◌, ◌++◌, ◌≤◌, OnOk, codes};
 ghost use Rattle.std.specs.String.{string_bytes};
-ghost use Rattle.ug_text.specs.Texts.{dotted, leading, grouped, four_groups, group_text, bits_text, address_text, prefix_text};
+ghost use Rattle.ug_text.specs.Texts.{dotted, leading, grouped, four_groups, group, bits_text, address_text, prefix_text};
 
 use ug_types::{Addr, Family, NoMemory, Prefix};
 
@@ -26,29 +26,37 @@ fn leading(bits: u128) -> u32
     (bits >> 96) as u32
 }
 
-/// Adds the group of sixteen bits that has 16 `k` bits below it: hexadecimal, in lower case, without leading zeros.
-#[tactic(auto, unfolding(crate::specs::Texts::group_text))]
-fn write_group(out: &mut String, bits: u128, k: u8) -> Result<(), NoMemory>
+/// The group of sixteen bits that has 16 `k` bits below it.
+fn group(bits: u128, k: u8) -> u16
     requires { k ≤ 7 }
-    ensures { OnOk result (string_bytes out.new ≡ string_bytes out.old ++ group_text k bits) }
+    ensures { result ≡ group k bits }
 {
-    let group = ((bits >> (16 * k)) % 65536) as u64;
-    write!(out, "{group:x}")?;
-    Ok(())
+    ((bits >> (16 * k)) % 65536) as u16
 }
 
-/// Adds the lowest four groups, with colons between.
-#[tactic(auto, unfolding(crate::specs::Texts::four_groups))]
+/// Adds the lowest four groups, with colons between: hexadecimal, in lower case, without leading zeros.
+#[tactic(auto, unfolding(crate::specs::Texts::group_text, crate::specs::Texts::four_groups))]
 fn write_four_groups(out: &mut String, bits: u128) -> Result<(), NoMemory>
     ensures { OnOk result (string_bytes out.new ≡ string_bytes out.old ++ four_groups bits) }
 {
-    write_group(out, bits, 3)?;
-    write!(out, ":")?;
-    write_group(out, bits, 2)?;
-    write!(out, ":")?;
-    write_group(out, bits, 1)?;
-    write!(out, ":")?;
-    write_group(out, bits, 0)
+    let a = group(bits, 3);
+    let b = group(bits, 2);
+    let c = group(bits, 1);
+    let d = group(bits, 0);
+    write!(out, "{a:x}:{b:x}:{c:x}:{d:x}")?;
+    Ok(())
+}
+
+/// The same, in less time where there is none but 0, as in the lower half of most prefixes.
+#[tactic(auto, using(crate::proofs::Groups::no_groups))]
+fn write_lower_half(out: &mut String, bits: u128) -> Result<(), NoMemory>
+    ensures { OnOk result (string_bytes out.new ≡ string_bytes out.old ++ four_groups bits) }
+{
+    if bits % (1 << 64) != 0 {
+        return write_four_groups(out, bits);
+    }
+    out.push_str("0:0:0:0")?;
+    Ok(())
 }
 
 /// Adds eight groups with colons between, the high sixteen bits first.
@@ -58,7 +66,7 @@ fn write_grouped(out: &mut String, bits: u128) -> Result<(), NoMemory>
 {
     write_four_groups(out, bits >> 64)?;
     write!(out, ":")?;
-    write_four_groups(out, bits)
+    write_lower_half(out, bits)
 }
 
 /// Adds an address of the family with these bits, left aligned.

@@ -2,22 +2,19 @@
 -- ends the options.
 use Rattle.std.specs.Prelude.{ℕ, nat_lt, ◌==◌, Bool, true, false, not, ◌&&◌, List, [], ◌∷◌, length, Option, Some, None, is_some, option_and_then, codes, if◌then◌else◌}
 use Rattle.std.specs.Option.{option_map}
-use Rattle.std.specs.Cmp.Lexicographic.{pointwise}
 use Rattle.ug_types.specs.declared.capabilities.Capabilities.{Capabilities}
 use Rattle.ug_types.specs.declared.family.Family.TheVariants.{V4, V6}
+use Rattle.ug_types.specs.Bytes.{same_bytes}
 use Rattle.ug_words.specs.declared.verb.Verb.{Verb}
 use Rattle.ug_words.specs.declared.verb.Verb.TheVariants as verbs
-
-abbrev pub same_word : List ℕ → List ℕ → Bool
-same_word = pointwise ◌==◌
 
 -- the name of a command
 abbrev pub verb_of : List ℕ → Option Verb
 verb_of word =
-    if same_word word (codes "one") then Some verbs.One
-    else if same_word word (codes "run") then Some verbs.Run
-    else if same_word word (codes "check") then Some verbs.Check
-    else if same_word word (codes "groups") then Some verbs.Groups
+    if same_bytes word (codes "one") then Some verbs.One
+    else if same_bytes word (codes "run") then Some verbs.Run
+    else if same_bytes word (codes "check") then Some verbs.Check
+    else if same_bytes word (codes "groups") then Some verbs.Groups
     else None
 
 abbrev begins_with_dash : List ℕ → Bool
@@ -55,18 +52,18 @@ with_positional word s =
 -- an option of `check`, at most once
 abbrev pub with_check_option : List ℕ → SoFar → Option SoFar
 with_check_option word s =
-    if same_word word (codes "--add-path") then (if s.add_path then None else Some (record s { add_path = true }))
-    else if same_word word (codes "--extended") then (if s.extended then None else Some (record s { extended = true }))
-    else if same_word word (codes "--ipv6") then (if s.ipv6 then None else Some (record s { ipv6 = true }))
+    if same_bytes word (codes "--add-path") then (if s.add_path then None else Some (record s { add_path = true }))
+    else if same_bytes word (codes "--extended") then (if s.extended then None else Some (record s { extended = true }))
+    else if same_bytes word (codes "--ipv6") then (if s.ipv6 then None else Some (record s { ipv6 = true }))
     else None
 
 -- `--workers`, at most once, whose value is the next word, or stands behind `=`
 abbrev pub with_run_option : List ℕ → SoFar → Option SoFar
 with_run_option word s =
     if is_some s.workers then None
-    else if same_word word (codes "--workers") then Some (record s { wants_value = true })
-    else if same_word word (codes "--workers=0") then Some (record s { workers = Some false })
-    else if same_word word (codes "--workers=1") then Some (record s { workers = Some true })
+    else if same_bytes word (codes "--workers") then Some (record s { wants_value = true })
+    else if same_bytes word (codes "--workers=0") then Some (record s { workers = Some false })
+    else if same_bytes word (codes "--workers=1") then Some (record s { workers = Some true })
     else None
 
 abbrev pub with_option : Verb → List ℕ → SoFar → Option SoFar
@@ -78,15 +75,15 @@ with_option verbs.Groups word s = None
 -- the value of `--workers`
 abbrev pub with_value : List ℕ → SoFar → Option SoFar
 with_value word s =
-    if same_word word (codes "0") then Some (record s { wants_value = false; workers = Some false })
-    else if same_word word (codes "1") then Some (record s { wants_value = false; workers = Some true })
+    if same_bytes word (codes "0") then Some (record s { wants_value = false; workers = Some false })
+    else if same_bytes word (codes "1") then Some (record s { wants_value = false; workers = Some true })
     else None
 
 abbrev pub with_word : Verb → List ℕ → SoFar → Option SoFar
 with_word verb word s =
     if s.wants_value then with_value word s
     else if not s.may_be_option then with_positional word s
-    else if same_word word (codes "--") then Some (record s { may_be_option = false })
+    else if same_bytes word (codes "--") then Some (record s { may_be_option = false })
     else if is_option word then with_option verb word s
     else with_positional word s
 

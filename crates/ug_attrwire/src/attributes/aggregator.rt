@@ -1,8 +1,7 @@
 //! AGGREGATOR: the AS and the IPv4 address of who made the route out of more specific ones.
 
 ghost use Rattle.std.specs.Prelude.{◌≡◌, ◌≤◌, refl, length};
-ghost use Rattle.ug_message.specs.Spelling.{aggregator};
-ghost use Rattle.ug_message.specs.AttributesRead.{aggregator_in};
+ghost use Rattle.ug_message.specs.AttributeTable.{aggregator_kind, aggregator, aggregator_in};
 
 use crate::fault::AttributeFault;
 use crate::found::{Found, Standing};
@@ -16,6 +15,8 @@ use ug_types::{AttrParts, ByteList};
 pub struct Aggregator;
 
 impl Known for Aggregator {
+    ghost kind = { aggregator_kind };
+
     ghost NUMBER = { 7 };
 
     ghost FLAGS = { 192 };
@@ -24,9 +25,9 @@ impl Known for Aggregator {
 
     const FLAGS: u8 = OPTIONAL_TRANSITIVE;
 
-    ghost flags_are = { refl };
+    ghost number_is = { refl };
 
-    ghost partial_is = { refl };
+    ghost flags_are = { refl };
 
     fn is_length(len: usize) -> bool {
         len == 8

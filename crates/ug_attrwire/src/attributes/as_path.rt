@@ -3,8 +3,7 @@
 ghost use Rattle.std.specs.Prelude.{◌≡◌, ◌+◌, ◌≤◌, ◌++◌, true, refl, length, map, IfOk, IfErr};
 ghost use Rattle.std.specs.List.{list_all};
 ghost use Rattle.ug_types.specs.Attributes.{segment_of, is_segment};
-ghost use Rattle.ug_message.specs.Spelling.{as_path, segment, segments};
-ghost use Rattle.ug_message.specs.AttributesRead.{segment_at, path_in};
+ghost use Rattle.ug_message.specs.AttributeTable.{as_path_kind, as_path, segment, segments, segment_at, path_in};
 ghost use Rattle.ug_attrwire.specs.Views.{GivesOne, HasNumber};
 
 use crate::fault::AttributeFault;
@@ -19,6 +18,8 @@ use ug_types::{AttrParts, ByteList, Segment, SegmentList, Sequence};
 pub struct AsPath;
 
 impl Known for AsPath {
+    ghost kind = { as_path_kind };
+
     ghost NUMBER = { 2 };
 
     ghost FLAGS = { 64 };
@@ -27,9 +28,9 @@ impl Known for AsPath {
 
     const FLAGS: u8 = WELL_KNOWN;
 
-    ghost flags_are = { refl };
+    ghost number_is = { refl };
 
-    ghost partial_is = { refl };
+    ghost flags_are = { refl };
 
     fn is_length(_len: usize) -> bool {
         true
@@ -63,7 +64,7 @@ impl Spelled for AsPath {
 }
 
 /// The segment that the bytes begin with, and how many of them it takes.
-#[tactic(auto, unfolding(ug_message::specs::AttributesRead::segment_at))]
+#[tactic(auto, unfolding(ug_message::specs::AttributeTable::segment_at))]
 fn segment_at(alloc: Global, bytes: &[u8]) -> Result<(Segment, usize), AttributeFault>
     ensures exact { GivesOne (λ x. (segment_of x.0, x.1)) result (segment_at bytes.now) }
     ensures number { IfErr result HasNumber }

@@ -1,7 +1,7 @@
 //! ATOMIC_AGGREGATE: that more specific routes were left out, no bytes.
 
 ghost use Rattle.std.specs.Prelude.{refl};
-ghost use Rattle.ug_message.specs.Spelling.{atomic_aggregate};
+ghost use Rattle.ug_message.specs.AttributeTable.{atomic_aggregate_kind, atomic_aggregate};
 
 use crate::fault::AttributeFault;
 use crate::found::{Found, Standing};
@@ -13,6 +13,8 @@ use ug_types::{AttrParts, ByteList};
 pub struct AtomicAggregate;
 
 impl Known for AtomicAggregate {
+    ghost kind = { atomic_aggregate_kind };
+
     ghost NUMBER = { 6 };
 
     ghost FLAGS = { 64 };
@@ -21,9 +23,9 @@ impl Known for AtomicAggregate {
 
     const FLAGS: u8 = WELL_KNOWN;
 
-    ghost flags_are = { refl };
+    ghost number_is = { refl };
 
-    ghost partial_is = { refl };
+    ghost flags_are = { refl };
 
     fn is_length(len: usize) -> bool {
         len == 0

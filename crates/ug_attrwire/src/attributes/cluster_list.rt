@@ -1,7 +1,7 @@
 //! CLUSTER_LIST: the clusters that reflected the route, four bytes each.
 
 ghost use Rattle.std.specs.Prelude.{refl};
-ghost use Rattle.ug_message.specs.Spelling.{cluster_list};
+ghost use Rattle.ug_message.specs.AttributeTable.{cluster_list_kind, cluster_list};
 
 use crate::fault::AttributeFault;
 use crate::found::{Found, Standing};
@@ -14,6 +14,8 @@ use ug_types::{AttrParts, ByteList};
 pub struct ClusterList;
 
 impl Known for ClusterList {
+    ghost kind = { cluster_list_kind };
+
     ghost NUMBER = { 10 };
 
     ghost FLAGS = { 128 };
@@ -22,9 +24,9 @@ impl Known for ClusterList {
 
     const FLAGS: u8 = OPTIONAL;
 
-    ghost flags_are = { refl };
+    ghost number_is = { refl };
 
-    ghost partial_is = { refl };
+    ghost flags_are = { refl };
 
     fn is_length(len: usize) -> bool {
         len % 4 == 0

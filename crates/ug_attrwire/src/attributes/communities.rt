@@ -1,7 +1,7 @@
 //! COMMUNITIES, four bytes each.
 
 ghost use Rattle.std.specs.Prelude.{refl};
-ghost use Rattle.ug_message.specs.Spelling.{communities};
+ghost use Rattle.ug_message.specs.AttributeTable.{communities_kind, communities};
 
 use crate::fault::AttributeFault;
 use crate::found::{Found, Standing};
@@ -14,6 +14,8 @@ use ug_types::{AttrParts, ByteList};
 pub struct Communities;
 
 impl Known for Communities {
+    ghost kind = { communities_kind };
+
     ghost NUMBER = { 8 };
 
     ghost FLAGS = { 192 };
@@ -22,9 +24,9 @@ impl Known for Communities {
 
     const FLAGS: u8 = OPTIONAL_TRANSITIVE;
 
-    ghost flags_are = { refl };
+    ghost number_is = { refl };
 
-    ghost partial_is = { refl };
+    ghost flags_are = { refl };
 
     fn is_length(len: usize) -> bool {
         len % 4 == 0

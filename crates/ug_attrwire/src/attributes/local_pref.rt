@@ -1,7 +1,7 @@
 //! LOCAL_PREF: how much the own AS prefers the route.
 
 ghost use Rattle.std.specs.Prelude.{refl};
-ghost use Rattle.ug_message.specs.Spelling.{local_pref};
+ghost use Rattle.ug_message.specs.AttributeTable.{local_pref_kind, local_pref};
 
 use crate::fault::AttributeFault;
 use crate::found::{Found, Standing};
@@ -14,6 +14,8 @@ use ug_types::{AttrParts, ByteList};
 pub struct LocalPref;
 
 impl Known for LocalPref {
+    ghost kind = { local_pref_kind };
+
     ghost NUMBER = { 5 };
 
     ghost FLAGS = { 64 };
@@ -22,9 +24,9 @@ impl Known for LocalPref {
 
     const FLAGS: u8 = WELL_KNOWN;
 
-    ghost flags_are = { refl };
+    ghost number_is = { refl };
 
-    ghost partial_is = { refl };
+    ghost flags_are = { refl };
 
     fn is_length(len: usize) -> bool {
         len == 4

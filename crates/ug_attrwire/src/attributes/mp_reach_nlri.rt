@@ -2,7 +2,7 @@
 
 ghost use Rattle.std.specs.Prelude.{◌≡◌, ◌+◌, ◌≤◌, ◌++◌, refl, length, OnOk, OnErr, IfOk, IfErr};
 ghost use Rattle.ug_types.specs.declared.family.Family.TheVariants.{V6};
-ghost use Rattle.ug_message.specs.AttributesRead.{reach_in};
+ghost use Rattle.ug_message.specs.AttributeTable.{mp_reach_nlri_kind, reach_in};
 ghost use Rattle.ug_message.specs.Heads.{reach_head, reach_place};
 ghost use Rattle.ug_attrwire.specs.Views.{reach_of, StandsAt, GivesOne, HasNumber};
 
@@ -20,6 +20,8 @@ use ug_types::{Addr, ByteList, Family, NoMemory};
 pub struct MpReachNlri;
 
 impl Known for MpReachNlri {
+    ghost kind = { mp_reach_nlri_kind };
+
     ghost NUMBER = { 14 };
 
     ghost FLAGS = { 128 };
@@ -28,9 +30,9 @@ impl Known for MpReachNlri {
 
     const FLAGS: u8 = OPTIONAL;
 
-    ghost flags_are = { refl };
+    ghost number_is = { refl };
 
-    ghost partial_is = { refl };
+    ghost flags_are = { refl };
 
     fn is_length(_len: usize) -> bool {
         true
@@ -49,7 +51,7 @@ impl Known for MpReachNlri {
 
 /// The value of MP_REACH_NLRI, which stands at that place of all attributes. Of a next hop of two addresses the first
 /// counts.
-#[tactic(auto, using(crate::proofs::Parts::behind), unfolding(ug_message::specs::AttributesRead::reach_in))]
+#[tactic(auto, using(crate::proofs::Parts::behind), unfolding(ug_message::specs::AttributeTable::reach_in))]
 fn reach_in(all: &[u8], place: usize, bytes: &[u8]) -> Result<Reach, AttributeFault>
     requires within { place + length bytes.now ≤ length all.now }
     requires stands { StandsAt all.now place bytes.now }

@@ -1,7 +1,7 @@
 //! MP_UNREACH_NLRI: withdrawn routes of IPv6 among the attributes (RFC 4760).
 
 ghost use Rattle.std.specs.Prelude.{◌≡◌, ◌+◌, ◌≤◌, ◌++◌, refl, length, OnOk, OnErr, IfOk, IfErr};
-ghost use Rattle.ug_message.specs.AttributesRead.{unreach_in};
+ghost use Rattle.ug_message.specs.AttributeTable.{mp_unreach_nlri_kind, unreach_in};
 ghost use Rattle.ug_message.specs.Heads.{unreach_head};
 ghost use Rattle.ug_attrwire.specs.Views.{placed_of, StandsAt, GivesOne, HasNumber};
 
@@ -17,6 +17,8 @@ use ug_types::{ByteList, NoMemory};
 pub struct MpUnreachNlri;
 
 impl Known for MpUnreachNlri {
+    ghost kind = { mp_unreach_nlri_kind };
+
     ghost NUMBER = { 15 };
 
     ghost FLAGS = { 128 };
@@ -25,9 +27,9 @@ impl Known for MpUnreachNlri {
 
     const FLAGS: u8 = OPTIONAL;
 
-    ghost flags_are = { refl };
+    ghost number_is = { refl };
 
-    ghost partial_is = { refl };
+    ghost flags_are = { refl };
 
     fn is_length(_len: usize) -> bool {
         true
@@ -45,7 +47,7 @@ impl Known for MpUnreachNlri {
 }
 
 /// The value of MP_UNREACH_NLRI, which stands at that place of all attributes.
-#[tactic(auto, using(crate::proofs::Parts::behind), unfolding(ug_message::specs::AttributesRead::unreach_in))]
+#[tactic(auto, using(crate::proofs::Parts::behind), unfolding(ug_message::specs::AttributeTable::unreach_in))]
 fn unreach_in(all: &[u8], place: usize, bytes: &[u8]) -> Result<Placed, AttributeFault>
     requires within { place + length bytes.now ≤ length all.now }
     requires stands { StandsAt all.now place bytes.now }

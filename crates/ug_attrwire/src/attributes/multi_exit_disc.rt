@@ -1,7 +1,7 @@
 //! MULTI_EXIT_DISC: a number by which a neighbour tells its links apart.
 
 ghost use Rattle.std.specs.Prelude.{refl};
-ghost use Rattle.ug_message.specs.Spelling.{multi_exit_disc};
+ghost use Rattle.ug_message.specs.AttributeTable.{multi_exit_disc_kind, multi_exit_disc};
 
 use crate::fault::AttributeFault;
 use crate::found::{Found, Standing};
@@ -14,6 +14,8 @@ use ug_types::{AttrParts, ByteList};
 pub struct MultiExitDisc;
 
 impl Known for MultiExitDisc {
+    ghost kind = { multi_exit_disc_kind };
+
     ghost NUMBER = { 4 };
 
     ghost FLAGS = { 128 };
@@ -22,9 +24,9 @@ impl Known for MultiExitDisc {
 
     const FLAGS: u8 = OPTIONAL;
 
-    ghost flags_are = { refl };
+    ghost number_is = { refl };
 
-    ghost partial_is = { refl };
+    ghost flags_are = { refl };
 
     fn is_length(len: usize) -> bool {
         len == 4

@@ -1,7 +1,7 @@
 //! NEXT_HOP: the IPv4 address of the next router.
 
 ghost use Rattle.std.specs.Prelude.{refl};
-ghost use Rattle.ug_message.specs.Spelling.{next_hop};
+ghost use Rattle.ug_message.specs.AttributeTable.{next_hop_kind, next_hop};
 
 use crate::fault::AttributeFault;
 use crate::found::{Found, Standing};
@@ -14,6 +14,8 @@ use ug_types::{AttrParts, ByteList};
 pub struct NextHop;
 
 impl Known for NextHop {
+    ghost kind = { next_hop_kind };
+
     ghost NUMBER = { 3 };
 
     ghost FLAGS = { 64 };
@@ -22,9 +24,9 @@ impl Known for NextHop {
 
     const FLAGS: u8 = WELL_KNOWN;
 
-    ghost flags_are = { refl };
+    ghost number_is = { refl };
 
-    ghost partial_is = { refl };
+    ghost flags_are = { refl };
 
     fn is_length(len: usize) -> bool {
         len == 4

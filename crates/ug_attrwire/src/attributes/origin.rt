@@ -1,8 +1,7 @@
 //! ORIGIN: where the path comes from, one byte.
 
 ghost use Rattle.std.specs.Prelude.{◌≡◌, ◌≤◌, refl, length, IfOk, IfErr};
-ghost use Rattle.ug_message.specs.Spelling.{origin};
-ghost use Rattle.ug_message.specs.AttributesRead.{origin_in};
+ghost use Rattle.ug_message.specs.AttributeTable.{origin_kind, origin, origin_in};
 ghost use Rattle.ug_attrwire.specs.Views.{GivesOne, HasNumber};
 
 use crate::fault::AttributeFault;
@@ -15,6 +14,8 @@ use ug_types::{AttrParts, ByteList};
 pub struct Origin;
 
 impl Known for Origin {
+    ghost kind = { origin_kind };
+
     ghost NUMBER = { 1 };
 
     ghost FLAGS = { 64 };
@@ -23,9 +24,9 @@ impl Known for Origin {
 
     const FLAGS: u8 = WELL_KNOWN;
 
-    ghost flags_are = { refl };
+    ghost number_is = { refl };
 
-    ghost partial_is = { refl };
+    ghost flags_are = { refl };
 
     fn is_length(len: usize) -> bool {
         len == 1

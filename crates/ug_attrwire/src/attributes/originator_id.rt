@@ -1,7 +1,7 @@
 //! ORIGINATOR_ID: who brought the route into the own AS.
 
 ghost use Rattle.std.specs.Prelude.{refl};
-ghost use Rattle.ug_message.specs.Spelling.{originator_id};
+ghost use Rattle.ug_message.specs.AttributeTable.{originator_id_kind, originator_id};
 
 use crate::fault::AttributeFault;
 use crate::found::{Found, Standing};
@@ -14,6 +14,8 @@ use ug_types::{AttrParts, ByteList};
 pub struct OriginatorId;
 
 impl Known for OriginatorId {
+    ghost kind = { originator_id_kind };
+
     ghost NUMBER = { 9 };
 
     ghost FLAGS = { 128 };
@@ -22,9 +24,9 @@ impl Known for OriginatorId {
 
     const FLAGS: u8 = OPTIONAL;
 
-    ghost flags_are = { refl };
+    ghost number_is = { refl };
 
-    ghost partial_is = { refl };
+    ghost flags_are = { refl };
 
     fn is_length(len: usize) -> bool {
         len == 4

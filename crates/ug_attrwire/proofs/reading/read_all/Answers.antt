@@ -1,7 +1,8 @@
 use Rattle.std.proofs.Common.{◌+◌, ◌≤◌, refl, ◌∙◌, ap, Result, ℕ, arith, length, drop}
 use Rattle.std.proofs.lemmas.List.{length-drop}
 use Rattle.ug_message.specs.Walking.{at}
-use Rattle.ug_message.specs.AttributesRead.{ReadSoFar, attribute_step}
+use Rattle.ug_message.specs.Kind.{ReadSoFar}
+use Rattle.ug_message.specs.AttributesRead.{attribute_step}
 use Rattle.ug_attrwire.specs.Views.{so_far}
 use Rattle.ug_attrwire.proofs.Faults.{attributes_fail}
 use Rattle.ug_message.proofs.Walks.{walk_from}

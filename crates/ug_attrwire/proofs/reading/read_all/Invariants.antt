@@ -1,6 +1,7 @@
 use Rattle.std.proofs.Common.{◌≡◌, ◌-◌, ◌≤◌, length, drop}
 use Rattle.ug_message.specs.Walking.{walk, walk_all}
-use Rattle.ug_message.specs.AttributesRead.{attribute_step, nothing_read}
+use Rattle.ug_message.specs.Kind.{nothing_read}
+use Rattle.ug_message.specs.AttributesRead.{attribute_step}
 use Rattle.ug_attrwire.specs.Views.{so_far}
 use Rattle.ug_attrwire.proofs.reading.read_all.Given as goal
 

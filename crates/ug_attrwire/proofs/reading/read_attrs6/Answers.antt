@@ -1,5 +1,6 @@
 use Rattle.std.proofs.Common.{◌+◌, ◌≤◌, ap, ◌∙◌, arith, length}
-use Rattle.ug_message.specs.AttributesRead.{Placed, has_routes}
+use Rattle.ug_message.specs.Kind.{Placed}
+use Rattle.ug_message.specs.AttributesRead.{has_routes}
 use Rattle.ug_attrwire.specs.Views.{so_far}
 use Rattle.ug_attrwire.proofs.Faults.{multiprotocol_fails}
 use Rattle.ug_attrwire.proofs.reading.read_attrs6.Goals as goal

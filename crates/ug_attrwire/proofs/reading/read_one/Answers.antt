@@ -1,5 +1,5 @@
 use Rattle.std.proofs.Common.{List, ℕ, sym, ap, ◌∙◌}
-use Rattle.ug_message.specs.AttributesRead.{attribute_at}
+use Rattle.ug_message.specs.Attribute.{attribute_at}
 use Rattle.ug_attrwire.specs.Views.{standing}
 use Rattle.ug_attrwire.proofs.Parts.{stands}
 use Rattle.ug_attrwire.proofs.reading.read_one.Goals as goal

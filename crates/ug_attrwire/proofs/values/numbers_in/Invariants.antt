@@ -1,5 +1,5 @@
 use Rattle.std.proofs.Common.{◌≡◌, ◌+◌, ◌*◌, ◌++◌, length}
-use Rattle.ug_message.specs.AttributesRead.{numbers_in}
+use Rattle.ug_message.specs.Values.{numbers_in}
 use Rattle.ug_attrwire.proofs.values.numbers_in.Given as goal
 
 -- what is read so far and what is left make up the whole

@@ -1,5 +1,5 @@
 use Rattle.std.proofs.Common.{◌≡◌, ◌+◌, ◌≤◌, ◌++◌, length, drop}
-use Rattle.ug_message.specs.Spelling.{numbers}
+use Rattle.ug_message.specs.Values.{numbers}
 use Rattle.ug_attrwire.proofs.values.put_numbers.Given as goal
 
 -- what is written so far and what is left make up the whole

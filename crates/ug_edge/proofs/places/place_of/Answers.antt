@@ -1,5 +1,5 @@
 use Rattle.std.proofs.Common.{◌≡◌, ◌<◌, length, get_or, true, ap, arith}
-use Rattle.ug_edge.specs.Told.{same_name}
+use Rattle.ug_types.specs.Bytes.{same_bytes}
 use Rattle.ug_edge.proofs.SiteLemmas.{file_named-here}
 use Rattle.ug_edge.proofs.places.place_of.Goals as goal
 
@@ -9,5 +9,5 @@ returns-then-eq-clause-found c =
     let file = c.file-item.result in
     let inside : c.loop-place.place < length files = omega (arith, ap length c.as_slice-file-items.ensures) in
     let here : file ≡ get_or files c.loop-place.place file = cc in
-    let same : same_name c.args.name.now file.name.items ≡ true = cc in
+    let same : same_bytes c.args.name.now file.name.items ≡ true = cc in
     rw (← c.loop-place.invariant) (file_named-here c.args.name.now files c.loop-place.place file inside here same)

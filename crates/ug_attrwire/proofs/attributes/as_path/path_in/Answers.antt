@@ -4,7 +4,7 @@ use Rattle.std.proofs.lemmas.Grind.{common_steps}
 use Rattle.std.proofs.lemmas.Result.{err_from_is_err_and}
 use Rattle.ug_types.specs.declared.attrs.Segment.{Segment}
 use Rattle.ug_types.specs.Attributes.{segment_of}
-use Rattle.ug_message.specs.AttributesRead.{segment_at}
+use Rattle.ug_message.specs.AttributeTable.{segment_at}
 use Rattle.ug_message.proofs.Walks.{collect_from}
 use Rattle.ug_attrwire.proofs.Faults.{path_fails}
 use Rattle.ug_attrwire.proofs.attributes.as_path.path_in.Goals as goal

@@ -2,7 +2,7 @@ use Rattle.std.proofs.Common.{◌≡◌, ◌-◌, ◌≤◌, true, length, map, 
 use Rattle.std.specs.List.{list_all}
 use Rattle.ug_types.specs.Attributes.{is_segment, segment_of}
 use Rattle.ug_message.specs.Walking.{walk, with_one}
-use Rattle.ug_message.specs.AttributesRead.{segment_at, path_in}
+use Rattle.ug_message.specs.AttributeTable.{segment_at, path_in}
 use Rattle.ug_attrwire.proofs.attributes.as_path.path_in.Given as goal
 
 -- walking on from here gives what walking from the start gives

@@ -1,7 +1,7 @@
 use Rattle.std.proofs.Common.{◌≡◌, ◌+◌, ◌≤◌, ◌++◌, true, length, drop, map}
 use Rattle.std.specs.List.{list_all}
 use Rattle.ug_types.specs.Attributes.{is_segment, segment_of}
-use Rattle.ug_message.specs.Spelling.{segments}
+use Rattle.ug_message.specs.AttributeTable.{segments}
 use Rattle.ug_attrwire.proofs.attributes.as_path.put_segments.Given as goal
 
 -- what is written so far and what is left make up the whole

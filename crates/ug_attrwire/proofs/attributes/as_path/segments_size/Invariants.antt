@@ -1,6 +1,6 @@
 use Rattle.std.proofs.Common.{◌≡◌, ◌+◌, length, drop, map}
 use Rattle.ug_types.specs.Attributes.{segment_of}
-use Rattle.ug_message.specs.Spelling.{segments}
+use Rattle.ug_message.specs.AttributeTable.{segments}
 use Rattle.ug_attrwire.proofs.attributes.as_path.segments_size.Given as goal
 
 abbrev pub invariant-loop-segment : goal.invariant-loop-segment

@@ -1,5 +1,5 @@
 use Rattle.std.proofs.Common.{List, ℕ, ◌+◌, ◌++◌, ap, ◌∙◌}
-use Rattle.ug_message.specs.Spelling.{optional}
+use Rattle.ug_message.specs.Attribute.{optional}
 use Rattle.ug_message.specs.Heads.{head}
 use Rattle.ug_attrwire.proofs.Parts.{reach_joined}
 use Rattle.ug_attrwire.proofs.attributes.mp_reach_nlri.write_reach.Goals as goal
