@@ -122,6 +122,11 @@ first_v6 n v4 v6 from None s none h = λ q g. none_v4 v4 v6 q (none q g) ∙ h q
 first_v6 n v4 v6 from (Some row) s none h =
     (none_v4 v4 v6 row.0 (none row.0 h.1) ∙ h.0, h.1, λ q g is. h.2 q g (subst (λ (o : Option Row). IsSome o) (none_v4 v4 v6 q (none q g)) is))
 
+-- every IPv6 row stands behind an IPv4 key
+pub all_behind : (n : ℕ) (v6 : List (Key × Row)) (key : Key) (r : Option (Key × Row)) → AreRowsOf V6 n v6 → key.prefix.family ≡ V4 → IsFirstAfter v6 None r → IsFirstAfter v6 (Some key) r
+all_behind n v6 key None all four h = λ q g. h q tt
+all_behind n v6 key (Some row) all four h = (h.0, before key row.0 four (of_v6 n v6 row.0 all (some_is (found v6 row.0) row.1 h.0)), λ q g is. h.2 q tt is)
+
 -- an IPv6 key stands above every IPv4 row
 families_behind : (f g : Family) (x y : Ordering) → f ≡ V6 → g ≡ V4 → ordering_then (ordering_then (nat_cmp (family_rank f) (family_rank g)) x) y ≡ Less → ⊥
 families_behind V6 V4 x y e h l = absurd cc

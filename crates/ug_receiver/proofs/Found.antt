@@ -17,6 +17,7 @@ use Rattle.ug_types.specs.Keys.{same_key}
 use Rattle.ug_types.specs.Orders.{key_cmp}
 use Rattle.ug_types.specs.Attributes.{Attributes}
 use Rattle.ug_tables.specs.Tables.{among}
+use Rattle.ug_receiver.specs.declared.row.Announced.{Announced}
 use Rattle.ug_receiver.specs.declared.row.Row.{Row}
 use Rattle.ug_receiver.specs.Rows.{Rows, row_at}
 use Rattle.ug_receiver.specs.Stored.{shown, is_stale, fresh_rows, stale_keys, rows_of, IsRowOf, IsStored, IsChanged}
@@ -27,7 +28,7 @@ abbrev pub found : List (Key × Row) → Key → Option Row
 found rows q = lookup (same_key q) rows
 
 abbrev pub attrs_of : Row → Attributes
-attrs_of row = row.attrs.value
+attrs_of row = row.shared.value.attrs
 
 abbrev pub stale_in : ℕ → Option Row → Bool
 stale_in n None = false
@@ -158,30 +159,30 @@ stale_changed n key w old new true e so sn h q =
 
 -- ---- a refresh
 
-seen_or : (t : Bool) (n : ℕ) (row : Row) (rest : Option Row) → row.seen ≤ n → IfSome rest (λ r. r.seen ≤ n) → IfSome (cond t (Some row) rest) (λ r. r.seen ≤ n)
+seen_or : (t : Bool) (n : ℕ) (row : Row) (rest : Option Row) → row.shared.value.seen ≤ n → IfSome rest (λ r. r.shared.value.seen ≤ n) → IfSome (cond t (Some row) rest) (λ r. r.shared.value.seen ≤ n)
 seen_or true n row rest h ih = h
 seen_or false n row rest h ih = ih
 
-found_seen : (f : Family) (n : ℕ) (rows : List (Key × Row)) (q : Key) → AllByRecursion (IsRowOf f n) rows → IfSome (found rows q) (λ r. r.seen ≤ n)
+found_seen : (f : Family) (n : ℕ) (rows : List (Key × Row)) (q : Key) → AllByRecursion (IsRowOf f n) rows → IfSome (found rows q) (λ r. r.shared.value.seen ≤ n)
 found_seen f n [] q h = tt
 found_seen f n (x ∷ rows) q h = seen_or (same_key q x.0) n x.1 (found rows q) h.0.1 (found_seen f n rows q h.1)
 
-either_seen : (n : ℕ) (a b : Option Row) → IfSome a (λ r. r.seen ≤ n) → IfSome b (λ r. r.seen ≤ n) → IfSome (either a b) (λ r. r.seen ≤ n)
+either_seen : (n : ℕ) (a b : Option Row) → IfSome a (λ r. r.shared.value.seen ≤ n) → IfSome b (λ r. r.shared.value.seen ≤ n) → IfSome (either a b) (λ r. r.shared.value.seen ≤ n)
 either_seen n None b g h = h
 either_seen n (Some row) b g h = g
 
 below_more : (a n : ℕ) → a ≤ n → nat_lt a (n + 1) ≡ true
 below_more a n h = grind (arith, nat_tests)
 
-all_stale : (n : ℕ) (o : Option Row) → IfSome o (λ r. r.seen ≤ n) → stale_in (n + 1) o ≡ is_some (option_map attrs_of o)
+all_stale : (n : ℕ) (o : Option Row) → IfSome o (λ r. r.shared.value.seen ≤ n) → stale_in (n + 1) o ≡ is_some (option_map attrs_of o)
 all_stale n None h = refl
-all_stale n (Some row) h = below_more row.seen n h
+all_stale n (Some row) h = below_more row.shared.value.seen n h
 
 pub begun_stale : (n : ℕ) (v4 v6 : List (Key × Row)) → AllByRecursion (IsRowOf V4 n) v4 → AllByRecursion (IsRowOf V6 n) v6 → IsStrictlySortedBy key_cmp (keys_of (v4 ++ v6))
     → (q : Key) → among (stale_keys (n + 1) (v4 ++ v6)) q ≡ is_some (row_at (map shown (v4 ++ v6)) q)
 begun_stale n v4 v6 a b s q =
-    let seen : IfSome (found (v4 ++ v6) q) (λ r. r.seen ≤ n) =
-    subst (λ (o : Option Row). IfSome o (λ r. r.seen ≤ n)) (sym (found_append v4 v6 q)) (either_seen n (found v4 q) (found v6 q) (found_seen V4 n v4 q a) (found_seen V6 n v6 q b)) in
+    let seen : IfSome (found (v4 ++ v6) q) (λ r. r.shared.value.seen ≤ n) =
+    subst (λ (o : Option Row). IfSome o (λ r. r.shared.value.seen ≤ n)) (sym (found_append v4 v6 q)) (either_seen n (found v4 q) (found v6 q) (found_seen V4 n v4 q a) (found_seen V6 n v6 q b)) in
     stale_found (n + 1) (v4 ++ v6) q s ∙ all_stale n (found (v4 ++ v6) q) seen ∙ sym (ap is_some (found_shown (v4 ++ v6) q))
 
 pub swept_rows : (n : ℕ) (v4 v6 : List (Key × Row)) → IsStrictlySortedBy key_cmp (keys_of (v4 ++ v6))
@@ -228,8 +229,12 @@ not_below : (n : ℕ) → nat_lt n n ≡ false
 not_below n = grind (arith, nat_tests)
 
 -- a row that was announced after all refreshes that there were isn't stale
-pub just_seen : (n : ℕ) (row : Row) → row.seen ≡ n → stale_in n (Some row) ≡ false
+pub just_seen : (n : ℕ) (row : Row) → row.shared.value.seen ≡ n → stale_in n (Some row) ≡ false
 just_seen n row e = ap (λ (k : ℕ). nat_lt k n) e ∙ not_below n
+
+-- what was announced in a table just now
+pub announced_now : (n : ℕ) (v4 v6 : List (Key × Row)) (refreshing : Bool) (t : Rows) (shared given : Announced) → rows_of v4 v6 n refreshing ≡ t → shared ≡ given → given.seen ≡ t.refreshes → shared.seen ≡ n
+announced_now n v4 v6 refreshing t shared given is same e = ap (λ (a : Announced). a.seen) same ∙ e ∙ sym (ap (λ (r : Rows). r.refreshes) is)
 
 pub on_ok : {T E : Type 0} {P Q : Type 0} (r : Result T E) → (P → Q) → OnOk r P → OnOk r Q
 on_ok (Ok x) f p = f p

@@ -20,7 +20,7 @@ placed Less f n a b c x y z = x
 placed Equal f n a b c x y z = y
 placed Greater f n a b c x y z = z
 
-pub inserted : (cmp : Key → Key → Ordering) (f : Family) (n : ℕ) (rows : List (Key × Row)) (k : Key) (v : Row) → k.prefix.family ≡ f → v.seen ≤ n → AreRowsOf f n rows → AreRowsOf f n (insert_entry cmp rows k v)
+pub inserted : (cmp : Key → Key → Ordering) (f : Family) (n : ℕ) (rows : List (Key × Row)) (k : Key) (v : Row) → k.prefix.family ≡ f → v.shared.value.seen ≤ n → AreRowsOf f n rows → AreRowsOf f n (insert_entry cmp rows k v)
 inserted cmp f n [] k v e h all = ((e, h), tt)
 inserted cmp f n (x ∷ rows) k v e h all =
     placed (cmp k x.0) f n ((k, v) ∷ x ∷ rows) ((x.0, v) ∷ rows) (x ∷ insert_entry cmp rows k v) ((e, h), all) ((all.0.0, h), all.1) (all.0, inserted cmp f n rows k v e h all.1)
@@ -39,7 +39,7 @@ filtered p f n (x ∷ rows) all = picked (p x) f n (x ∷ filter p rows) (filter
 
 pub counted_on : (f : Family) (n : ℕ) (rows : List (Key × Row)) → AreRowsOf f n rows → AreRowsOf f (n + 1) rows
 counted_on f n [] all = tt
-counted_on f n (x ∷ rows) all = let seen : x.1.seen ≤ n = all.0.1 in ((all.0.0, omega arith), counted_on f n rows all.1)
+counted_on f n (x ∷ rows) all = let seen : x.1.shared.value.seen ≤ n = all.0.1 in ((all.0.0, omega arith), counted_on f n rows all.1)
 
 -- ---- order
 
@@ -117,11 +117,11 @@ pub stale_view_ascends : (other : Key → Key → Ordering) → ((a : Key) → (
     → rows_of v4 v6 n refreshing ≡ t → IsStored v4 v6 n → IsStrictlySortedBy other t.stale
 stale_view_ascends other same n v4 v6 refreshing t is h = subst (λ (r : Rows). IsStrictlySortedBy other r.stale) is (stale_either other same n v4 v6 refreshing h)
 
-pub swept : (n : ℕ) (v4 v6 new4 new6 : List (Key × Row)) (other : Key → Key → Ordering) → ((a : Key) → (b : Key) → other a b ≡ key_cmp a b) → new4 ≡ fresh_rows n v4 → new6 ≡ fresh_rows n v6
-    → IsStrictlySortedBy key_cmp (keys_of new4) → IsStrictlySortedBy other (keys_of new6) → IsStored v4 v6 n → IsStored new4 new6 n
-swept n v4 v6 new4 new6 other same e4 e6 s4 s6 h = record {
+pub swept : (n : ℕ) (v4 v6 new4 new6 : List (Key × Row)) → new4 ≡ fresh_rows n v4 → new6 ≡ fresh_rows n v6
+    → IsStrictlySortedBy key_cmp (keys_of new4) → IsStrictlySortedBy key_cmp (keys_of new6) → IsStored v4 v6 n → IsStored new4 new6 n
+swept n v4 v6 new4 new6 e4 e6 s4 s6 h = record {
   all_v4 = subst (λ (rows : List (Key × Row)). AreRowsOf V4 n rows) (sym e4) (filtered (λ (e : Key × Row). not (is_stale n e.1)) V4 n v4 h.all_v4);
   all_v6 = subst (λ (rows : List (Key × Row)). AreRowsOf V6 n rows) (sym e6) (filtered (λ (e : Key × Row). not (is_stale n e.1)) V6 n v6 h.all_v6);
   v4_ascend = s4;
-  v6_ascend = in_order other key_cmp (λ a b. sym (same a b)) (keys_of new6) s6;
+  v6_ascend = s6;
 }

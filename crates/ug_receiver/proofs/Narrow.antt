@@ -1,7 +1,10 @@
--- An IPv4 prefix by its leading 32 bits.
-use Rattle.std.proofs.Common.{◌≡◌, ℕ, ◌-◌, ◌*◌, ◌/◌, ◌^◌, ◌<◌, ◌≤◌, lit≤, sym, ap, subst, ◌∙◌, arith, pow-add}
+-- An IPv4 prefix by its leading 32 bits, and an IPv6 prefix by its two halves.
+use Rattle.std.proofs.Common.{◌≡◌, ℕ, ◌+◌, ◌-◌, ◌*◌, ◌/◌, ◌%◌, ◌^◌, ◌<◌, ◌≤◌, Ordering, nat_cmp, refl, lit≤, sym, ap, subst, ◌∙◌, arith, pow-add}
 use Rattle.std.proofs.Math.Nat.{mul-div_cancel, mul_assoc}
 use Rattle.std.proofs.lemmas.Nat.{pow_pos}
+use Rattle.std.proofs.lemmas.Bool.Decides.{nat_tests}
+use Rattle.std.specs.declared.cmp.Ordering.TheVariants.{Less, Equal, Greater}
+use Rattle.std.specs.Cmp.{nat_cmp_is}
 use Rattle.ug_types.specs.declared.family.Family.{Family}
 use Rattle.ug_types.specs.declared.family.Family.TheVariants.{V4, V6}
 use Rattle.ug_types.specs.declared.key.Key.{Key}
@@ -45,3 +48,31 @@ with_id id p = record { prefix = p; id = id }
 pub key_again : (f : Family) (bits len id : ℕ) (p : IpPrefix) → f ≡ V4 → IsPrefix f bits len → (key_of f bits len id).prefix ≡ p → key_of V4 (bits / 2 ^ 96 * 2 ^ 96) len id ≡ with_id id p
 key_again f bits len id p e h is =
     ap (λ (n : ℕ). key_of V4 n len id) (leading_again f bits len e h) ∙ ap (λ (g : Family). key_of g bits len id) (sym e) ∙ ap (with_id id) is
+
+-- ---- two halves
+
+halves_again : (bits : ℕ) → bits / 2 ^ 64 * 2 ^ 64 + bits % 2 ^ 64 ≡ bits
+halves_again bits = omega arith
+
+wide : (f : Family) (bits len : ℕ) → f ≡ V6 → IsPrefix f bits len → IsPrefix V6 bits len
+wide V6 bits len e h = h
+wide V4 bits len e h = absurd cc
+
+pub wide_again : (f : Family) (bits len : ℕ) → f ≡ V6 → IsPrefix f bits len → IsPrefix V6 (bits / 2 ^ 64 * 2 ^ 64 + bits % 2 ^ 64) len
+wide_again f bits len e h = subst (λ (n : ℕ). IsPrefix V6 n len) (sym (halves_again bits)) (wide f bits len e h)
+
+pub wide_key_again : (f : Family) (bits len id : ℕ) (p : IpPrefix) → f ≡ V6 → (key_of f bits len id).prefix ≡ p → key_of V6 (bits / 2 ^ 64 * 2 ^ 64 + bits % 2 ^ 64) len id ≡ with_id id p
+wide_key_again f bits len id p e is =
+    ap (λ (n : ℕ). key_of V6 n len id) (halves_again bits) ∙ ap (λ (g : Family). key_of g bits len id) (sym e) ∙ ap (with_id id) is
+
+less : (a c : ℕ) → Less ≡ nat_cmp a c → a < c
+less a c e = grind (arith, nat_tests)
+
+greater : (a c : ℕ) → Greater ≡ nat_cmp a c → c < a
+greater a c e = grind (arith, nat_tests)
+
+-- where the upper halves differ they decide
+pub high_decides : (a b c d : ℕ) (r : Ordering) → b < 2 ^ 64 → d < 2 ^ 64 → r ≡ nat_cmp a c → (r ≡ Equal → ⊥) → r ≡ nat_cmp (a * 2 ^ 64 + b) (c * 2 ^ 64 + d)
+high_decides a b c d Less low other e apart = nat_cmp_is (a * 2 ^ 64 + b) (c * 2 ^ 64 + d) Less (let lt = less a c e in omega arith)
+high_decides a b c d Equal low other e apart = absurd (apart refl)
+high_decides a b c d Greater low other e apart = nat_cmp_is (a * 2 ^ 64 + b) (c * 2 ^ 64 + d) Greater (let lt = greater a c e in omega arith)

@@ -1,6 +1,6 @@
--- A receiver's table as rows in key order, and the keys that are stale.
+-- A receiver's table as rows in key order, the keys that are stale, and how many refreshes have begun.
 use Rattle.std.specs.Borrow.{Bor}
-use Rattle.std.specs.Prelude.{List, [], Option, Some, None}
+use Rattle.std.specs.Prelude.{ℕ, List, [], Option, Some, None}
 use Rattle.std.specs.Map.{lookup}
 use Rattle.std.specs.BTreeMap.Range.{IsLtBy}
 use Rattle.std.specs.declared.cmp.Ordering.{Ordering}
@@ -12,6 +12,8 @@ use Rattle.ug_tables.specs.Tables.{Reading, among}
 pub record Rows : Type 0 where
   pub rows : List (Key × Attributes)
   pub stale : List Key
+  -- how many refreshes have begun
+  pub refreshes : ℕ
 
 -- the attributes of the row with that key, where there is one
 abbrev pub row_at : List (Key × Attributes) → Key → Option Attributes
@@ -22,7 +24,7 @@ abbrev pub reading_of : Rows → Reading
 reading_of r = record { table = row_at r.rows; stale = among r.stale }
 
 abbrev pub no_rows : Rows
-no_rows = record { rows = []; stale = [] }
+no_rows = record { rows = []; stale = []; refreshes = 0 }
 
 -- a key that stands after another, or after none
 abbrev pub IsAfter : {K : Type 0} → (K → K → Ordering) → Option K → K → Type 0

@@ -21,11 +21,11 @@ row_lent row = (row.0, row.1.now)
 
 -- a row as it is read
 abbrev pub shown : Key × Row → Key × Attributes
-shown e = (e.0, e.1.attrs.value)
+shown e = (e.0, e.1.shared.value.attrs)
 
 -- not announced since the last of so many refreshes began
 abbrev pub is_stale : ℕ → Row → Bool
-is_stale refreshes row = nat_lt row.seen refreshes
+is_stale refreshes row = nat_lt row.shared.value.seen refreshes
 
 abbrev pub fresh_rows : {K : Type 0} → ℕ → List (K × Row) → List (K × Row)
 fresh_rows refreshes rows = filter (λ e. not (is_stale refreshes e.1)) rows
@@ -35,10 +35,10 @@ stale_keys refreshes rows = keys_of (filter (λ e. is_stale refreshes e.1) rows)
 
 -- rows of both families: IPv4 stands before IPv6
 abbrev pub rows_of : List (Key × Row) → List (Key × Row) → ℕ → Bool → Rows
-rows_of v4 v6 refreshes refreshing = record { rows = map shown (v4 ++ v6); stale = if refreshing then stale_keys refreshes (v4 ++ v6) else [] }
+rows_of v4 v6 refreshes refreshing = record { rows = map shown (v4 ++ v6); stale = if refreshing then stale_keys refreshes (v4 ++ v6) else []; refreshes = refreshes }
 
 abbrev pub IsRowOf : Family → ℕ → Key × Row → Type 0
-IsRowOf family refreshes e = (e.0.prefix.family ≡ family) × (e.1.seen ≤ refreshes)
+IsRowOf family refreshes e = (e.0.prefix.family ≡ family) × (e.1.shared.value.seen ≤ refreshes)
 
 abbrev pub AreRowsOf : Family → ℕ → List (Key × Row) → Type 0
 AreRowsOf family refreshes rows = AllByRecursion (IsRowOf family refreshes) rows

@@ -7,6 +7,7 @@ ghost use Rattle.ug_receiver.specs.Rows.{row_seen};
 
 use crate::row::Row;
 use crate::v4_key::V4Key;
+use crate::v6_key::V6Key;
 use std::collections::btree_map::Iter;
 use std::marker::Model;
 use ug_types::{Attrs, Key};
@@ -15,7 +16,7 @@ use ug_types::{Attrs, Key};
 #[derive(Drop)]
 pub struct RowIter<'a> {
     pub(crate) v4: Iter<'a, V4Key, Row>,
-    pub(crate) v6: Iter<'a, Key, Row>,
+    pub(crate) v6: Iter<'a, V6Key, Row>,
 }
 
 impl<'a> Model for RowIter<'a> {
@@ -38,10 +39,10 @@ impl<'a> Iterator for RowIter<'a> {
 
     fn next(&mut self) -> Option<(Key, &'a Attrs)> {
         if let Some((key, row)) = self.v4.next() {
-            return Some((key.widen(), row.attrs.as_ref()));
+            return Some((key.widen(), &row.shared.as_ref().attrs));
         }
         match self.v6.next() {
-            Some((key, row)) => Some((*key, row.attrs.as_ref())),
+            Some((key, row)) => Some((key.widen(), &row.shared.as_ref().attrs)),
             None => None,
         }
     }

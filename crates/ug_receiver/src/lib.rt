@@ -4,8 +4,10 @@
 mod iter;
 mod row;
 mod rows;
+mod sharing;
 mod table;
 mod v4_key;
+mod v6_key;
 
 pub use iter::RowIter;
 pub use table::Table;

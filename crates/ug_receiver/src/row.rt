@@ -1,10 +1,15 @@
 use std::rc::Rc;
 use ug_types::Attrs;
 
-/// What is kept of a route: its attributes, which all routes of an UPDATE share, and how many refreshes had begun when
-/// it was last announced.
+/// What the routes of an UPDATE share: its attributes, and how many refreshes had begun when they were announced.
+#[derive(Drop)]
+pub struct Announced {
+    pub attrs: Attrs,
+    pub seen: u64,
+}
+
+/// What is kept of a route.
 #[derive(Drop)]
 pub struct Row {
-    pub attrs: Rc<Attrs>,
-    pub seen: u64,
+    pub shared: Rc<Announced>,
 }

@@ -14,9 +14,10 @@ ghost use Rattle.ug_receiver.specs.Stored.{fresh_rows, is_stale, row_lent, AreRo
 
 use crate::row::Row;
 use crate::v4_key::V4Key;
+use crate::v6_key::V6Key;
 use std::collections::BTreeMap;
 use std::ops::Bound;
-use ug_types::{Family, Key, NoMemory, comparison_laws};
+use ug_types::{Family, Key, NoMemory};
 
 pub fn remove_v4(rows: &mut BTreeMap<V4Key, Row>, key: &Key)
     requires { key.now.prefix.family ≡ V4 }
@@ -27,20 +28,20 @@ pub fn remove_v4(rows: &mut BTreeMap<V4Key, Row>, key: &Key)
     rows.remove(&V4Key::narrow(key));
 }
 
-pub fn remove_v6(rows: &mut BTreeMap<Key, Row>, key: &Key)
+pub fn remove_v6(rows: &mut BTreeMap<V6Key, Row>, key: &Key)
+    requires { key.now.prefix.family ≡ V6 }
     ensures row { IsChanged key.now None rows.old.entries rows.new.entries }
     ensures kept { (n : ℕ) → AreRowsOf V6 n rows.old.entries → AreRowsOf V6 n rows.new.entries }
     ensures ascending { IsStrictlySortedBy key_cmp (keys_of rows.new.entries) }
 {
-    comparison_laws();
-    rows.remove(key);
+    rows.remove(&V6Key::narrow(key));
 }
 
 /// Gives the key this row. After want of memory the rows are as before.
 pub fn put_v4(rows: &mut BTreeMap<V4Key, Row>, key: &Key, row: Row) -> Result<(), NoMemory>
     requires { key.now.prefix.family ≡ V4 }
     ensures row { OnOk result (IsChanged key.now (Some row) rows.old.entries rows.new.entries) }
-    ensures kept { (n : ℕ) → row.seen ≤ n → AreRowsOf V4 n rows.old.entries → AreRowsOf V4 n rows.new.entries }
+    ensures kept { (n : ℕ) → row.shared.value.seen ≤ n → AreRowsOf V4 n rows.old.entries → AreRowsOf V4 n rows.new.entries }
     ensures ascending { IsStrictlySortedBy key_cmp (keys_of rows.new.entries) }
 {
     rows.insert(V4Key::narrow(key), row)?;
@@ -48,14 +49,13 @@ pub fn put_v4(rows: &mut BTreeMap<V4Key, Row>, key: &Key, row: Row) -> Result<()
 }
 
 /// Gives the key this row. After want of memory the rows are as before.
-pub fn put_v6(rows: &mut BTreeMap<Key, Row>, key: &Key, row: Row) -> Result<(), NoMemory>
+pub fn put_v6(rows: &mut BTreeMap<V6Key, Row>, key: &Key, row: Row) -> Result<(), NoMemory>
     requires { key.now.prefix.family ≡ V6 }
     ensures row { OnOk result (IsChanged key.now (Some row) rows.old.entries rows.new.entries) }
-    ensures kept { (n : ℕ) → row.seen ≤ n → AreRowsOf V6 n rows.old.entries → AreRowsOf V6 n rows.new.entries }
+    ensures kept { (n : ℕ) → row.shared.value.seen ≤ n → AreRowsOf V6 n rows.old.entries → AreRowsOf V6 n rows.new.entries }
     ensures ascending { IsStrictlySortedBy key_cmp (keys_of rows.new.entries) }
 {
-    comparison_laws();
-    rows.insert(*key, row)?;
+    rows.insert(V6Key::narrow(key), row)?;
     Ok(())
 }
 
@@ -64,7 +64,7 @@ pub fn sweep<K: Ord + Drop>(rows: &mut BTreeMap<K, Row>, refreshes: u64)
     ensures rows { rows.new.entries ≡ fresh_rows refreshes rows.old.entries }
     ensures ascending { IsStrictlySortedBy K.cmp (keys_of rows.new.entries) }
 {
-    rows.retain(|_, row| row.seen >= refreshes);
+    rows.retain(|_, row| row.shared.as_ref().seen >= refreshes);
 }
 
 /// How many of the rows were last announced before so many refreshes had begun.
@@ -72,7 +72,9 @@ pub fn count_stale<K: Ord>(rows: &BTreeMap<K, Row>, refreshes: u64) -> usize
     ensures count { result ≡ length (filter (λ e. is_stale refreshes e.1) rows.now.entries) }
     ensures small { result < 2 ^ 63 }
 {
-    rows.iter().filter(|row| row.1.seen < refreshes).count()
+    rows.iter()
+        .filter(|row| row.1.shared.as_ref().seen < refreshes)
+        .count()
 }
 
 /// The least row above the key, or the first one.
@@ -102,11 +104,11 @@ fn lend_v4<'a>(row: Option<(&'a V4Key, &'a Row)>) -> Option<(Key, &'a Row)>
     }
 }
 
-fn lend_v6<'a>(row: Option<(&'a Key, &'a Row)>) -> Option<(Key, &'a Row)>
+fn lend_v6<'a>(row: Option<(&'a V6Key, &'a Row)>) -> Option<(Key, &'a Row)>
     ensures { option_map row_lent result ≡ option_map deref_pair row.entry }
 {
     match row {
-        Some((key, row)) => Some((*key, row)),
+        Some((key, row)) => Some((key.widen(), row)),
         None => None,
     }
 }
@@ -127,20 +129,24 @@ pub fn v4_after<'a>(rows: &'a BTreeMap<V4Key, Row>, key: Option<&Key>) -> Option
 }
 
 /// The least IPv6 row above the key, or the first one.
-pub fn v6_after<'a>(rows: &'a BTreeMap<Key, Row>, key: Option<&Key>) -> Option<(Key, &'a Row)>
+pub fn v6_after<'a>(rows: &'a BTreeMap<V6Key, Row>, key: Option<&Key>) -> Option<(Key, &'a Row)>
+    requires { (n : ℕ) × AreRowsOf V6 n rows.now.entries }
     ensures { IsFirstAfter rows.now.entries (option_copied key.entry) (option_map row_lent result) }
 {
-    comparison_laws();
     match key {
         None => lend_v6(first_after(rows, None)),
-        Some(key) => lend_v6(first_after(rows, Some(*key))),
+        Some(key) => match key.prefix.family {
+            // Every IPv6 row stands behind it.
+            Family::V4 => lend_v6(first_after(rows, None)),
+            Family::V6 => lend_v6(first_after(rows, Some(V6Key::narrow(key)))),
+        },
     }
 }
 
 /// The least row above the key, or the first one, of both families.
 pub fn stored_after<'a>(
     v4: &'a BTreeMap<V4Key, Row>,
-    v6: &'a BTreeMap<Key, Row>,
+    v6: &'a BTreeMap<V6Key, Row>,
     key: Option<&Key>,
 ) -> Option<(Key, &'a Row)>
     requires { (n : ℕ) × IsStored v4.now.entries v6.now.entries n }

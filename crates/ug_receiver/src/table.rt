@@ -1,4 +1,4 @@
-ghost use Rattle.std.specs.Prelude.{◌≡◌, ◌==◌, length, Some, None, false, is_some, OnOk, IsSome, IfSome, IfNone, option_copied, if◌then◌else◌};
+ghost use Rattle.std.specs.Prelude.{◌≡◌, ◌==◌, length, Some, None, false, is_some, OnOk, IsSome, IfOk, IfSome, IfNone, option_copied, if◌then◌else◌};
 ghost use Rattle.std.specs.Map.{keys_of};
 ghost use Rattle.std.specs.BTreeMap.Range.{IsLeBy};
 ghost use Rattle.std.specs.List.Sorted.{IsStrictlySortedBy};
@@ -9,9 +9,11 @@ ghost use Rattle.ug_tables.specs.Tables.{applied, among};
 ghost use Rattle.ug_receiver.specs.Rows.{reading_of, row_at, no_rows, IsAfter};
 
 use crate::iter::RowIter;
-use crate::row::Row;
+use crate::row::{Announced, Row};
 use crate::rows::{count_stale, put_v4, put_v6, remove_v4, remove_v6, stored_after, sweep};
+use crate::sharing::Sharing;
 use crate::v4_key::V4Key;
+use crate::v6_key::V6Key;
 use std::alloc::Global;
 use std::collections::BTreeMap;
 use std::marker::Model;
@@ -21,13 +23,14 @@ use ug_types::{Attrs, Family, Item, Key, NoMemory, Update, comparison_laws};
 /// What the messages of a session leave: for each key the attributes of its route, and which keys are stale since a
 /// refresh began.
 ///
-/// The routes of an UPDATE share its attributes, and a row of an IPv4 route is small. A row tells how many refreshes had
-/// begun when its route was last announced, so that the begin of a refresh touches none, and its end each once.
+/// The routes of an UPDATE share what is kept of them, and so do UPDATEs that have the same attributes, one after the
+/// other; a row is small. It tells how many refreshes had begun when its route was last announced, so that the begin of a refresh touches none, and its end each once.
 #[derive(Drop)]
 pub struct Table {
     alloc: Global,
+    sharing: Sharing,
     v4: BTreeMap<V4Key, Row>,
-    v6: BTreeMap<Key, Row>,
+    v6: BTreeMap<V6Key, Row>,
     refreshes: u64,
     refreshing: bool,
 }
@@ -50,6 +53,7 @@ impl Table {
     {
         Table {
             alloc,
+            sharing: Sharing::new(),
             v4: BTreeMap::new(alloc),
             v6: BTreeMap::new(alloc),
             refreshes: 0,
@@ -105,7 +109,6 @@ impl Table {
         ensures row { (q : route_keys.Key) → row_at self.new.rows q ≡ (if same_key q key.now then None else row_at self.old.rows q) }
         ensures stale { (q : route_keys.Key) → among self.new.stale q ≡ (if same_key q key.now then false else among self.old.stale q) }
     {
-        comparison_laws();
         match key.prefix.family {
             Family::V4 => remove_v4(&mut self.v4, key),
             Family::V6 => remove_v6(&mut self.v6, key),
@@ -117,28 +120,38 @@ impl Table {
         ensures row { OnOk result ((q : route_keys.Key) → row_at self.new.rows q ≡ (if among keys.now q then Some attrs.now else row_at self.old.rows q)) }
         ensures stale { OnOk result ((q : route_keys.Key) → among self.new.stale q ≡ (if among keys.now q then false else among self.old.stale q)) }
     {
-        let shared = Rc::new(self.alloc, attrs.copy(self.alloc)?)?;
+        let shared = self.share(attrs)?;
         self.put_each(keys, &shared)
     }
 
-    fn put_each(&mut self, keys: &[Key], attrs: &Rc<Attrs>) -> Result<(), NoMemory>
-        ensures row { OnOk result ((q : route_keys.Key) → row_at self.new.rows q ≡ (if among keys.now q then Some attrs.now.value else row_at self.old.rows q)) }
+    /// The attributes, announced now.
+    fn share(&mut self, attrs: &Attrs) -> Result<Rc<Announced>, NoMemory>
+        ensures same { self.new ≡ self.old }
+        ensures attrs { IfOk result (λ shared. shared.value.attrs ≡ attrs.now) }
+        ensures seen { IfOk result (λ shared. shared.value.seen ≡ self.old.refreshes) }
+    {
+        self.sharing.share(self.alloc, attrs, self.refreshes)
+    }
+
+    fn put_each(&mut self, keys: &[Key], shared: &Rc<Announced>) -> Result<(), NoMemory>
+        requires { shared.now.value.seen ≡ self.old.refreshes }
+        ensures row { OnOk result ((q : route_keys.Key) → row_at self.new.rows q ≡ (if among keys.now q then Some shared.now.value.attrs else row_at self.old.rows q)) }
         ensures stale { OnOk result ((q : route_keys.Key) → among self.new.stale q ≡ (if among keys.now q then false else among self.old.stale q)) }
     {
         for key in keys {
-            self.put(key, attrs)?;
+            self.put(key, shared)?;
         }
         Ok(())
     }
 
-    fn put(&mut self, key: &Key, attrs: &Rc<Attrs>) -> Result<(), NoMemory>
-        ensures row { OnOk result ((q : route_keys.Key) → row_at self.new.rows q ≡ (if same_key q key.now then Some attrs.now.value else row_at self.old.rows q)) }
+    fn put(&mut self, key: &Key, shared: &Rc<Announced>) -> Result<(), NoMemory>
+        requires { shared.now.value.seen ≡ self.old.refreshes }
+        ensures row { OnOk result ((q : route_keys.Key) → row_at self.new.rows q ≡ (if same_key q key.now then Some shared.now.value.attrs else row_at self.old.rows q)) }
         ensures stale { OnOk result ((q : route_keys.Key) → among self.new.stale q ≡ (if same_key q key.now then false else among self.old.stale q)) }
+        ensures refreshes { self.new.refreshes ≡ self.old.refreshes }
     {
-        comparison_laws();
         let row = Row {
-            attrs: attrs.clone()?,
-            seen: self.refreshes,
+            shared: shared.clone()?,
         };
         match key.prefix.family {
             Family::V4 => put_v4(&mut self.v4, key, row),
@@ -164,7 +177,6 @@ impl Table {
         ensures row { (q : route_keys.Key) → row_at self.new.rows q ≡ (if among self.old.stale q then None else row_at self.old.rows q) }
         ensures stale { (q : route_keys.Key) → among self.new.stale q ≡ false }
     {
-        comparison_laws();
         if !self.refreshing {
             return;
         }
@@ -211,7 +223,7 @@ impl Table {
     {
         comparison_laws();
         match stored_after(&self.v4, &self.v6, key) {
-            Some((key, row)) => Some((key, row.attrs.as_ref())),
+            Some((key, row)) => Some((key, &row.shared.as_ref().attrs)),
             None => None,
         }
     }

@@ -13,9 +13,12 @@ use Rattle.ug_receiver.proofs.rows.put_v6.Goals as goal
 
 pub returns-clause-row : goal.returns-clause-row
 returns-clause-row c =
-    updated key_ord.ghosts.cmp (tied_by key_ord.ghosts.cmp c.comparison_laws.ensures.key_order) c.args.rows.now.entries c.insert.new.self.entries c.args.key.now (Some c.args.row) c.in_ok-insert.ensures.updates.0
+    let old = c.args.rows.now.entries in
+    let new = c.insert.new.self.entries in
+    updated key_cmp tied old new c.args.key.now (Some c.args.row)
+    (λ q. subst (λ (k : Key). lookup (is_at (key_cmp q)) new ≡ cond (is_at (key_cmp k) q) (Some c.args.row) (lookup (is_at (key_cmp q)) old)) c.narrow.ensures (c.in_ok-insert.ensures.updates.0 q))
 
 pub returns-clause-kept : goal.returns-clause-kept
 returns-clause-kept c = λ n seen h.
     subst (λ (rows : List (Key × Row)). AreRowsOf V6 n rows) (sym c.in_ok-insert.ensures.entries)
-    (inserted key_ord.ghosts.cmp V6 n c.args.rows.now.entries c.args.key.now c.args.row c.requires seen h)
+    (inserted key_cmp V6 n c.args.rows.now.entries c.narrow.result c.args.row (ap (λ (k : Key). k.prefix.family) c.narrow.ensures ∙ c.requires) seen h)

@@ -13,7 +13,10 @@ use Rattle.ug_receiver.proofs.rows.remove_v6.Goals as goal
 
 pub returns-clause-row : goal.returns-clause-row
 returns-clause-row c =
-    updated key_ord.ghosts.cmp (tied_by key_ord.ghosts.cmp c.comparison_laws.ensures.key_order) c.args.rows.now.entries c.remove.new.self.entries c.args.key.now None c.remove.ensures.updates.0
+    let old = c.args.rows.now.entries in
+    let new = c.remove.new.self.entries in
+    updated key_cmp tied old new c.args.key.now None
+    (λ q. subst (λ (k : Key). lookup (is_at (key_cmp q)) new ≡ cond (is_at (key_cmp k) q) None (lookup (is_at (key_cmp q)) old)) c.narrow.ensures (c.remove.ensures.updates.0 q))
 
 pub returns-clause-kept : goal.returns-clause-kept
-returns-clause-kept c = λ n h. subst (λ (rows : List (Key × Row)). AreRowsOf V6 n rows) (sym c.remove.ensures.entries) (removed (is_at (key_ord.ghosts.cmp c.args.key.now)) V6 n c.args.rows.now.entries h)
+returns-clause-kept c = λ n h. subst (λ (rows : List (Key × Row)). AreRowsOf V6 n rows) (sym c.remove.ensures.entries) (removed (is_at (key_cmp c.narrow.result)) V6 n c.args.rows.now.entries h)

@@ -6,7 +6,7 @@ use Rattle.ug_receiver.proofs.table.Table.end_refresh.Goals as goal
 pub invariant_of-self : goal.invariant_of-self
 invariant_of-self c =
     let t = c.self.inside in
-    swept t.refreshes t.v4.entries t.v6.entries c.sweep.new.rows.entries c.sweep-2.new.rows.entries _ c.comparison_laws.ensures.key_order
+    swept t.refreshes t.v4.entries t.v6.entries c.sweep.new.rows.entries c.sweep-2.new.rows.entries
     c.sweep.ensures.rows c.sweep-2.ensures.rows c.sweep.ensures.ascending c.sweep-2.ensures.ascending c.self.invariant
 
 pub returns-clause-row : goal.returns-clause-row
