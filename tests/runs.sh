@@ -15,7 +15,6 @@
 #   before.sh           is run in the folder of the sessions first
 #   limit               so many times 1,024 bytes a file may have
 #   workers             with which values of --workers alone the outcome is settled
-#   waits               why the case isn't run yet, unless it is named
 # A session that no file names must not be there.
 export LC_ALL=C
 cd "$(dirname "$0")/.." || exit 1
@@ -297,7 +296,7 @@ if [ $# -gt 0 ]; then
     done
 else
     for case in "$root"/tests/runs/*/; do
-        [ -f "$case/waits" ] || try_case "${case%/}"
+        try_case "${case%/}"
     done
     stories
     statuses

@@ -2,7 +2,8 @@
 use Rattle.std.specs.Prelude.{ℕ, min, Bool, true, false, List, [], ◌∷◌, Option, Some, None, codes, Result, Ok, Err, if◌then◌else◌}
 use Rattle.ug_types.specs.declared.family.Family.TheVariants.{V4}
 use Rattle.ug_types.specs.Ip.{IpPrefix}
-use Rattle.ug_text.specs.Cutting.{same_bytes, pieces, cut_at}
+use Rattle.ug_types.specs.Bytes.{same_bytes}
+use Rattle.ug_text.specs.Cutting.{pieces, cut_at}
 use Rattle.ug_text.specs.Numbers.{any_number}
 use Rattle.ug_text.specs.Addresses.{prefix_in}
 use Rattle.ug_prefixlist.specs.declared.entry.ListEntry.{ListEntry}

@@ -6,8 +6,9 @@ use Rattle.ug_types.specs.declared.attrs.Aggregator.{Aggregator}
 use Rattle.ug_types.specs.Ip.{IpAddress}
 use Rattle.ug_types.specs.Names.{is_name}
 use Rattle.ug_types.specs.Attributes.{Attributes, PathSegment, refusal_of}
+use Rattle.ug_types.specs.Bytes.{same_bytes}
 use Rattle.ug_text.specs.declared.list_reader.Spelled.TheVariants.{Community, Address}
-use Rattle.ug_text.specs.Cutting.{same_bytes, cut_at}
+use Rattle.ug_text.specs.Cutting.{cut_at}
 use Rattle.ug_text.specs.Numbers.{any_number, positive_number}
 use Rattle.ug_text.specs.Addresses.{address_in, ipv4_address, aggregator}
 use Rattle.ug_text.specs.Paths.{numbers_as, path, origin}

@@ -1,7 +1,7 @@
 -- What a line of events says: its words are read from left to right, and the first that can't be read decides.
 use Rattle.std.specs.Prelude.{ℕ, nat_lt, Bool, ◌||◌, List, [], ◌∷◌, length, Option, Some, None, codes, Result, Ok, Err, if◌then◌else◌}
 use Rattle.ug_types.specs.Ip.{IpPrefix}
-use Rattle.ug_text.specs.Cutting.{same_bytes}
+use Rattle.ug_types.specs.Bytes.{same_bytes}
 use Rattle.ug_text.specs.Addresses.{prefix}
 use Rattle.ug_events.specs.declared.verb.Verb.{Verb}
 use Rattle.ug_events.specs.declared.verb.Verb.TheVariants as verbs

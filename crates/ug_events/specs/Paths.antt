@@ -1,7 +1,7 @@
 -- The paths of a `paths` line: runs of words with a word `|` between.
 use Rattle.std.specs.Prelude.{ℕ, Bool, List, [], ◌∷◌, codes, Result, Ok, Err, if◌then◌else◌}
 use Rattle.ug_types.specs.declared.family.Family.{Family}
-use Rattle.ug_text.specs.Cutting.{same_bytes}
+use Rattle.ug_types.specs.Bytes.{same_bytes}
 use Rattle.ug_events.specs.Events.{GivenPath}
 use Rattle.ug_events.specs.Reads.{Reads, each_read, ◌>>=◌}
 use Rattle.ug_events.specs.Fields.{Fields, no_fields, with_word, path_of_fields}

@@ -23,7 +23,7 @@ pub fn read_paths(alloc: Global, family: Family, rest: &[u8]) -> Result<GivenLis
     ensures family { IfOk result (λ list. have_next_hops_in family list.items ≡ true) }
 {
     let (first, behind) = read_path(alloc, family, rest)?;
-    let mut paths = Vec::new(alloc);
+    let mut paths = Vec::with_capacity(alloc, 1)?;
     paths.push(first)?;
     let mut left = behind;
     while let Some(run) = left {

@@ -16,7 +16,7 @@ use Rattle.ug_types.specs.declared.key.Key.{Key}
 use Rattle.ug_types.specs.Ip.{IpPrefix, same_family}
 use Rattle.ug_types.specs.Attributes.{Attributes}
 use Rattle.ug_types.specs.Keys.{same_prefix, prefix_cmp}
-use Rattle.ug_prefixlist.specs.Named.{same_name}
+use Rattle.ug_types.specs.Bytes.{same_bytes}
 use Rattle.ug_rewrite.specs.NextHops.{told_to}
 use Rattle.ug_outbound.specs.Tables.{Tables}
 use Rattle.ug_outbound.specs.declared.settings.Local.{Local}
@@ -67,7 +67,7 @@ record IsFineWorld (w : World) : Type 0 where
 
 peers_changed : (name : List ℕ) (change : PeerState → PeerState) (peers : List PeerState) → ((s : PeerState) → IsPeerInRange s → IsPeerInRange (change s)) → Each IsPeerInRange peers → Each IsPeerInRange (map (changed_peer name change) peers)
 peers_changed name change [] keeps h = tt
-peers_changed name change (s ∷ peers) keeps h = (by (same_name s.peer.name name), peers_changed name change peers keeps h.1)
+peers_changed name change (s ∷ peers) keeps h = (by (same_bytes s.peer.name name), peers_changed name change peers keeps h.1)
   where
     by : (b : Bool) → IsPeerInRange (if b then change s else s)
     by true = keeps s h.0
@@ -82,7 +82,7 @@ world_with w name change version keeps fine = record {
 
 named_in_range : (peers : List PeerState) (name : List ℕ) (s : PeerState) → Each IsPeerInRange peers → peer_named peers name ≡ Some s → IsPeerInRange s
 named_in_range [] name s h e = absurd cc
-named_in_range (x ∷ peers) name s h e = by (same_name x.peer.name name) e (λ rest. named_in_range peers name s h.1 rest)
+named_in_range (x ∷ peers) name s h e = by (same_bytes x.peer.name name) e (λ rest. named_in_range peers name s h.1 rest)
   where
     by : (b : Bool) → (if b then Some x else peer_named peers name) ≡ Some s → (peer_named peers name ≡ Some s → IsPeerInRange s) → IsPeerInRange s
     by true e rest = let same : x ≡ s = cc in subst IsPeerInRange same h.0

@@ -14,9 +14,10 @@ use Rattle.ug_types.specs.declared.route.NhKind.TheVariants as kinds
 use Rattle.ug_types.specs.declared.route.OutAttrs.{OutAttrs}
 use Rattle.ug_types.specs.declared.route.PeerEnds.{PeerEnds}
 use Rattle.ug_types.specs.declared.route.Path.{Path}
+use Rattle.ug_types.specs.Bytes.{same_bytes}
 use Rattle.ug_aspath.specs.Paths.{is_private, with_numbers, public_numbers, has_numbers as has_some, without_private, in_place_of, replaced, overridden, sequence, begins_with_room, prepended}
 use Rattle.ug_aspath.proofs.Kept.{prepended_kept, overridden_kept, without_private_kept}
-use Rattle.ug_prefixlist.specs.Named.{same_name, value_named}
+use Rattle.ug_prefixlist.specs.Named.{value_named}
 use Rattle.ug_routemap.specs.declared.mapped.Mapped.{Mapped}
 use Rattle.ug_routemap.specs.Rules.{MapRule}
 use Rattle.ug_routemap.specs.Named.{NamedMap}
@@ -252,7 +253,7 @@ module _ (met : Attributes → MapRule → Bool) (given : Attributes) (first : I
 
 rules_in_range : (maps : List NamedMap) (name : List ℕ) (rules : List MapRule) → Each IsMapInRange maps → value_named maps name ≡ Some rules → Each IsRuleInRange rules
 rules_in_range [] name rules h e = absurd cc
-rules_in_range (m ∷ maps) name rules h e = by (same_name m.name name) e (λ rest. rules_in_range maps name rules h.1 rest)
+rules_in_range (m ∷ maps) name rules h e = by (same_bytes m.name name) e (λ rest. rules_in_range maps name rules h.1 rest)
   where
     by : (b : Bool) → (if b then Some m.value else value_named maps name) ≡ Some rules → (value_named maps name ≡ Some rules → Each IsRuleInRange rules) → Each IsRuleInRange rules
     by true e rest = let same : m.value ≡ rules = cc in subst (λ (rs : List MapRule). Each IsRuleInRange rs) same h.0

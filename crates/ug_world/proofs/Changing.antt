@@ -5,7 +5,7 @@ use Rattle.std.specs.List.{list_all}
 use Rattle.std.specs.Cmp.Lexicographic.{nat_list_eq_equiv}
 use Rattle.std.proofs.lemmas.List.{length-map}
 use Rattle.std.proofs.lemmas.Bool.Decides.{nat_tests}
-use Rattle.ug_prefixlist.specs.Named.{same_name}
+use Rattle.ug_types.specs.Bytes.{same_bytes}
 use Rattle.ug_world.specs.declared.peer_state.PeerState.{PeerState}
 use Rattle.ug_world.specs.World.{peer_named}
 use Rattle.ug_world.specs.Names.{is_name_among, are_distinct, where_named}
@@ -22,12 +22,12 @@ not_so true e = absurd cc
 not_so false e = refl
 
 -- two names that a third is the same as are the same to every other
-alike : (x name y : List ℕ) → same_name x name ≡ true → same_name y x ≡ same_name y name
+alike : (x name y : List ℕ) → same_bytes x name ≡ true → same_bytes y x ≡ same_bytes y name
 alike x name y e = nat_list_eq_equiv.symm y x ∙ nat_list_eq_equiv.congr x name y e ∙ nat_list_eq_equiv.symm name y
 
-among_alike : (x name : List ℕ) (names : List (List ℕ)) → same_name x name ≡ true → is_name_among names x ≡ is_name_among names name
+among_alike : (x name : List ℕ) (names : List (List ℕ)) → same_bytes x name ≡ true → is_name_among names x ≡ is_name_among names name
 among_alike x name [] e = refl
-among_alike x name (n ∷ names) e = ap (λ (b : Bool). b || is_name_among names x) (alike x name n e) ∙ ap (λ (b : Bool). same_name n name || b) (among_alike x name names e)
+among_alike x name (n ∷ names) e = ap (λ (b : Bool). b || is_name_among names x) (alike x name n e) ∙ ap (λ (b : Bool). same_bytes n name || b) (among_alike x name names e)
 
 true_or : (a b : Bool) → a ≡ true → (a || b) ≡ true
 true_or a b e = rw e refl
@@ -52,21 +52,21 @@ module _ {T : Type 0} (name_of : T → List ℕ) (name : List ℕ) (change : T �
   pub none_changed : (xs : List T) → is_name_among (map name_of xs) name ≡ false → map (where_named name_of name change) xs ≡ xs
   none_changed [] e = refl
   none_changed (x ∷ xs) e =
-      let parts = neither (same_name (name_of x) name) (is_name_among (map name_of xs) name) e in
+      let parts = neither (same_bytes (name_of x) name) (is_name_among (map name_of xs) name) e in
       ap (λ (b : Bool). (if b then change x else x) ∷ map (where_named name_of name change) xs) parts.0 ∙ ap (λ (t : List T). x ∷ t) (none_changed xs parts.1)
 
-  is_in : (xs : List T) (i : ℕ) (old : T) → i < length xs → old ≡ slice_index_or xs i old → same_name (name_of old) name ≡ true → is_name_among (map name_of xs) name ≡ true
+  is_in : (xs : List T) (i : ℕ) (old : T) → i < length xs → old ≡ slice_index_or xs i old → same_bytes (name_of old) name ≡ true → is_name_among (map name_of xs) name ≡ true
   is_in [] i old h e named = absurd (omega arith)
-  is_in (x ∷ xs) zero old h e named = true_or (same_name (name_of x) name) (is_name_among (map name_of xs) name) (subst (λ (y : T). same_name (name_of y) name ≡ true) e named)
-  is_in (x ∷ xs) (suc i) old h e named = or_true (same_name (name_of x) name) (is_name_among (map name_of xs) name) (is_in xs i old (omega arith) e named)
+  is_in (x ∷ xs) zero old h e named = true_or (same_bytes (name_of x) name) (is_name_among (map name_of xs) name) (subst (λ (y : T). same_bytes (name_of y) name ≡ true) e named)
+  is_in (x ∷ xs) (suc i) old h e named = or_true (same_bytes (name_of x) name) (is_name_among (map name_of xs) name) (is_in xs i old (omega arith) e named)
 
   -- where the names are distinct, changing what has the name is changing the one that stands at a place
-  pub one_changed : (xs : List T) (i : ℕ) (old new : T) → are_distinct (map name_of xs) ≡ true → i < length xs → old ≡ slice_index_or xs i old → same_name (name_of old) name ≡ true → new ≡ change old
+  pub one_changed : (xs : List T) (i : ℕ) (old new : T) → are_distinct (map name_of xs) ≡ true → i < length xs → old ≡ slice_index_or xs i old → same_bytes (name_of old) name ≡ true → new ≡ change old
       → slice_set xs i new ≡ map (where_named name_of name change) xs
   one_changed [] i old new distinct h e named is = absurd (omega arith)
   one_changed (x ∷ xs) zero old new distinct h e named is =
       let parts = both_so (not (is_name_among (map name_of xs) (name_of x))) (are_distinct (map name_of xs)) distinct in
-      let here : same_name (name_of x) name ≡ true = subst (λ (y : T). same_name (name_of y) name ≡ true) e named in
+      let here : same_bytes (name_of x) name ≡ true = subst (λ (y : T). same_bytes (name_of y) name ≡ true) e named in
       let apart : is_name_among (map name_of xs) name ≡ false = sym (among_alike (name_of x) name (map name_of xs) here) ∙ not_so (is_name_among (map name_of xs) (name_of x)) parts.0 in
       ap (λ (t : T). t ∷ xs) (is ∙ ap change e)
       ∙ ap (λ (t : List T). change x ∷ t) (sym (none_changed xs apart))
@@ -74,10 +74,10 @@ module _ {T : Type 0} (name_of : T → List ℕ) (name : List ℕ) (change : T �
   one_changed (x ∷ xs) (suc i) old new distinct h e named is =
       let parts = both_so (not (is_name_among (map name_of xs) (name_of x))) (are_distinct (map name_of xs)) distinct in
       let later : is_name_among (map name_of xs) name ≡ true = is_in xs i old (omega arith) e named in
-      by_name (same_name (name_of x) name) refl (not_so (is_name_among (map name_of xs) (name_of x)) parts.0) later
+      by_name (same_bytes (name_of x) name) refl (not_so (is_name_among (map name_of xs) (name_of x)) parts.0) later
       (one_changed xs i old new parts.1 (omega arith) e named is)
     where
-      by_name : (b : Bool) → same_name (name_of x) name ≡ b → is_name_among (map name_of xs) (name_of x) ≡ false → is_name_among (map name_of xs) name ≡ true
+      by_name : (b : Bool) → same_bytes (name_of x) name ≡ b → is_name_among (map name_of xs) (name_of x) ≡ false → is_name_among (map name_of xs) name ≡ true
           → slice_set xs i new ≡ map (where_named name_of name change) xs
           → slice_set (x ∷ xs) (suc i) new ≡ map (where_named name_of name change) (x ∷ xs)
       by_name true b apart later rest = absurd (clash (sym (among_alike (name_of x) name (map name_of xs) b) ∙ apart) later)
@@ -88,7 +88,7 @@ module _ {T : Type 0} (name_of : T → List ℕ) (name : List ℕ) (change : T �
 
   pub names_kept : (xs : List T) → ((x : T) → name_of (change x) ≡ name_of x) → map name_of (map (where_named name_of name change) xs) ≡ map name_of xs
   names_kept [] keeps = refl
-  names_kept (x ∷ xs) keeps = ap (λ (n : List ℕ). n ∷ map name_of (map (where_named name_of name change) xs)) (one (same_name (name_of x) name)) ∙ ap (λ (t : List (List ℕ)). name_of x ∷ t) (names_kept xs keeps)
+  names_kept (x ∷ xs) keeps = ap (λ (n : List ℕ). n ∷ map name_of (map (where_named name_of name change) xs)) (one (same_bytes (name_of x) name)) ∙ ap (λ (t : List (List ℕ)). name_of x ∷ t) (names_kept xs keeps)
     where
       one : (b : Bool) → name_of (if b then change x else x) ≡ name_of x
       one true = keeps x
@@ -98,7 +98,7 @@ module _ {T : Type 0} (name_of : T → List ℕ) (name : List ℕ) (change : T �
 
 pub none_named : (xs : List PeerState) (name : List ℕ) → peer_named xs name ≡ None → is_name_among (map peer_name xs) name ≡ false
 none_named [] name e = refl
-none_named (x ∷ xs) name e = one (same_name x.peer.name name) (none_named xs name) e
+none_named (x ∷ xs) name e = one (same_bytes x.peer.name name) (none_named xs name) e
   where
     one : (b : Bool) → (peer_named xs name ≡ None → is_name_among (map peer_name xs) name ≡ false) → (if b then Some x else peer_named xs name) ≡ None → (b || is_name_among (map peer_name xs) name) ≡ false
     one true rest h = absurd cc
@@ -111,7 +111,7 @@ module _ (xs : List PeerState) (name : List ℕ) (i : ℕ) (kept : ArePeers xs) 
   pub peer_changed : (change : PeerState → PeerState) (old new : PeerState) → old ≡ slice_index_or xs i old → new ≡ change old → slice_set xs i new ≡ map (changed_peer name change) xs
   peer_changed change old new e is =
       let parts = both_so (are_distinct (map peer_name xs)) (nat_le (length xs) 64) kept in
-      one_changed peer_name name change xs i old new parts.0 place.inside e (subst (λ (s : PeerState). same_name s.peer.name name ≡ true) (sym e) (place.named old)) is
+      one_changed peer_name name change xs i old new parts.0 place.inside e (subst (λ (s : PeerState). same_bytes s.peer.name name ≡ true) (sym e) (place.named old)) is
 
   pub are_peers_changed : (change : PeerState → PeerState) (old new : PeerState) → old ≡ slice_index_or xs i old → new ≡ change old → ((s : PeerState) → peer_name (change s) ≡ peer_name s) → ArePeers (slice_set xs i new)
   are_peers_changed change old new e is keeps =

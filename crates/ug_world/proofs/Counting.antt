@@ -1,17 +1,18 @@
 -- How many prefixes and paths there are after a change of one prefix.
-use Rattle.std.proofs.Common.{◌≡◌, ℕ, ◌+◌, ◌-◌, ◌≤◌, List, [], ◌∷◌, length, Bool, Option, Some, None, refl, ap, sym, ◌∙◌, arith}
-use Rattle.std.specs.Prelude.{unwrap_or, is_some, if◌then◌else◌, sum_by}
+use Rattle.std.proofs.Common.{◌≡◌, ℕ, ◌+◌, ◌-◌, ◌<◌, ◌≤◌, false, List, [], ◌∷◌, length, Bool, Option, Some, None, refl, ap, sym, ◌∙◌, arith}
+use Rattle.std.specs.Prelude.{nat_lt, unwrap_or, is_some, if◌then◌else◌, sum_by}
 use Rattle.std.specs.Option.{option_map}
 use Rattle.std.specs.Map.{lookup, remove_entry, keys_of, values_of}
 use Rattle.std.specs.BTreeMap.{insert_entry, is_at}
 use Rattle.std.specs.List.Sorted.{IsStrictlySortedBy}
 use Rattle.std.proofs.lemmas.Map.Entries.{sum_by-insert_entry, sum_by-remove_entry, length-values_of}
 use Rattle.std.proofs.lemmas.List.Sums.{sum_by-cons}
+use Rattle.std.proofs.lemmas.Bool.{le-ltb}
 use Rattle.ug_types.specs.Ip.{IpPrefix}
 use Rattle.ug_types.specs.Keys.{prefix_cmp, prefix_cmp_total, same_prefix}
 use Rattle.ug_types.specs.declared.route.Path.{Path}
 use Rattle.ug_world.specs.World.{Routes, paths_to}
-use Rattle.ug_world.specs.Verdicts.{path_count}
+use Rattle.ug_world.specs.Verdicts.{path_count, is_overfull}
 use Rattle.ug_world.proofs.Lookups.{tied}
 
 abbrev one_each : List Path → ℕ
@@ -62,3 +63,13 @@ less paths count before all given there after p g b e = omega (arith, p, g, b, e
 
 pub one_less : (rows one all there after : ℕ) → rows ≡ all → one ≡ there → after + there ≡ all + 1 → rows + 1 - one ≡ after
 one_less rows one all there after r o e = omega (arith, r, o, e)
+
+-- where there is room for one prefix more and so many paths
+pub not_over : (routes : Routes) (k : IpPrefix) (given : List Path) (count prefixes paths : ℕ) → IsStrictlySortedBy prefix_cmp (keys_of routes) → prefixes ≡ length routes → paths ≡ path_count routes
+    → prefixes < 1048576 → paths + count ≤ 2097152 → length given ≡ count → is_overfull (insert_entry prefix_cmp routes k given) ≡ false
+not_over routes k given count prefixes paths sorted are hold few some is =
+    let e1 = inserted_prefixes routes k given sorted in
+    let e2 = inserted_paths routes k given sorted in
+    let a : nat_lt 1048576 (length (insert_entry prefix_cmp routes k given)) ≡ false = le-ltb _ _ (omega arith) in
+    let b : nat_lt 2097152 (path_count (insert_entry prefix_cmp routes k given)) ≡ false = le-ltb _ _ (omega arith) in
+    rw (a, b) refl

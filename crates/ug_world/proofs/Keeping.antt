@@ -5,7 +5,7 @@ use Rattle.std.specs.Option.{option_map}
 use Rattle.std.proofs.lemmas.Option.{slice_get-map}
 use Rattle.ug_types.specs.declared.key.Key.{Key}
 use Rattle.ug_types.specs.declared.route.Path.{Path}
-use Rattle.ug_prefixlist.specs.Named.{same_name}
+use Rattle.ug_types.specs.Bytes.{same_bytes}
 use Rattle.ug_rewrite.specs.NextHops.{told_to}
 use Rattle.ug_outbound.specs.Keys.{ends_of}
 use Rattle.ug_outbound.specs.Outbound.{out}
@@ -50,13 +50,13 @@ module _ (w : World) (name : List ℕ) (change : PeerState → PeerState) (p : �
   there : slice_get (map (changed_peer name change) w.peers) p ≡ Some (changed_peer name change s)
   there = slice_get-map (changed_peer name change) w.peers p ∙ ap (option_map (changed_peer name change)) is
 
-  pub other_peer : same_name s.peer.name name ≡ false → slice_get (map (changed_peer name change) w.peers) p ≡ Some s
+  pub other_peer : same_bytes s.peer.name name ≡ false → slice_get (map (changed_peer name change) w.peers) p ≡ Some s
   other_peer e = there ∙ ap (λ (b : Bool). Some (if b then change s else s)) e
 
-  pub that_peer : same_name s.peer.name name ≡ true → slice_get (map (changed_peer name change) w.peers) p ≡ Some (change s)
+  pub that_peer : same_bytes s.peer.name name ≡ true → slice_get (map (changed_peer name change) w.peers) p ≡ Some (change s)
   that_peer e = there ∙ ap (λ (b : Bool). Some (if b then change s else s)) e
 
-pub fresh : (w : World) (name : List ℕ) (p : ℕ) (s : PeerState) → slice_get w.peers p ≡ Some s → same_name s.peer.name name ≡ true
+pub fresh : (w : World) (name : List ℕ) (p : ℕ) (s : PeerState) → slice_get w.peers p ≡ Some s → same_bytes s.peer.name name ≡ true
     → slice_get (after w (ComesUp name)).peers p ≡ Some (record s { up = true; sessions = s.sessions + 1; filter = []; waiting = [] })
 unfolding after
 fresh w name p s is e = that_peer w name come_up p s is e

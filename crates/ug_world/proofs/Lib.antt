@@ -3,6 +3,7 @@ pub mod Relisting
 pub mod Keeping
 pub mod Changing
 pub mod PrefixOrder
+pub mod Ascending
 pub mod Counting
 pub mod Filtering
 pub mod Staying

@@ -7,8 +7,9 @@ use Rattle.std.specs.Cmp.Lexicographic.{nat_list_eq_equiv}
 use Rattle.ug_types.specs.Ip.{IpPrefix}
 use Rattle.ug_types.specs.Attributes.{Attributes}
 use Rattle.ug_types.specs.declared.route.Path.{Path}
+use Rattle.ug_types.specs.Bytes.{same_bytes}
 use Rattle.ug_prefixlist.specs.declared.entry.ListEntry.{ListEntry}
-use Rattle.ug_prefixlist.specs.Named.{NamedList, same_name, value_named, list_permits, is_permitted}
+use Rattle.ug_prefixlist.specs.Named.{NamedList, value_named, list_permits, is_permitted}
 use Rattle.ug_routemap.specs.declared.mapped.Mapped.{Mapped}
 use Rattle.ug_routemap.specs.Rules.{MapRule}
 use Rattle.ug_routemap.specs.Maps.{is_met, is_met_by, mapped_by, so_far, goes_to, goes_on, map_walk}
@@ -55,13 +56,13 @@ module _ (name : List ℕ) (entries : List ListEntry) where
   abbrev relist : List NamedList → List NamedList
   relist lists = map (relisted name entries) lists
 
-  value_relisted : (n : List ℕ) (lists : List NamedList) → same_name n name ≡ false → value_named (relist lists) n ≡ value_named lists n
+  value_relisted : (n : List ℕ) (lists : List NamedList) → same_bytes n name ≡ false → value_named (relist lists) n ≡ value_named lists n
   value_relisted n [] apart = refl
-  value_relisted n (l ∷ lists) apart = by_name (same_name l.name name) refl (value_relisted n lists apart)
+  value_relisted n (l ∷ lists) apart = by_name (same_bytes l.name name) refl (value_relisted n lists apart)
     where
-      by_name : (b : Bool) → same_name l.name name ≡ b → value_named (relist lists) n ≡ value_named lists n → value_named (relist (l ∷ lists)) n ≡ value_named (l ∷ lists) n
+      by_name : (b : Bool) → same_bytes l.name name ≡ b → value_named (relist lists) n ≡ value_named lists n → value_named (relist (l ∷ lists)) n ≡ value_named (l ∷ lists) n
       by_name true is h =
-          let other : same_name l.name n ≡ false = nat_list_eq_equiv.congr l.name name n is ∙ nat_list_eq_equiv.symm name n ∙ apart in
+          let other : same_bytes l.name n ≡ false = nat_list_eq_equiv.congr l.name name n is ∙ nat_list_eq_equiv.symm name n ∙ apart in
           rw (is, other, h) refl
       by_name false is h = rw (is, h) refl
 

@@ -2,7 +2,8 @@
 use Rattle.std.proofs.Common.{◌≡◌, ℕ, ◌+◌, ◌≤◌, Bool, true, false, ◌&&◌, List, [], ◌∷◌, map, refl, ap, ◌∙◌, arith}
 use Rattle.std.specs.Prelude.{nat_le, if◌then◌else◌}
 use Rattle.std.proofs.lemmas.Bool.Decides.{nat_tests}
-use Rattle.ug_prefixlist.specs.Named.{NamedList, same_name}
+use Rattle.ug_types.specs.Bytes.{same_bytes}
+use Rattle.ug_prefixlist.specs.Named.{NamedList}
 use Rattle.ug_outbound.specs.declared.policy.Policy.{Policy}
 use Rattle.ug_world.specs.declared.peer_state.PeerState.{PeerState}
 use Rattle.ug_world.specs.After.{changed_peer}
@@ -38,7 +39,7 @@ sessions_next : (v : ℕ) (name : List ℕ) (change : PeerState → PeerState) (
 sessions_next v name change [] few e = refl
 sessions_next v name change (s ∷ xs) few e =
     both (nat_le (changed_peer name change s).sessions (v + 1)) (are_sessions_within (v + 1) (map (changed_peer name change) xs))
-    (one (same_name s.peer.name name) (first_of (nat_le s.sessions v) (are_sessions_within v xs) e))
+    (one (same_bytes s.peer.name name) (first_of (nat_le s.sessions v) (are_sessions_within v xs) e))
     (sessions_next v name change xs few (second_of (nat_le s.sessions v) (are_sessions_within v xs) e))
   where
     one : (b : Bool) → nat_le s.sessions v ≡ true → nat_le (if b then change s else s).sessions (v + 1) ≡ true

@@ -2,9 +2,10 @@
 use Rattle.std.specs.Prelude.{ℕ, ◌+◌, true, false, List, [], map, Option, if◌then◌else◌}
 use Rattle.std.specs.Map.{remove_entry}
 use Rattle.ug_types.specs.Keys.{same_prefix}
+use Rattle.ug_types.specs.Bytes.{same_bytes}
 use Rattle.ug_prefixlist.specs.Order.{ascending}
 use Rattle.ug_prefixlist.specs.Lists.{seq_of}
-use Rattle.ug_prefixlist.specs.Named.{NamedList, same_name}
+use Rattle.ug_prefixlist.specs.Named.{NamedList}
 use Rattle.ug_prefixlist.specs.declared.entry.ListEntry.{ListEntry}
 use Rattle.ug_orf.specs.Changes.{OrfRequest}
 use Rattle.ug_orf.specs.Applying.{applied}
@@ -35,14 +36,14 @@ with_orf request s =
 
 -- the peers, of which the one of that name is changed
 abbrev pub changed_peer : List ℕ → (PeerState → PeerState) → PeerState → PeerState
-changed_peer name change s = if same_name s.peer.name name then change s else s
+changed_peer name change s = if same_bytes s.peer.name name then change s else s
 
 abbrev pub with_peer : World → List ℕ → (PeerState → PeerState) → World
 with_peer w name change = record w { peers = map (changed_peer name change) w.peers }
 
 -- the list of that name has these entries
 abbrev pub relisted : List ℕ → List ListEntry → NamedList → NamedList
-relisted name entries l = if same_name l.name name then record l { value = ascending seq_of entries } else l
+relisted name entries l = if same_bytes l.name name then record l { value = ascending seq_of entries } else l
 
 abbrev pub with_list : World → List ℕ → List ListEntry → World
 with_list w name entries = record w { tables = record { lists = map (relisted name entries) w.tables.lists; maps = w.tables.maps } }

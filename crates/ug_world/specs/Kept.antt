@@ -2,7 +2,8 @@
 use Rattle.std.specs.Prelude.{◌≡◌, ℕ, ◌<◌, nat_le, Bool, true, ◌&&◌, List, length, map, slice_index_or, is_none}
 use Rattle.std.specs.List.{list_all}
 use Rattle.ug_types.specs.declared.named.Named.{Named}
-use Rattle.ug_prefixlist.specs.Named.{NamedList, same_name}
+use Rattle.ug_types.specs.Bytes.{same_bytes}
+use Rattle.ug_prefixlist.specs.Named.{NamedList}
 use Rattle.ug_outbound.specs.declared.policy.Policy.{Policy}
 use Rattle.ug_world.specs.declared.peer_state.PeerState.{PeerState}
 use Rattle.ug_world.specs.Names.{are_distinct}
@@ -25,7 +26,7 @@ ArePeers peers = are_peers peers ≡ true
 -- a peer of that name stands at that place
 pub record IsPlaceOf (peers : List PeerState) (name : List ℕ) (place : ℕ) : Type 0 where
   pub inside : place < length peers
-  pub named : (s : PeerState) → same_name (slice_index_or peers place s).peer.name name ≡ true
+  pub named : (s : PeerState) → same_bytes (slice_index_or peers place s).peer.name name ≡ true
 
 -- a peer has had at most as many sessions as there were events
 abbrev pub has_sessions_within : ℕ → PeerState → Bool
@@ -45,7 +46,7 @@ IsWorld none version peers lists = (is_no_policy none && (are_sessions_within ve
 -- a list of that name stands at that place
 pub record IsListAt (lists : List NamedList) (name : List ℕ) (place : ℕ) : Type 0 where
   pub inside : place < length lists
-  pub named : (l : NamedList) → same_name (slice_index_or lists place l).name name ≡ true
+  pub named : (l : NamedList) → same_bytes (slice_index_or lists place l).name name ≡ true
 
 abbrev pub with_value : {T : Type 0} → T → Named T → Named T
 with_value value x = record x { value = value }

@@ -5,7 +5,7 @@ use Rattle.ug_types.specs.Ip.{IpAddress, same_family}
 use Rattle.ug_types.specs.declared.family.Family.{Family}
 use Rattle.ug_types.specs.declared.family.Family.TheVariants.{V4, V6}
 use Rattle.ug_types.specs.declared.named.Named.{Named}
-use Rattle.ug_prefixlist.specs.Named.{same_name}
+use Rattle.ug_types.specs.Bytes.{same_bytes}
 use Rattle.ug_routemap.specs.Rules.{MapRule}
 use Rattle.ug_routemap.specs.Named.{NamedMap}
 use Rattle.ug_outbound.specs.Policies.{NamedPolicy}
@@ -52,7 +52,7 @@ may_filter V6 orf = not orf
 -- family, and its policy is there.
 abbrev pub is_peer_good : List (List ℕ) → Peer → Bool
 is_peer_good policies p =
-    not (same_name p.name (codes "local")) && (nat_le 1 p.asn && (is_ipv4 p.router_id && (same_family p.address.family p.family && (same_family p.local_address.family p.family
+    not (same_bytes p.name (codes "local")) && (nat_le 1 p.asn && (is_ipv4 p.router_id && (same_family p.address.family p.family && (same_family p.local_address.family p.family
     && (same_family p.subnet.family p.family && (may_filter p.family p.orf && is_one_of policies p.policy))))))
 
 abbrev pub is_policy_good : List (List ℕ) → List (List ℕ) → NamedPolicy → Bool

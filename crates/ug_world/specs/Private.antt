@@ -7,6 +7,7 @@ use Rattle.ug_types.specs.Attributes.{Attributes}
 use Rattle.ug_types.specs.declared.key.Key.{Key}
 use Rattle.ug_types.specs.declared.route.Path.{Path}
 use Rattle.ug_types.specs.declared.route.OutAttrs.{OutAttrs}
+use Rattle.ug_prefixlist.specs.Order.{ascending}
 use Rattle.ug_rewrite.specs.NextHops.{told_to}
 use Rattle.ug_outbound.specs.Outbound.{out}
 use Rattle.ug_outbound.specs.Keys.{ends_of}
@@ -21,10 +22,14 @@ path_at false id [] = None
 path_at false id (path ∷ paths) = if id == 0 then Some path else None
 path_at true id paths = find (λ (path : Path). path.id == id) paths
 
--- the keys under which the paths to a prefix can stand: identifier 0, or with ADD-PATH their own (RFC 7911)
+-- the keys of paths to a prefix under their own identifiers
+abbrev pub own_keys : IpPrefix → List Path → List Key
+own_keys prefix paths = map (λ (path : Path). record { prefix = prefix; id = path.id }) paths
+
+-- the keys under which the paths to a prefix can stand, in their order: identifier 0, or with ADD-PATH their own (RFC 7911)
 abbrev pub keys_to : Bool → IpPrefix → List Path → List Key
 keys_to false prefix paths = record { prefix = prefix; id = 0 } ∷ []
-keys_to true prefix paths = map (λ (path : Path). record { prefix = prefix; id = path.id }) paths
+keys_to true prefix paths = own_keys prefix (ascending (λ (path : Path). path.id) paths)
 
 abbrev pub keys_of : Bool → Routes → List Key
 keys_of add_path routes = flat_map (λ (r : IpPrefix × List Path). keys_to add_path r.0 r.1) routes

@@ -3,7 +3,8 @@ use Rattle.std.specs.Prelude.{ℕ, Bool, false, ◌||◌, List, Option, Some, No
 use Rattle.std.specs.List.{list_any}
 use Rattle.ug_types.specs.Keys.{same_prefix}
 use Rattle.ug_types.specs.declared.key.Key.{Key}
-use Rattle.ug_prefixlist.specs.Named.{same_name, value_named}
+use Rattle.ug_types.specs.Bytes.{same_bytes}
+use Rattle.ug_prefixlist.specs.Named.{value_named}
 use Rattle.ug_routemap.specs.Rules.{MapRule}
 use Rattle.ug_outbound.specs.Tables.{Tables}
 use Rattle.ug_outbound.specs.declared.key.GroupKey.{GroupKey}
@@ -12,19 +13,19 @@ use Rattle.ug_world.specs.declared.peer_state.PeerState.{PeerState}
 
 -- the event is of this peer
 abbrev pub is_about : Happening → PeerState → Bool
-is_about (ComesUp name) s = same_name s.peer.name name
-is_about (GoesDown name) s = same_name s.peer.name name
-is_about (AsksAgain name) s = same_name s.peer.name name
-is_about (SendsRequest name) s = same_name s.peer.name name
-is_about (SendsList name request) s = same_name s.peer.name name
-is_about (HasPolicy name policy) s = same_name s.peer.name name
+is_about (ComesUp name) s = same_bytes s.peer.name name
+is_about (GoesDown name) s = same_bytes s.peer.name name
+is_about (AsksAgain name) s = same_bytes s.peer.name name
+is_about (SendsRequest name) s = same_bytes s.peer.name name
+is_about (SendsList name request) s = same_bytes s.peer.name name
+is_about (HasPolicy name policy) s = same_bytes s.peer.name name
 is_about (HasEntries name entries) s = false
 is_about (HasPaths prefix paths) s = false
 is_about (HasNone prefix) s = false
 
 abbrev pub is_called : List ℕ → Option (List ℕ) → Bool
 is_called name None = false
-is_called name (Some other) = same_name other name
+is_called name (Some other) = same_bytes other name
 
 -- an entry of a route map asks the prefix list of that name
 abbrev pub asks : List ℕ → MapRule → Bool

@@ -6,7 +6,8 @@ use Rattle.ug_types.specs.Keys.{same_prefix}
 use Rattle.ug_types.specs.declared.route.Learned.{Learned}
 use Rattle.ug_types.specs.declared.route.Learned.TheVariants as learned
 use Rattle.ug_types.specs.declared.route.Path.{Path}
-use Rattle.ug_prefixlist.specs.Named.{same_name, value_named}
+use Rattle.ug_types.specs.Bytes.{same_bytes}
+use Rattle.ug_prefixlist.specs.Named.{value_named}
 use Rattle.ug_outbound.specs.Tables.{Tables}
 use Rattle.ug_outbound.specs.Keys.{group_key_of}
 use Rattle.ug_outbound.specs.declared.settings.Local.{Local}
@@ -36,7 +37,7 @@ paths_to routes prefix = unwrap_or (lookup (same_prefix prefix) routes) []
 -- the first peer of that name
 abbrev pub peer_named : List PeerState → List ℕ → Option PeerState
 peer_named [] name = None
-peer_named (s ∷ peers) name = if same_name s.peer.name name then Some s else peer_named peers name
+peer_named (s ∷ peers) name = if same_bytes s.peer.name name then Some s else peer_named peers name
 
 -- neither a prefix list nor a route map
 abbrev pub no_policy : Policy

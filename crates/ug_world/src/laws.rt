@@ -3,7 +3,7 @@
 ghost use Rattle.std.specs.Prelude.{◌≡◌, ◌+◌, ℕ, true, false, List, [], slice_get, Option, Some, None};
 ghost use Rattle.std.specs.Option.{option_map};
 ghost use Rattle.ug_types.specs.declared.key.Key.{Key};
-ghost use Rattle.ug_prefixlist.specs.Named.{same_name};
+ghost use Rattle.ug_types.specs.Bytes.{same_bytes};
 ghost use Rattle.ug_rewrite.specs.NextHops.{told_to};
 ghost use Rattle.ug_outbound.specs.Keys.{ends_of};
 ghost use Rattle.ug_outbound.specs.declared.key.GroupKey.{GroupKey};
@@ -24,7 +24,7 @@ pub fn world_laws()
         private_table p w key ≡ option_map (told_to (ends_of s.peer)) (wanted (key_in w s) w key) }
     ensures down { (w : World) (p : ℕ) (s : PeerState) (key : Key) → slice_get w.peers p ≡ Some s → s.up ≡ false →
         private_table p w key ≡ None }
-    ensures fresh { (w : World) (name : List ℕ) (p : ℕ) (s : PeerState) → slice_get w.peers p ≡ Some s → same_name s.peer.name name ≡ true →
+    ensures fresh { (w : World) (name : List ℕ) (p : ℕ) (s : PeerState) → slice_get w.peers p ≡ Some s → same_bytes s.peer.name name ≡ true →
         slice_get (after w (ComesUp name)).peers p ≡ Some (record s { up = true; sessions = s.sessions + 1; filter = []; waiting = [] }) }
     ensures others { (w : World) (e : Happening) (p : ℕ) (s : PeerState) → slice_get w.peers p ≡ Some s → is_about e s ≡ false →
         slice_get (after w e).peers p ≡ Some s }

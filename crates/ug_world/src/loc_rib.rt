@@ -1,6 +1,6 @@
 //! The routes that a speaker has.
 
-ghost use Rattle.std.specs.Prelude.{◌≡◌, ◌≤◌, ◌||◌, nat_lt, if◌then◌else◌, List, [], length, is_some, false, None, IsSome, IfSome, IfNone, IfOk, OnOk, OnErr, option_copied};
+ghost use Rattle.std.specs.Prelude.{◌≡◌, ◌≤◌, ◌||◌, nat_lt, if◌then◌else◌, List, [], length, is_some, true, false, None, IsSome, IfSome, IfNone, IfOk, OnOk, OnErr, option_copied};
 ghost use Rattle.std.specs.Map.{lookup, remove_entry};
 ghost use Rattle.std.specs.BTreeMap.{insert_entry, get};
 ghost use Rattle.std.specs.BTreeMap.Range.{IsLeBy};
@@ -75,8 +75,25 @@ impl LocRib {
     pub fn is_overfull_with(&self, prefix: &Prefix, count: usize) -> bool
         ensures { (given : List stored.Path) → length given ≡ count → result ≡ is_overfull (insert_entry prefix_cmp self.now prefix.now given) }
     {
+        if self.has_room(count) {
+            return false;
+        }
         let (prefixes, paths) = self.counts_with(prefix, count);
         are_over(prefixes, paths)
+    }
+
+    /// Whether there is room for so many paths more of whatever prefix, which is most often so and asks for no look at
+    /// the prefix.
+    fn has_room(&self, count: usize) -> bool
+        ensures { result ≡ true → (prefix : IpPrefix) → (given : List stored.Path) → length given ≡ count → is_overfull (insert_entry prefix_cmp self.now prefix given) ≡ false }
+    {
+        if self.rows.len() >= 1048576 {
+            return false;
+        }
+        if self.paths as u128 + count as u128 > 2097152 {
+            return false;
+        }
+        true
     }
 
     /// How many prefixes and how many paths there would be then.
@@ -84,11 +101,22 @@ impl LocRib {
         ensures prefixes { (given : List stored.Path) → length given ≡ count → result.0 ≡ length (insert_entry prefix_cmp self.now prefix.now given) }
         ensures paths { (given : List stored.Path) → length given ≡ count → result.1 ≡ path_count (insert_entry prefix_cmp self.now prefix.now given) }
     {
-        let before = self.paths(prefix).len() as u128;
-        let there = one_where(self.contains(prefix));
-        let prefixes = self.rows.len() as u128 + 1 - there;
-        let paths = self.paths as u128 + count as u128 - before;
+        let row = self.counts_of(prefix);
+        let prefixes = self.rows.len() as u128 + 1 - row.0;
+        let paths = self.paths as u128 + count as u128 - row.1;
         (prefixes, paths)
+    }
+
+    /// 1 where a prefix has paths, and 0 where it has none, and how many it has.
+    fn counts_of(&self, prefix: &Prefix) -> (u128, u128)
+        ensures one { result.0 ≡ (if is_some (lookup (same_prefix prefix.now) self.now) then 1 else 0) }
+        ensures small { result.0 ≤ 1 }
+        ensures paths { result.1 ≡ length (paths_to self.now prefix.now) }
+    {
+        match self.rows.get(prefix) {
+            Some(best) => (1, best.as_slice().len() as u128),
+            None => (0, 0),
+        }
     }
 
     /// Gives a prefix these paths, in place of those before. Want of memory changes nothing.
@@ -128,7 +156,7 @@ impl LocRib {
     {
         let mut keys = Vec::new(alloc);
         for (prefix, best) in self.rows.iter() {
-            put_keys(&mut keys, add_path, prefix, best.as_slice())?;
+            put_keys(&mut keys, alloc, add_path, prefix, best.as_slice())?;
         }
         Ok(keys)
     }
@@ -149,13 +177,6 @@ fn are_over(prefixes: u128, paths: u128) -> bool
     ensures { result ≡ (nat_lt 1048576 prefixes || nat_lt 2097152 paths) }
 {
     prefixes > 1048576 || paths > 2097152
-}
-
-fn one_where(there: bool) -> u128
-    ensures one { result ≡ (if there then 1 else 0) }
-    ensures small { result ≤ 1 }
-{
-    if there { 1 } else { 0 }
 }
 
 /// The least prefix above the given one, or the first.

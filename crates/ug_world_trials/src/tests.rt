@@ -1,9 +1,11 @@
 //! Worlds, lines and rows worked out by hand.
 
 mod config;
+mod orders;
 mod refusals;
 mod rules;
 mod sessions;
+mod slowly;
 
 use super::*;
 use std::alloc::Global;

@@ -9,7 +9,7 @@ use ug_types::NoMemory;
 use ug_world::World;
 
 /// A peer with a filter of its own.
-const P3: Words<'static> = Words {
+pub const P3: Words<'static> = Words {
     name: "p3",
     options: "orf",
     ..P2
@@ -37,10 +37,10 @@ fn check<R: Abort>(
 const REQUEST: &str = "receive p1 ffffffffffffffffffffffffffffffff00170500010001";
 
 /// Changes of p1's and of p3's own list: 10 permit 10.0.0.0/8 le 24, at once.
-const LIST_OF_P1: &str =
+pub const LIST_OF_P1: &str =
     "orf p1 ffffffffffffffffffffffffffffffff0024050001000101400009000000000A0018080A";
 
-const LIST_OF_P3: &str =
+pub const LIST_OF_P3: &str =
     "orf p3 ffffffffffffffffffffffffffffffff0024050001000101400009000000000A0018080A";
 
 #[test]
@@ -128,7 +128,7 @@ fn routes(rt: HostRuntime) -> Result<(), Fail> {
 
 /// A `paths` line of so many paths, whose identifiers are 1, 2 and so on, but for the last, which is given; the last is
 /// from that peer.
-fn paths_line(alloc: Global, count: u32, last: u32, from: &str) -> Result<String, NoMemory> {
+pub fn paths_line(alloc: Global, count: u32, last: u32, from: &str) -> Result<String, NoMemory> {
     let mut line = String::from_str(alloc, "paths 10.0.0.0/8")?;
     for id in 1..count {
         write!(line, " id={id} from=i1 nh=0.0.0.0 origin=igp as=- |")?;
@@ -163,7 +163,7 @@ fn paths(rt: HostRuntime) -> Result<(), Fail> {
 
 /// A line by which p3 adds entries to its own list, at its next request: permit 0.0.0.0/0 under sequence numbers from
 /// one on, at most 200.
-fn orf_line(alloc: Global, from: u32, count: u32) -> Result<String, NoMemory> {
+pub fn orf_line(alloc: Global, from: u32, count: u32) -> Result<String, NoMemory> {
     let bytes = count.min(200) * 8;
     let length = 24 + 3 + bytes;
     let mut line = String::from_str(alloc, "orf p3 ffffffffffffffffffffffffffffffff")?;

@@ -1,4 +1,4 @@
-use Rattle.std.proofs.Common.{◌≡◌, Bool, length, ap, ◌∙◌, arith}
+use Rattle.std.proofs.Common.{◌≡◌, length, ap, ◌∙◌, arith}
 use Rattle.std.specs.Prelude.{is_some, if◌then◌else◌}
 use Rattle.std.specs.Map.{lookup}
 use Rattle.ug_types.specs.Keys.{same_prefix}
@@ -11,22 +11,21 @@ use Rattle.ug_world.proofs.loc_rib.LocRib.counts_with.Goals as goal
 pub overflow_sub-paths : goal.overflow_sub-paths
 overflow_sub-paths c =
     let few = few_paths c.args.self.now c.args.prefix.now in
-    let before : length c.paths.result.now ≡ length (paths_to c.args.self.now c.args.prefix.now) = ap length c.paths.ensures in
     let all : c.self.inside.paths ≡ path_count c.args.self.now = c.self.invariant ∙ ap path_count c.self.view_is in
-    omega (arith, few, before, all)
+    omega (arith, few, c.counts_of-row.ensures.paths, all)
 
 pub returns-clause-prefixes : goal.returns-clause-prefixes
 returns-clause-prefixes c given count =
     let sorted = in_order c.self.inside.rows.entries c.args.self.now c.self.view_is c.len.ensures.ordered in
-    one_less c.len.result c.one_where-there.result (length c.args.self.now)
+    one_less c.len.result c.counts_of-row.result.0 (length c.args.self.now)
     (if is_some (lookup (same_prefix c.args.prefix.now) c.args.self.now) then 1 else 0) _
     (c.len.ensures.len ∙ ap length c.self.view_is)
-    (c.one_where-there.ensures.one ∙ ap (λ (b : Bool). if b then 1 else 0) c.contains.ensures)
+    c.counts_of-row.ensures.one
     (inserted_prefixes c.args.self.now c.args.prefix.now given sorted)
 
 pub returns-clause-paths : goal.returns-clause-paths
 returns-clause-paths c given count =
     let sorted = in_order c.self.inside.rows.entries c.args.self.now c.self.view_is c.len.ensures.ordered in
-    less c.self.inside.paths c.args.count (length c.paths.result.now) (path_count c.args.self.now) (length given) (length (paths_to c.args.self.now c.args.prefix.now)) _
-    (c.self.invariant ∙ ap path_count c.self.view_is) count (ap length c.paths.ensures)
+    less c.self.inside.paths c.args.count c.counts_of-row.result.1 (path_count c.args.self.now) (length given) (length (paths_to c.args.self.now c.args.prefix.now)) _
+    (c.self.invariant ∙ ap path_count c.self.view_is) count c.counts_of-row.ensures.paths
     (inserted_paths c.args.self.now c.args.prefix.now given sorted)
