@@ -63,15 +63,15 @@ module _ {Opening State Job Said : Type 0} (rules : Rules Opening State Job Said
 
     module _ (old mid new : BuilderView Opening Job Said) (held held' held'' : Option (List ℕ)) (same : IsSameBuilder old mid) where
       pub file-stopped-last :
-          (stop : LineStop Stop) → HasStoppedAt stop ⊥ ⊥ (λ why. StopsWithin rules speech why mid held' new held'' (where_some r'))
+          (stop : LineStop Stop) → n' + length (where_some r') ≤ m' → HasStoppedAt stop ⊥ ⊥ (λ why. StopsWithin rules speech why mid held' new held'' (where_some r'))
           → HasRead left now (λ read. IsEnded now × (length read ≤ limit) × HasTakenLines (TakesLines rules speech old held mid held') k m r r' n n' k' m' read)
           → HasRead left now (LinesHalted rules speech (halt_of_stop stop) old held new held'' now)
-      file-stopped-last stop at h =
+      file-stopped-last stop room at h =
           has-read left now _ _
           (λ read so. halted-is rules speech old new held held'' k enough limit m now read (halt_of_stop stop) bytes lines (halted-at rules speech old new held held'' k enough limit m now read (halt_of_stop stop) so))
           (last_stopped (TakesLines rules speech old held mid held') k m limit r r' n n' k' m' none zero some left now
           (TakesLines rules speech old held new held'') (λ ls why. StopsWithin rules speech why mid held' new held'' ls) (λ ls why. StopsWithin rules speech why old held new held'' ls) stop
-          (λ front why p q. stops_later rules speech old mid new held held' held'' front (where_some r') why same p q) at h)
+          (λ front why p q. stops_later rules speech old mid new held held' held'' front (where_some r') why same p q) room at h)
 
       pub file-taken :
           n' + length (where_some r') ≤ m' → TakesLines rules speech mid held' new held'' (where_some r')

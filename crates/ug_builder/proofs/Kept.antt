@@ -1,9 +1,11 @@
 -- What is kept of a line is enough, and what lines were taken of a file.
-use Rattle.std.proofs.Common.{◌≡◌, ℕ, zero, suc, ◌<◌, ◌≤◌, Bool, true, false, leb, inl, inr, List, [], ◌∷◌, ◌++◌, map, length, take, Option, Some, None, refl, sym, ◌∙◌, ap, subst, append_assoc, arith}
+use Rattle.std.proofs.Common.{◌≡◌, ℕ, zero, suc, ◌+◌, ◌-◌, ◌<◌, ◌≤◌, Bool, true, false, leb, inl, inr, List, [], ◌∷◌, ◌++◌, map, length, take, drop, Option, Some, None, refl, sym, ◌∙◌, ap, subst, append_assoc, arith}
 use Rattle.std.specs.Prelude.{nat_lt, nat_le, ◌&&◌, if◌then◌else◌}
 use Rattle.std.proofs.lemmas.Bool.{leb-true, leb-false, lt-ltb, lt-leb, le-leb}
-use Rattle.std.proofs.lemmas.List.{append-nil, map-append, length-append, length-take-le, take_all, take-append-le}
+use Rattle.std.proofs.lemmas.List.{append-nil, map-append, length-append, length-map, length-take-le, take_all, take-append-le, take-append-drop}
+use Rattle.std.proofs.Math.Seq.{take-append_seam}
 use Rattle.ug_edge.specs.Told.{IsEnded}
+use Rattle.ug_pieces.specs.ReadingLaws.{take_front}
 use Rattle.ug_pieces.specs.Lines.{ended_from, rest_from, where_some, lines_of, kept_of, IsLineHalt}
 use Rattle.ug_pieces.specs.declared.line_halt.LineHalt.{LineHalt}
 use Rattle.ug_pieces.specs.declared.line_halt.LineHalt.TheVariants as halts
@@ -19,7 +21,7 @@ use Rattle.ug_builder.specs.declared.stop.Stop.TheVariants as stops
 use Rattle.ug_builder.specs.Standing.{said_by, BuilderView, Stops, BuilderStands, BuilderStops, TakesLines, StopsWithin}
 use Rattle.ug_builder.specs.StandingLaws.{same_itself}
 use Rattle.ug_builder.specs.Turns.{IsLegalAt}
-use Rattle.ug_builder.specs.Files.{lines_within, IsPast, most_bytes, most_lines}
+use Rattle.ug_builder.specs.Files.{lines_within, lines_read, IsPast, most_bytes, most_lines}
 use Rattle.ug_builder.specs.Reading.{LinesHalted}
 use Rattle.ug_builder.proofs.Turning.{goes_nowhere}
 use Rattle.ug_builder.proofs.Builders.{builder-starved}
@@ -148,6 +150,21 @@ module _ {Opening State Job Said : Type 0} (rules : Rules Opening State Job Said
         subst (λ (rs : List (Reads Saying)). BuilderStops rules speech stop new first rs before held') all
         (stops_longer stop new first (ls ++ map (said_by g) front) (map (said_by g) more ++ map (said_by g) later) before held' (stops first ls before stands))
 
+    -- the same within so many lines
+    stops_few : (stop : Stop) (n : ℕ) (lines front more later : List (List ℕ)) → kept_of k lines ≡ front ++ more → 0 + length front ≤ n
+        → StopsWithin rules speech stop old held new held' front → StopsWithin rules speech stop old held new held' (take n (lines ++ later))
+    stops_few stop n lines front more later is few stops =
+        let count = length front in
+        let some = take count lines in
+        let last = take (n - length some) (drop count lines ++ later) in
+        let fronts : kept_of k some ≡ front = sym (kept_front k count lines) ∙ ap (take count) is ∙ take-append_seam front more in
+        let size : length some ≡ count = sym (length-map some (take k)) ∙ ap length fronts in
+        let parts : lines ++ later ≡ some ++ (drop count lines ++ later) =
+        ap (λ (ls : List (List ℕ)). ls ++ later) (sym (take-append-drop count lines)) ∙ append_assoc some (drop count lines) later in
+        let cut : take n (lines ++ later) ≡ some ++ last = ap (take n) parts ∙ take_front n some (drop count lines ++ later) (omega (arith, size, few)) in
+        subst (λ (ls : List (List ℕ)). StopsWithin rules speech stop old held new held' ls) (sym cut)
+        (stops_front stop some front [] last (fronts ∙ sym (append-nil front)) stops)
+
     -- these lines were taken, and then memory was wanting
     starved : (lines : List (List ℕ)) → TakesLines rules speech old held new held' lines → StopsWithin rules speech stops.NoMemory old held new held' lines
     starved lines takes first ls before stands =
@@ -194,51 +211,56 @@ module _ {Opening State Job Said : Type 0} (rules : Rules Opening State Job Said
       )
 
       -- Stopped before the end of the source: whatever counts as the last line was not taken.
-      Begun : (List (List ℕ) → Type 0) → Type 0
-      Begun holds = (ended : Bool) × (ended ≡ true → IsEnded left) × ((whole : Bool) → (ended ≡ true → whole ≡ true) → holds (lines_within b whole read))
+      Stopped : (List (List ℕ) → Type 0) → Type 0
+      Stopped holds = (ended : Bool) × (ended ≡ true → IsEnded left) × ((whole : Bool) → (ended ≡ true → whole ≡ true) → holds (take n (lines_within b whole read)))
 
-      stopped-within : (stop : Stop) (front more : List (List ℕ)) → kept_of k (ended_from [] (take b read)) ≡ front ++ more → StopsWithin rules speech stop old held new held' front
-          → Begun (StopsWithin rules speech stop old held new held')
-      unfolding Begun
-      stopped-within stop front more is stops =
-          (false, (λ no. absurd cc), λ whole not_ended. stops_front stop (ended_from [] (take b read)) front more (if whole && nat_le (length read) b then where_some (rest_from [] read) else []) is stops)
+      stopped-within : (stop : Stop) (front more : List (List ℕ)) → kept_of k (ended_from [] (take b read)) ≡ front ++ more → 0 + length front ≤ n → StopsWithin rules speech stop old held new held' front
+          → Stopped (StopsWithin rules speech stop old held new held')
+      unfolding Stopped
+      stopped-within stop front more is few stops =
+          (false, (λ no. absurd cc), λ whole not_ended. stops_few stop n (ended_from [] (take b read)) front more (if whole && nat_le (length read) b then where_some (rest_from [] read) else []) is few stops)
 
-      stopped-last : (stop : Stop) → IsEnded left → length read ≤ b → StopsWithin rules speech stop old held new held' (kept_of k (lines_of read)) → Begun (StopsWithin rules speech stop old held new held')
-      unfolding Begun
-      stopped-last stop is_ended le stops = (
+      stopped-last : (stop : Stop) → IsEnded left → length read ≤ b → length (lines_of read) ≤ n → StopsWithin rules speech stop old held new held' (kept_of k (lines_of read)) → Stopped (StopsWithin rules speech stop old held new held')
+      unfolding Stopped
+      stopped-last stop is_ended le few stops = (
         true,
         (λ yes. is_ended),
         λ whole all.
-            subst (λ (t : Bool). StopsWithin rules speech stop old held new held' (lines_within b t read)) (sym (all refl))
-            (subst (λ (ls : List (List ℕ)). StopsWithin rules speech stop old held new held' ls) (append-nil (lines_of read) ∙ sym (within_all b n read le))
+            subst (λ (t : Bool). StopsWithin rules speech stop old held new held' (take n (lines_within b t read))) (sym (all refl))
+            (subst (λ (ls : List (List ℕ)). StopsWithin rules speech stop old held new held' ls) (append-nil (lines_of read) ∙ sym (all_lines le few))
             (stops_front stop (lines_of read) (kept_of k (lines_of read)) [] [] (sym (append-nil (kept_of k (lines_of read)))) stops)),
       )
 
       pub HaltedAt : LineHalt Stop → Type 0
       HaltedAt halts.Read = (IsPast b n read → ⊥) × TakesLines rules speech old held new held' (take n (lines_within b false read))
-      HaltedAt halts.NoMemory = Begun (StopsWithin rules speech stops.NoMemory old held new held')
+      HaltedAt halts.NoMemory = Stopped (StopsWithin rules speech stops.NoMemory old held new held')
       HaltedAt halts.TooLong = IsPast b n read × ((whole : Bool) → TakesLines rules speech old held new held' (take n (lines_within b whole read)))
       HaltedAt halts.TooMany = IsPast b n read × ((whole : Bool) → TakesLines rules speech old held new held' (take n (lines_within b whole read)))
-      HaltedAt (halts.Stopped stop) = Begun (StopsWithin rules speech stop old held new held')
+      HaltedAt (halts.Stopped stop) = Stopped (StopsWithin rules speech stop old held new held')
 
       pub halted-at : (halt : LineHalt Stop) → IsLineHalt halt b n k (TakesLines rules speech old held new held') (λ lines stop. StopsWithin rules speech stop old held new held' lines) left read → HaltedAt halt
       unfolding HaltedAt
       halted-at halts.Read h = taken-read h.0 h.1 h.2
-      halted-at halts.NoMemory h = stopped-within stops.NoMemory h.0 h.1 h.2 (starved h.0 h.3)
+      halted-at halts.NoMemory h = stopped-within stops.NoMemory h.0 h.1 h.2 h.3 (starved h.0 h.4)
       halted-at halts.TooLong h = taken-long h.0 h.1 h.2
       halted-at halts.TooMany h = taken-many h.0 h.1
-      halted-at (halts.Stopped stop) (inl h) = stopped-within stop h.0 h.1 h.2 h.3
-      halted-at (halts.Stopped stop) (inr h) = stopped-last stop h.0 h.1 h.2
+      halted-at (halts.Stopped stop) (inl h) = stopped-within stop h.0 h.1 h.2 h.3 h.4
+      halted-at (halts.Stopped stop) (inr h) = stopped-last stop h.0 h.1 h.2 h.3
+
+      stopped-is : (stop : Stop) → b ≡ most_bytes → n ≡ most_lines → Stopped (StopsWithin rules speech stop old held new held')
+          → (ended : Bool) × (ended ≡ true → IsEnded left) × ((whole : Bool) → (ended ≡ true → whole ≡ true) → StopsWithin rules speech stop old held new held' (lines_read whole read))
+      unfolding Stopped
+      stopped-is stop bytes lines h =
+          subst (λ x. (ended : Bool) × (ended ≡ true → IsEnded left) × ((whole : Bool) → (ended ≡ true → whole ≡ true) → StopsWithin rules speech stop old held new held' (take most_lines (lines_within x whole read)))) bytes
+          (subst (λ x. (ended : Bool) × (ended ≡ true → IsEnded left) × ((whole : Bool) → (ended ≡ true → whole ≡ true) → StopsWithin rules speech stop old held new held' (take x (lines_within b whole read)))) lines h)
 
       pub halted-is : (halt : LineHalt Stop) → b ≡ most_bytes → n ≡ most_lines → HaltedAt halt → LinesHalted rules speech halt old held new held' left read
-      unfolding HaltedAt Begun
+      unfolding HaltedAt Stopped
       halted-is halts.Read bytes lines h = subst (λ x. (IsPast x most_lines read → ⊥) × TakesLines rules speech old held new held' (take most_lines (lines_within x false read))) bytes
           (subst (λ x. (IsPast b x read → ⊥) × TakesLines rules speech old held new held' (take x (lines_within b false read))) lines h)
-      halted-is halts.NoMemory bytes lines h =
-          subst (λ x. (ended : Bool) × (ended ≡ true → IsEnded left) × ((whole : Bool) → (ended ≡ true → whole ≡ true) → StopsWithin rules speech stops.NoMemory old held new held' (lines_within x whole read))) bytes h
+      halted-is halts.NoMemory bytes lines h = stopped-is stops.NoMemory bytes lines h
       halted-is halts.TooLong bytes lines h = subst (λ x. IsPast x most_lines read × ((whole : Bool) → TakesLines rules speech old held new held' (take most_lines (lines_within x whole read)))) bytes
           (subst (λ x. IsPast b x read × ((whole : Bool) → TakesLines rules speech old held new held' (take x (lines_within b whole read)))) lines h)
       halted-is halts.TooMany bytes lines h = subst (λ x. IsPast x most_lines read × ((whole : Bool) → TakesLines rules speech old held new held' (take most_lines (lines_within x whole read)))) bytes
           (subst (λ x. IsPast b x read × ((whole : Bool) → TakesLines rules speech old held new held' (take x (lines_within b whole read)))) lines h)
-      halted-is (halts.Stopped stop) bytes lines h =
-          subst (λ x. (ended : Bool) × (ended ≡ true → IsEnded left) × ((whole : Bool) → (ended ≡ true → whole ≡ true) → StopsWithin rules speech stop old held new held' (lines_within x whole read))) bytes h
+      halted-is (halts.Stopped stop) bytes lines h = stopped-is stop bytes lines h

@@ -1,4 +1,5 @@
 pub mod Turning
+pub mod Counting
 pub mod Worlds
 pub mod Telling
 pub mod Standings

@@ -1,6 +1,6 @@
 -- What a turn comes to for the pass that took it.
 use Rattle.std.proofs.Common.{◌≡◌, true, List, Option, Some, None, Result, Ok, Err, sym, ◌∙◌, ap, subst}
-use Rattle.std.specs.Prelude.{IfOk, IfSome, IfNone, OnErr}
+use Rattle.std.specs.Prelude.{IfOk, IfSome, IfNone, OnOk, OnErr}
 use Rattle.ug_board.specs.Entry.{Entry}
 use Rattle.ug_board.specs.Rules.{Rules}
 use Rattle.ug_board.specs.History.{BoardState, IsLegal, replay, state_of}
@@ -23,6 +23,10 @@ if-some P Q None f h = tt
 pub if-none : {A : Type 0} (P Q : Type 0) (r : Option A) → (P → Q) → IfNone r P → IfNone r Q
 if-none P Q (Some x) f h = tt
 if-none P Q None f h = f h
+
+pub on-ok : {A E : Type 0} (P Q : Type 0) (r : Result A E) → (P → Q) → OnOk r P → OnOk r Q
+on-ok P Q (Ok x) f h = f h
+on-ok P Q (Err e) f h = tt
 
 pub on-err : {A E : Type 0} (P Q : Type 0) (r : Result A E) → (P → Q) → OnErr r P → OnErr r Q
 on-err P Q (Ok x) f h = tt

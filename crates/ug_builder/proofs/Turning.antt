@@ -31,7 +31,7 @@ adds_further {E} owner number a b c one two =
     (one.0 ++ two.0, two.1 ∙ ap (λ (z : List E). z ++ two.0) one.1 ∙ append_assoc a one.0 two.0, All-append (λ e. owner e ≡ number) one.0 two.0 one.2 two.2)
 
 -- what adds nothing is nothing
-append-same : {A : Type 0} (xs ys : List A) → xs ++ ys ≡ xs → ys ≡ []
+pub append-same : {A : Type 0} (xs ys : List A) → xs ++ ys ≡ xs → ys ≡ []
 append-same [] ys same = same
 append-same (x ∷ xs) ys same = append-same xs ys (cc same)
 

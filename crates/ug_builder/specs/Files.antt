@@ -19,11 +19,8 @@ abbrev pub IsPast : ℕ → ℕ → List ℕ → Type 0
 IsPast bytes lines read = (bytes < length read) ⊎ (lines < length (ended_from [] read) + length (where_some (rest_from [] read)))
 
 -- the same of a file, and of its limits
-abbrev pub lines_begun : Bool → List ℕ → List (List ℕ)
-lines_begun whole read = lines_within most_bytes whole read
-
 abbrev pub lines_read : Bool → List ℕ → List (List ℕ)
-lines_read whole read = take most_lines (lines_begun whole read)
+lines_read whole read = take most_lines (lines_within most_bytes whole read)
 
 abbrev pub IsPastLimits : List ℕ → Type 0
 IsPastLimits read = IsPast most_bytes most_lines read

@@ -1,4 +1,5 @@
 pub mod Turns
+pub mod Counts
 pub mod Standing
 pub mod StandingLaws
 pub mod Files

@@ -15,8 +15,9 @@ use Rattle.ug_builder.specs.declared.stop.Stop.TheVariants as stops
 use Rattle.ug_builder.specs.declared.reading.End.{End}
 use Rattle.ug_builder.specs.declared.reading.End.TheVariants as ends
 use Rattle.ug_builder.specs.Turns.{IsEndedAt}
+use Rattle.ug_builder.specs.Counts.{least_at, most_at, RisesBy, RisesWithin}
 use Rattle.ug_builder.specs.Standing.{said_by, BuilderView, IsSameBuilder, BuilderStands, BuilderStops, TakesLines, StopsWithin}
-use Rattle.ug_builder.specs.Files.{lines_begun, lines_read, IsPastLimits}
+use Rattle.ug_builder.specs.Files.{lines_read, IsPastLimits}
 
 -- the line before all others: the first event, where there is one
 abbrev pub first_of : Option Event → List (Reads Saying)
@@ -32,26 +33,28 @@ end_of halts.TooMany = ends.TooLong
 end_of (halts.Stopped stops.NoMemory) = ends.NoMemory
 end_of (halts.Stopped stops.Report) = ends.Report
 
--- What stands outside: what is left of the file, what the report holds, and how many faults each had.
+-- What stands outside: what is left of the file, what the report holds, how many faults each had, and how many steps
+-- were counted.
 pub record Outside : Type 0 where
   pub left : Option (List ℕ)
   pub reads_failed : ℕ
   pub held : Option (List ℕ)
   pub writes_failed : ℕ
+  pub steps : ℕ
 
 -- Whether the bytes behind the last newline count as a line: where the file was read to its end they do, and else it is
 -- left open. So it holds of the lines.
-abbrev pub OfLinesBegun : Option (List ℕ) → List ℕ → (List (List ℕ) → Type 0) → Type 0
-OfLinesBegun left read holds = (ended : Bool) × (ended ≡ true → IsEnded left) × ((whole : Bool) → (ended ≡ true → whole ≡ true) → holds (lines_begun whole read))
+abbrev pub OfLines : Option (List ℕ) → List ℕ → (List (List ℕ) → Type 0) → Type 0
+OfLines left read holds = (ended : Bool) × (ended ≡ true → IsEnded left) × ((whole : Bool) → (ended ≡ true → whole ≡ true) → holds (lines_read whole read))
 
 module _ {Opening State Job Said : Type 0} (rules : Rules Opening State Job Said) (speech : Speech Opening State Job Said) where
   -- Where the lines of a file were not all taken: which of them were, by why. The report held `held` before, and `held'` then.
   abbrev pub LinesHalted : LineHalt Stop → BuilderView Opening Job Said → Option (List ℕ) → BuilderView Opening Job Said → Option (List ℕ) → Option (List ℕ) → List ℕ → Type 0
   LinesHalted halts.Read old held new held' left read = (IsPastLimits read → ⊥) × TakesLines rules speech old held new held' (lines_read false read)
-  LinesHalted halts.NoMemory old held new held' left read = OfLinesBegun left read (StopsWithin rules speech stops.NoMemory old held new held')
+  LinesHalted halts.NoMemory old held new held' left read = OfLines left read (StopsWithin rules speech stops.NoMemory old held new held')
   LinesHalted halts.TooLong old held new held' left read = IsPastLimits read × ((whole : Bool) → TakesLines rules speech old held new held' (lines_read whole read))
   LinesHalted halts.TooMany old held new held' left read = IsPastLimits read × ((whole : Bool) → TakesLines rules speech old held new held' (lines_read whole read))
-  LinesHalted (halts.Stopped stop) old held new held' left read = OfLinesBegun left read (StopsWithin rules speech stop old held new held')
+  LinesHalted (halts.Stopped stop) old held new held' left read = OfLines left read (StopsWithin rules speech stop old held new held')
 
   module _ (first : List (Reads Saying)) (old new : BuilderView Opening Job Said) (outside outside' : Outside) where
     -- The builder stands behind these lines of the file, with what the report holds now.
@@ -72,8 +75,8 @@ module _ {Opening State Job Said : Type 0} (rules : Rules Opening State Job Said
         IsEnded outside'.left × (IsPastLimits read → ⊥) × StandsBehind (lines_read true read) × IsEndedAt rules speech new.pass.root new.pass.seen
     EndsAt ends.Read read = (IsPastLimits read → ⊥) × StandsBehind (lines_read false read) × Rose outside.reads_failed outside'.reads_failed
     EndsAt ends.TooLong read = IsPastLimits read × ((whole : Bool) → StandsBehind (lines_read whole read))
-    EndsAt ends.NoMemory read = OfLinesBegun outside'.left read (StopsBefore stops.NoMemory) ⊎ IsNotBegun read
-    EndsAt ends.Report read = OfLinesBegun outside'.left read (StopsBefore stops.Report) × Rose outside.writes_failed outside'.writes_failed
+    EndsAt ends.NoMemory read = OfLines outside'.left read (StopsBefore stops.NoMemory) ⊎ IsNotBegun read
+    EndsAt ends.Report read = OfLines outside'.left read (StopsBefore stops.Report) × Rose outside.writes_failed outside'.writes_failed
 
     -- From a builder that stands behind no lines, so the reading ended.
     pub record HasEnded (end : End) : Type 0 where
@@ -82,6 +85,8 @@ module _ {Opening State Job Said : Type 0} (rules : Rules Opening State Job Said
       pub unharmed : (end ≡ ends.Read → ⊥) → outside'.reads_failed ≡ outside.reads_failed
       pub reads : outside.reads_failed ≤ outside'.reads_failed
       pub writes : outside.writes_failed ≤ outside'.writes_failed
+      pub least : RisesBy outside.steps outside'.steps (least_at rules old.pass.root old.pass.seen) (least_at rules old.pass.root new.pass.seen)
+      pub most : end ≡ ends.Complete → RisesWithin outside.steps outside'.steps (most_at rules old.pass.root old.pass.seen) (most_at rules old.pass.root new.pass.seen)
 
     -- the same of an end that is known once all is done
     abbrev pub IsRead : Option End → Type 0

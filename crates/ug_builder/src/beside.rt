@@ -50,8 +50,8 @@ pub fn read_beside<R: Threads + Wait + Sync, W: Wire, S: Speaker, E: Source, K: 
     requires crew { AreHere turnstile.now.id crew }
     requires form { IfSome reading.old.first (λ event. IsEvent (event_of event)) }
     ensures ended { IsRead S.Machine.rules S.speech (first_of reading.old.first) reading.old.builder reading.new.builder
-        (record { left = E.left source.old; reads_failed = E.faults source.old; held = K.held report.old; writes_failed = K.faults report.old })
-        (record { left = E.left source.new; reads_failed = E.faults source.new; held = K.held report.new; writes_failed = K.faults report.new }) reading.new.end }
+        (record { left = E.left source.old; reads_failed = E.faults source.old; held = K.held report.old; writes_failed = K.faults report.old; steps = steps.old })
+        (record { left = E.left source.new; reads_failed = E.faults source.new; held = K.held report.new; writes_failed = K.faults report.new; steps = steps.new }) reading.new.end }
     ensures posts { posts result.items ≡ crew }
     ensures files { E.files source.new ≡ E.files source.old }
     ensures is_picked { E.is_picked source.new ≡ E.is_picked source.old }
@@ -111,8 +111,8 @@ fn beside<
     ensures report { result.1.report.ghost_name ≡ lent.entry.report.ghost_name }
     ensures steps { result.1.steps.ghost_name ≡ lent.entry.steps.ghost_name }
     ensures ended { IsRead S.Machine.rules S.speech (first_of lent.entry.reading.now.first) lent.entry.reading.now.builder result.1.reading.now.builder
-        (record { left = E.left lent.entry.source.now; reads_failed = E.faults lent.entry.source.now; held = K.held lent.entry.report.now; writes_failed = K.faults lent.entry.report.now })
-        (record { left = E.left result.1.source.now; reads_failed = E.faults result.1.source.now; held = K.held result.1.report.now; writes_failed = K.faults result.1.report.now })
+        (record { left = E.left lent.entry.source.now; reads_failed = E.faults lent.entry.source.now; held = K.held lent.entry.report.now; writes_failed = K.faults lent.entry.report.now; steps = lent.entry.steps.now })
+        (record { left = E.left result.1.source.now; reads_failed = E.faults result.1.source.now; held = K.held result.1.report.now; writes_failed = K.faults result.1.report.now; steps = result.1.steps.now })
         result.1.reading.now.end }
     ensures files { E.files result.1.source.now ≡ E.files lent.entry.source.now }
     ensures is_picked { E.is_picked result.1.source.now ≡ E.is_picked lent.entry.source.now }
@@ -140,8 +140,8 @@ fn beside<
             ensures report { result.1.report.ghost_name ≡ lent.entry.report.ghost_name }
             ensures steps { result.1.steps.ghost_name ≡ lent.entry.steps.ghost_name }
             ensures ended { IsRead S.Machine.rules S.speech (first_of lent.entry.reading.now.first) lent.entry.reading.now.builder result.1.reading.now.builder
-                (record { left = E.left lent.entry.source.now; reads_failed = E.faults lent.entry.source.now; held = K.held lent.entry.report.now; writes_failed = K.faults lent.entry.report.now })
-                (record { left = E.left result.1.source.now; reads_failed = E.faults result.1.source.now; held = K.held result.1.report.now; writes_failed = K.faults result.1.report.now })
+                (record { left = E.left lent.entry.source.now; reads_failed = E.faults lent.entry.source.now; held = K.held lent.entry.report.now; writes_failed = K.faults lent.entry.report.now; steps = lent.entry.steps.now })
+                (record { left = E.left result.1.source.now; reads_failed = E.faults result.1.source.now; held = K.held result.1.report.now; writes_failed = K.faults result.1.report.now; steps = result.1.steps.now })
                 result.1.reading.now.end }
             ensures files { E.files result.1.source.now ≡ E.files lent.entry.source.now }
             ensures is_picked { E.is_picked result.1.source.now ≡ E.is_picked lent.entry.source.now }

@@ -8,6 +8,7 @@ ghost use Rattle.ug_events.specs.Views.{event_of};
 ghost use Rattle.ug_world.specs.Verdicts.{verdict};
 ghost use Rattle.ug_speaker.specs.Speech.{Prepares, Ends, MarksTold, TakesEvent};
 ghost use Rattle.ug_builder.specs.Turns.{GoesOn, Answers, answer_of};
+ghost use Rattle.ug_builder.specs.Counts.{least_of, most_of, RisesBy, RisesWithin};
 
 use crate::came::Came;
 use std::alloc::Global;
@@ -36,7 +37,8 @@ pub(crate) fn do_job<S: Speaker, L: Ledger>(
     ensures unchanged { OnErr result (board.new.history ≡ board.old.history) }
     ensures unspent { OnOk result (board.new.spent ≡ false) }
     ensures sound { IsLegal S.Machine.rules board.new.opening board.new.history }
-    ensures counted { steps.old ≤ steps.new }
+    ensures steps_least { RisesBy steps.old steps.new (least_of S.Machine.rules board.old.opening board.old.history) (least_of S.Machine.rules board.old.opening board.new.history) }
+    ensures steps_most { OnOk result (RisesWithin steps.old steps.new (most_of S.Machine.rules board.old.opening board.old.history) (most_of S.Machine.rules board.old.opening board.new.history)) }
 {
     if board.is_spent() || !board.machine().legal(&job) {
         return Err(NoMemory);
@@ -76,6 +78,8 @@ fn prepare<S: Speaker, R: Wait, L: Ledger>(
     ensures history { GoesOn S.Machine.rules S.speech board.old.history board.new.history }
     ensures unspent { OnOk result (board.new.spent ≡ false) }
     ensures legal { IsLegal S.Machine.rules board.new.opening board.new.history }
+    ensures steps_least { RisesBy steps.old steps.new (least_of S.Machine.rules board.old.opening board.old.history) (least_of S.Machine.rules board.old.opening board.new.history) }
+    ensures steps_most { OnOk result (RisesWithin steps.old steps.new (most_of S.Machine.rules board.old.opening board.old.history) (most_of S.Machine.rules board.old.opening board.new.history)) }
 {
     for _ in rt.forever() {
         let next = next_job(board, work)?;
@@ -113,6 +117,8 @@ fn take_event<S: Speaker, L: Ledger>(
     ensures answers { IfOk result (λ came. Answers S.Machine.rules S.speech board.old.opening (Ok (Says (event_of event))) (answer_of S.speech.marks came) board.old.history board.new.history) }
     ensures unchanged { OnErr result (board.new.history ≡ board.old.history) }
     ensures legal { IsLegal S.Machine.rules board.new.opening board.new.history }
+    ensures steps_least { RisesBy steps.old steps.new (least_of S.Machine.rules board.old.opening board.old.history) (least_of S.Machine.rules board.old.opening board.new.history) }
+    ensures steps_most { OnOk result (RisesWithin steps.old steps.new (most_of S.Machine.rules board.old.opening board.old.history) (most_of S.Machine.rules board.old.opening board.new.history)) }
 {
     match refusal_of(board, &event) {
         Some(number) => Ok(Came::Refused {
@@ -141,6 +147,8 @@ pub(crate) fn offer<S: Speaker, R: Wait, L: Ledger>(
     ensures answers { IfOk result (λ came. Answers S.Machine.rules S.speech board.old.opening (Ok (Says (event_of event))) (answer_of S.speech.marks came) board.old.history board.new.history) }
     ensures stopped { OnErr result (GoesOn S.Machine.rules S.speech board.old.history board.new.history) }
     ensures legal { IsLegal S.Machine.rules board.new.opening board.new.history }
+    ensures steps_least { RisesBy steps.old steps.new (least_of S.Machine.rules board.old.opening board.old.history) (least_of S.Machine.rules board.old.opening board.new.history) }
+    ensures steps_most { OnOk result (RisesWithin steps.old steps.new (most_of S.Machine.rules board.old.opening board.old.history) (most_of S.Machine.rules board.old.opening board.new.history)) }
 {
     if board.is_spent() {
         return Err(NoMemory);
@@ -161,6 +169,8 @@ pub(crate) fn mark<S: Speaker, R: Wait, L: Ledger>(
     ensures waits { IfOk result (λ marked. IfNone marked (GoesOn S.Machine.rules S.speech board.old.history board.new.history)) }
     ensures stopped { OnErr result (GoesOn S.Machine.rules S.speech board.old.history board.new.history) }
     ensures legal { IsLegal S.Machine.rules board.new.opening board.new.history }
+    ensures steps_least { RisesBy steps.old steps.new (least_of S.Machine.rules board.old.opening board.old.history) (least_of S.Machine.rules board.old.opening board.new.history) }
+    ensures steps_most { OnOk result (RisesWithin steps.old steps.new (most_of S.Machine.rules board.old.opening board.old.history) (most_of S.Machine.rules board.old.opening board.new.history)) }
 {
     if board.is_spent() {
         return Err(NoMemory);
@@ -181,6 +191,8 @@ fn close<S: Speaker, L: Ledger>(board: &mut Board<S>, steps: &mut Steps<L>) -> R
     ensures drained { OnOk result (S.speech.drained (state_of S.Machine.rules board.old) ≡ true → S.speech.drained (state_of S.Machine.rules board.new) ≡ true) }
     ensures closed { OnOk result (S.speech.closed (state_of S.Machine.rules board.new) ≡ true) }
     ensures legal { IsLegal S.Machine.rules board.new.opening board.new.history }
+    ensures steps_least { RisesBy steps.old steps.new (least_of S.Machine.rules board.old.opening board.old.history) (least_of S.Machine.rules board.old.opening board.new.history) }
+    ensures steps_most { OnOk result (RisesWithin steps.old steps.new (most_of S.Machine.rules board.old.opening board.old.history) (most_of S.Machine.rules board.old.opening board.new.history)) }
 {
     do_job(board, S::close_job(), steps)?;
     Ok(())
@@ -199,6 +211,8 @@ pub(crate) fn conclude<S: Speaker, R: Wait, L: Ledger>(
     ensures drained { IfOk result (λ told. told ≡ true → S.speech.drained (state_of S.Machine.rules board.new) ≡ true) }
     ensures closed { IfOk result (λ told. told ≡ true → S.speech.closed (state_of S.Machine.rules board.new) ≡ true) }
     ensures legal { IsLegal S.Machine.rules board.new.opening board.new.history }
+    ensures steps_least { RisesBy steps.old steps.new (least_of S.Machine.rules board.old.opening board.old.history) (least_of S.Machine.rules board.old.opening board.new.history) }
+    ensures steps_most { OnOk result (RisesWithin steps.old steps.new (most_of S.Machine.rules board.old.opening board.old.history) (most_of S.Machine.rules board.old.opening board.new.history)) }
 {
     if board.is_spent() {
         return Err(NoMemory);
@@ -217,6 +231,7 @@ pub(crate) fn break_off<S: Speaker, L: Ledger>(board: &mut Board<S>, steps: &mut
     ensures adds { Adds (λ entry. entry.pass) 0 board.old.history board.new.history }
     ensures history { GoesOn S.Machine.rules S.speech board.old.history board.new.history }
     ensures legal { IsLegal S.Machine.rules board.new.opening board.new.history }
+    ensures steps_least { RisesBy steps.old steps.new (least_of S.Machine.rules board.old.opening board.old.history) (least_of S.Machine.rules board.old.opening board.new.history) }
 {
     let Ok(()) = close(board, steps) else {
         return;

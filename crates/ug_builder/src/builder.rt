@@ -11,6 +11,7 @@ ghost use Rattle.ug_events.specs.Views.{event_of};
 ghost use Rattle.ug_report.specs.Report.{answer_texts};
 ghost use Rattle.ug_crew.specs.Posts.{AreHere};
 ghost use Rattle.ug_builder.specs.Turns.{GoesOn, AnswersAt, IsLegalAt, IsEndedAt, answer_of};
+ghost use Rattle.ug_builder.specs.Counts.{least_at, most_at, RisesBy, RisesWithin};
 ghost use Rattle.ug_builder.specs.Standing.{said_by, IsSameBuilder, BuilderStands, TakesLines, StopsWithin};
 
 use crate::came::Came;
@@ -114,6 +115,8 @@ impl<S: Speaker> Builder<S> {
         ensures answers { IfOk result (λ came. AnswersAt S.Machine.rules S.speech self.new.pass.root (Ok SaysSync) (answer_of S.speech.marks came) self.old.pass.seen self.new.pass.seen) }
         ensures stopped { OnErr result (GoesOn S.Machine.rules S.speech self.old.pass.seen self.new.pass.seen) }
         ensures legal { IsLegalAt S.Machine.rules S.speech self.new.pass.root self.new.pass.seen }
+        ensures steps_least { RisesBy steps.old steps.new (least_at S.Machine.rules self.old.pass.root self.old.pass.seen) (least_at S.Machine.rules self.old.pass.root self.new.pass.seen) }
+        ensures steps_most { OnOk result (RisesWithin steps.old steps.new (most_at S.Machine.rules self.old.pass.root self.old.pass.seen) (most_at S.Machine.rules self.old.pass.root self.new.pass.seen)) }
     {
         for _ in rt.forever() {
             let marked = mark_in_turn(rt, turnstile, &mut self.pass, steps)?;
@@ -142,6 +145,8 @@ impl<S: Speaker> Builder<S> {
         ensures answers { IfOk result (λ came. AnswersAt S.Machine.rules S.speech self.new.pass.root (said_by self.old.grammar line.now) (answer_of S.speech.marks came) self.old.pass.seen self.new.pass.seen) }
         ensures stopped { OnErr result (GoesOn S.Machine.rules S.speech self.old.pass.seen self.new.pass.seen) }
         ensures legal { IsLegalAt S.Machine.rules S.speech self.old.pass.root self.old.pass.seen → IsLegalAt S.Machine.rules S.speech self.new.pass.root self.new.pass.seen }
+        ensures steps_least { RisesBy steps.old steps.new (least_at S.Machine.rules self.old.pass.root self.old.pass.seen) (least_at S.Machine.rules self.old.pass.root self.new.pass.seen) }
+        ensures steps_most { OnOk result (RisesWithin steps.old steps.new (most_at S.Machine.rules self.old.pass.root self.old.pass.seen) (most_at S.Machine.rules self.old.pass.root self.new.pass.seen)) }
     {
         match read(self.grammar, self.alloc, line) {
             Ok(Line::Blank) => Ok(Came::Passed),
@@ -210,6 +215,8 @@ impl<S: Speaker> Builder<S> {
         ensures stopped { IfErr result (λ stop. StopsWithin S.Machine.rules S.speech stop self.old (K.held report.old) self.new (K.held report.new) (line.now ∷ [])) }
         ensures rose { IsErrOf result Stop.Report → Rose (K.faults report.old) (K.faults report.new) }
         ensures faults { K.faults report.old ≤ K.faults report.new }
+        ensures steps_least { RisesBy steps.old steps.new (least_at S.Machine.rules self.old.pass.root self.old.pass.seen) (least_at S.Machine.rules self.old.pass.root self.new.pass.seen) }
+        ensures steps_most { OnOk result (RisesWithin steps.old steps.new (most_at S.Machine.rules self.old.pass.root self.old.pass.seen) (most_at S.Machine.rules self.old.pass.root self.new.pass.seen)) }
     {
         let Ok(came) = self.come(rt, turnstile, crew, steps, line) else {
             return Err(Stop::NoMemory);
@@ -244,6 +251,8 @@ impl<S: Speaker> Builder<S> {
         ensures posts { crew.new ≡ crew.old }
         ensures taken { OnOk result ((held : Option (List ℕ)) → BuilderStands S.Machine.rules S.speech self.old [] [] held held → BuilderStands S.Machine.rules S.speech self.new (Ok (Says (event_of event)) ∷ []) [] held held) }
         ensures stopped { OnErr result ((held : Option (List ℕ)) → BuilderStands S.Machine.rules S.speech self.old [] [] held held → BuilderStands S.Machine.rules S.speech self.new [] [] held held) }
+        ensures steps_least { RisesBy steps.old steps.new (least_at S.Machine.rules self.old.pass.root self.old.pass.seen) (least_at S.Machine.rules self.old.pass.root self.new.pass.seen) }
+        ensures steps_most { OnOk result (RisesWithin steps.old steps.new (most_at S.Machine.rules self.old.pass.root self.old.pass.seen) (most_at S.Machine.rules self.old.pass.root self.new.pass.seen)) }
     {
         let Ok(_came) = offer_in_turn(rt, self.alloc, turnstile, &mut self.pass, event, steps)
         else {
@@ -269,6 +278,8 @@ impl<S: Speaker> Builder<S> {
         ensures history { GoesOn S.Machine.rules S.speech self.old.pass.seen self.new.pass.seen }
         ensures ended { OnOk result (IsEndedAt S.Machine.rules S.speech self.new.pass.root self.new.pass.seen) }
         ensures legal { IsLegalAt S.Machine.rules S.speech self.new.pass.root self.new.pass.seen }
+        ensures steps_least { RisesBy steps.old steps.new (least_at S.Machine.rules self.old.pass.root self.old.pass.seen) (least_at S.Machine.rules self.old.pass.root self.new.pass.seen) }
+        ensures steps_most { OnOk result (RisesWithin steps.old steps.new (most_at S.Machine.rules self.old.pass.root self.old.pass.seen) (most_at S.Machine.rules self.old.pass.root self.new.pass.seen)) }
     {
         for _ in rt.forever() {
             if conclude_in_turn(rt, turnstile, &mut self.pass, steps)? {
@@ -291,6 +302,7 @@ impl<S: Speaker> Builder<S> {
         ensures tally { self.new.tally ≡ self.old.tally }
         ensures history { GoesOn S.Machine.rules S.speech self.old.pass.seen self.new.pass.seen }
         ensures legal { IsLegalAt S.Machine.rules S.speech self.new.pass.root self.new.pass.seen }
+        ensures steps_least { RisesBy steps.old steps.new (least_at S.Machine.rules self.old.pass.root self.old.pass.seen) (least_at S.Machine.rules self.old.pass.root self.new.pass.seen) }
     {
         break_off_in_turn(rt, turnstile, &mut self.pass, steps);
     }

@@ -5,6 +5,7 @@ ghost use Rattle.ug_edge.specs.Told.{Rose, IsEnded};
 ghost use Rattle.ug_pieces.specs.Pieces.{HasRead, IsHalt};
 ghost use Rattle.ug_pieces.specs.LineSteps.{HasTakenLines, HasStoppedWithin};
 ghost use Rattle.ug_crew.specs.Posts.{AreHere};
+ghost use Rattle.ug_builder.specs.Counts.{least_at, most_at, RisesBy, RisesWithin};
 ghost use Rattle.ug_builder.specs.Standing.{IsSameBuilder, TakesLines, StopsWithin};
 ghost use Rattle.ug_builder.specs.Files.{lines_read, IsPastLimits};
 ghost use Rattle.ug_builder.specs.Reading.{LinesHalted};
@@ -69,6 +70,8 @@ fn read_ended<R: Wait, W: Wire, S: Speaker, L: Ledger, E: Source, K: Sink>(
     ensures is_picked { E.is_picked source.new ≡ E.is_picked source.old }
     ensures made { E.made source.new ≡ E.made source.old }
     ensures wire_faults { E.wire_faults source.new ≡ E.wire_faults source.old }
+    ensures steps_least { RisesBy steps.old steps.new (least_at S.Machine.rules builder.old.pass.root builder.old.pass.seen) (least_at S.Machine.rules builder.old.pass.root builder.new.pass.seen) }
+    ensures steps_most { OnOk result (RisesWithin steps.old steps.new (most_at S.Machine.rules builder.old.pass.root builder.old.pass.seen) (most_at S.Machine.rules builder.old.pass.root builder.new.pass.seen)) }
 {
     let mut buffer = match vec![in alloc; 0u8; PIECE] {
         Ok(buffer) => buffer,
@@ -125,6 +128,8 @@ pub(crate) fn read_events<R: Wait, W: Wire, S: Speaker, L: Ledger, E: Source, K:
     ensures is_picked { E.is_picked source.new ≡ E.is_picked source.old }
     ensures made { E.made source.new ≡ E.made source.old }
     ensures wire_faults { E.wire_faults source.new ≡ E.wire_faults source.old }
+    ensures steps_least { RisesBy steps.old steps.new (least_at S.Machine.rules builder.old.pass.root builder.old.pass.seen) (least_at S.Machine.rules builder.old.pass.root builder.new.pass.seen) }
+    ensures steps_most { OnOk result (RisesWithin steps.old steps.new (most_at S.Machine.rules builder.old.pass.root builder.old.pass.seen) (most_at S.Machine.rules builder.old.pass.root builder.new.pass.seen)) }
 {
     let mut begun = Begun {
         rest: Vec::new(alloc),

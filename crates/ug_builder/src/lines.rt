@@ -1,10 +1,11 @@
 //! Lines of a file, which a builder takes one by one as their bytes come.
 
-ghost use Rattle.std.specs.Prelude.{◌≡◌, ◌≤◌, ◌+◌, ◌++◌, ◌∷◌, [], take, OnOk, IfErr, IsErrOf};
+ghost use Rattle.std.specs.Prelude.{◌≡◌, ◌≤◌, ◌<◌, ◌+◌, ◌++◌, ◌∷◌, [], take, OnOk, IfErr, IsErrOf};
 ghost use Rattle.ug_edge.specs.Told.{Rose};
 ghost use Rattle.ug_pieces.specs.Lines.{where_some};
 ghost use Rattle.ug_pieces.specs.LineSteps.{HasTakenLines, HasStoppedWithin, HasStoppedAt};
 ghost use Rattle.ug_crew.specs.Posts.{AreHere};
+ghost use Rattle.ug_builder.specs.Counts.{least_at, most_at, RisesBy, RisesWithin};
 ghost use Rattle.ug_builder.specs.Standing.{IsSameBuilder, TakesLines, StopsWithin};
 
 use crate::begun::{Begun, keep_begun};
@@ -42,9 +43,11 @@ fn take_ended<R: Wait, W: Wire, S: Speaker, L: Ledger, K: Sink>(
     ensures kept { OnOk result (begun.new.kept ≡ begun.old.kept) }
     ensures most { OnOk result (begun.new.most ≡ begun.old.most) }
     ensures stopped { IfErr result (λ stop. HasStoppedAt stop (begun.old.count ≡ begun.old.most) ((builder.new ≡ builder.old) × (K.held report.new ≡ K.held report.old))
-        (λ why. StopsWithin S.Machine.rules S.speech why builder.old (K.held report.old) builder.new (K.held report.new) (take begun.old.kept (begun.old.rest.items ++ line.now) ∷ []))) }
+        (λ why. (begun.old.count < begun.old.most) × StopsWithin S.Machine.rules S.speech why builder.old (K.held report.old) builder.new (K.held report.new) (take begun.old.kept (begun.old.rest.items ++ line.now) ∷ []))) }
     ensures rose { IsErrOf result (LineStop.Stopped Stop.Report) → Rose (K.faults report.old) (K.faults report.new) }
     ensures faults { K.faults report.old ≤ K.faults report.new }
+    ensures steps_least { RisesBy steps.old steps.new (least_at S.Machine.rules builder.old.pass.root builder.old.pass.seen) (least_at S.Machine.rules builder.old.pass.root builder.new.pass.seen) }
+    ensures steps_most { OnOk result (RisesWithin steps.old steps.new (most_at S.Machine.rules builder.old.pass.root builder.old.pass.seen) (most_at S.Machine.rules builder.old.pass.root builder.new.pass.seen)) }
 {
     if begun.count == begun.most {
         return Err(LineStop::TooMany);
@@ -92,6 +95,8 @@ pub(crate) fn take_piece<R: Wait, W: Wire, S: Speaker, L: Ledger, K: Sink>(
         begun.old.kept begun.old.most begun.old.rest.items begun.old.count piece.now) }
     ensures rose { IsErrOf result (LineStop.Stopped Stop.Report) → Rose (K.faults report.old) (K.faults report.new) }
     ensures faults { K.faults report.old ≤ K.faults report.new }
+    ensures steps_least { RisesBy steps.old steps.new (least_at S.Machine.rules builder.old.pass.root builder.old.pass.seen) (least_at S.Machine.rules builder.old.pass.root builder.new.pass.seen) }
+    ensures steps_most { OnOk result (RisesWithin steps.old steps.new (most_at S.Machine.rules builder.old.pass.root builder.old.pass.seen) (most_at S.Machine.rules builder.old.pass.root builder.new.pass.seen)) }
 {
     let mut left = piece;
     while let Some((line, more)) = cut_at(b'\n', left) {
@@ -125,6 +130,8 @@ pub(crate) fn take_last<R: Wait, W: Wire, S: Speaker, L: Ledger, K: Sink>(
     ensures stopped { IfErr result (λ stop. HasStoppedAt stop ⊥ ⊥ (λ why. StopsWithin S.Machine.rules S.speech why builder.old (K.held report.old) builder.new (K.held report.new) (where_some begun.now.rest.items))) }
     ensures rose { IsErrOf result (LineStop.Stopped Stop.Report) → Rose (K.faults report.old) (K.faults report.new) }
     ensures faults { K.faults report.old ≤ K.faults report.new }
+    ensures steps_least { RisesBy steps.old steps.new (least_at S.Machine.rules builder.old.pass.root builder.old.pass.seen) (least_at S.Machine.rules builder.old.pass.root builder.new.pass.seen) }
+    ensures steps_most { OnOk result (RisesWithin steps.old steps.new (most_at S.Machine.rules builder.old.pass.root builder.old.pass.seen) (most_at S.Machine.rules builder.old.pass.root builder.new.pass.seen)) }
 {
     if begun.rest.is_empty() {
         return Ok(());

@@ -6,6 +6,7 @@ ghost use Rattle.ug_pieces.specs.Pieces.{HasRead};
 ghost use Rattle.ug_events.specs.Events.{IsEvent};
 ghost use Rattle.ug_events.specs.Views.{event_of};
 ghost use Rattle.ug_crew.specs.Posts.{AreHere};
+ghost use Rattle.ug_builder.specs.Counts.{least_at, most_at, RisesBy, RisesWithin};
 ghost use Rattle.ug_builder.specs.Standing.{said_by, IsSameBuilder, BuilderStands};
 ghost use Rattle.ug_builder.specs.Files.{lines_read, IsPastLimits};
 ghost use Rattle.ug_builder.specs.Reading.{Outside, first_of, end_of, EndsAt, HasEnded, IsRead};
@@ -64,8 +65,8 @@ impl<S: Speaker> Reading<S> {
         requires crew { AreHere turnstile.now.id crew.old }
         requires form { IfSome self.old.first (λ event. IsEvent (event_of event)) }
         ensures ended { IsRead S.Machine.rules S.speech (first_of self.old.first) self.old.builder self.new.builder
-            (record { left = E.left source.old; reads_failed = E.faults source.old; held = K.held report.old; writes_failed = K.faults report.old })
-            (record { left = E.left source.new; reads_failed = E.faults source.new; held = K.held report.new; writes_failed = K.faults report.new }) self.new.end }
+            (record { left = E.left source.old; reads_failed = E.faults source.old; held = K.held report.old; writes_failed = K.faults report.old; steps = steps.old })
+            (record { left = E.left source.new; reads_failed = E.faults source.new; held = K.held report.new; writes_failed = K.faults report.new; steps = steps.new }) self.new.end }
         ensures posts { crew.new ≡ crew.old }
         ensures files { E.files source.new ≡ E.files source.old }
         ensures is_picked { E.is_picked source.new ≡ E.is_picked source.old }
@@ -94,7 +95,7 @@ impl<S: Speaker> Reading<S> {
         steps: &mut Steps<L>,
     )
         requires here { self.old.builder.pass.turnstile ≡ turnstile.now.id }
-        ensures ended { (outside : Outside) → IsRead S.Machine.rules S.speech (first_of self.old.first) self.old.builder self.new.builder outside outside self.new.end }
+        ensures ended { (outside : Outside) → IsRead S.Machine.rules S.speech (first_of self.old.first) self.old.builder self.new.builder (record outside { steps = steps.old }) (record outside { steps = steps.new }) self.new.end }
     {
         self.builder.break_off(rt, turnstile, steps);
         self.end = Some(End::NoMemory);
@@ -117,8 +118,8 @@ fn run<R: Wait, W: Wire, S: Speaker, L: Ledger, E: Source, K: Sink>(
     requires crew { AreHere turnstile.now.id crew.old }
     requires form { IfSome first (λ event. IsEvent (event_of event)) }
     ensures ended { HasEnded S.Machine.rules S.speech (first_of first) builder.old builder.new
-        (record { left = E.left source.old; reads_failed = E.faults source.old; held = K.held report.old; writes_failed = K.faults report.old })
-        (record { left = E.left source.new; reads_failed = E.faults source.new; held = K.held report.new; writes_failed = K.faults report.new }) result }
+        (record { left = E.left source.old; reads_failed = E.faults source.old; held = K.held report.old; writes_failed = K.faults report.old; steps = steps.old })
+        (record { left = E.left source.new; reads_failed = E.faults source.new; held = K.held report.new; writes_failed = K.faults report.new; steps = steps.new }) result }
     ensures posts { crew.new ≡ crew.old }
     ensures files { E.files source.new ≡ E.files source.old }
     ensures is_picked { E.is_picked source.new ≡ E.is_picked source.old }
@@ -164,8 +165,8 @@ fn take_all<R: Wait, W: Wire, S: Speaker, L: Ledger, E: Source, K: Sink>(
         × BuilderStands S.Machine.rules S.speech builder.new (first_of first) (map (said_by builder.old.grammar) (lines_read true read)) (K.held report.old) (K.held report.new))) }
     ensures halted { IfErr result (λ end. BuilderStands S.Machine.rules S.speech builder.old [] [] (K.held report.old) (K.held report.old) → HasRead (E.left source.old) (E.left source.new)
         (EndsAt S.Machine.rules S.speech (first_of first) builder.old builder.new
-        (record { left = E.left source.old; reads_failed = E.faults source.old; held = K.held report.old; writes_failed = K.faults report.old })
-        (record { left = E.left source.new; reads_failed = E.faults source.new; held = K.held report.new; writes_failed = K.faults report.new }) end)) }
+        (record { left = E.left source.old; reads_failed = E.faults source.old; held = K.held report.old; writes_failed = K.faults report.old; steps = steps.old })
+        (record { left = E.left source.new; reads_failed = E.faults source.new; held = K.held report.new; writes_failed = K.faults report.new; steps = steps.new }) end)) }
     ensures incomplete { IsErrOf result End.Complete → ⊥ }
     ensures unharmed { (IsErrOf result End.Read → ⊥) → E.faults source.new ≡ E.faults source.old }
     ensures faults { E.faults source.old ≤ E.faults source.new }
@@ -174,6 +175,8 @@ fn take_all<R: Wait, W: Wire, S: Speaker, L: Ledger, E: Source, K: Sink>(
     ensures is_picked { E.is_picked source.new ≡ E.is_picked source.old }
     ensures made { E.made source.new ≡ E.made source.old }
     ensures wire_faults { E.wire_faults source.new ≡ E.wire_faults source.old }
+    ensures steps_least { RisesBy steps.old steps.new (least_at S.Machine.rules builder.old.pass.root builder.old.pass.seen) (least_at S.Machine.rules builder.old.pass.root builder.new.pass.seen) }
+    ensures steps_most { OnOk result (RisesWithin steps.old steps.new (most_at S.Machine.rules builder.old.pass.root builder.old.pass.seen) (most_at S.Machine.rules builder.old.pass.root builder.new.pass.seen)) }
 {
     let Ok(()) = admit_first(rt, turnstile, builder, first, crew, steps) else {
         return Err(End::NoMemory);
@@ -200,6 +203,8 @@ fn admit_first<R: Wait, W: Wire, S: Speaker, L: Ledger>(
     ensures posts { crew.new ≡ crew.old }
     ensures taken { OnOk result ((held : Option (List ℕ)) → BuilderStands S.Machine.rules S.speech builder.old [] [] held held → BuilderStands S.Machine.rules S.speech builder.new (first_of first) [] held held) }
     ensures stopped { OnErr result ((held : Option (List ℕ)) → BuilderStands S.Machine.rules S.speech builder.old [] [] held held → BuilderStands S.Machine.rules S.speech builder.new [] [] held held) }
+    ensures steps_least { RisesBy steps.old steps.new (least_at S.Machine.rules builder.old.pass.root builder.old.pass.seen) (least_at S.Machine.rules builder.old.pass.root builder.new.pass.seen) }
+    ensures steps_most { OnOk result (RisesWithin steps.old steps.new (most_at S.Machine.rules builder.old.pass.root builder.old.pass.seen) (most_at S.Machine.rules builder.old.pass.root builder.new.pass.seen)) }
 {
     match first {
         Some(event) => builder.admit(rt, turnstile, crew, steps, event),

@@ -5,6 +5,7 @@ ghost use Rattle.ug_turnstile.specs.Passes.{IsSamePass};
 ghost use Rattle.ug_events.specs.Events.{IsEvent, Says, SaysSync};
 ghost use Rattle.ug_events.specs.Views.{event_of};
 ghost use Rattle.ug_builder.specs.Turns.{GoesOn, AnswersAt, IsLegalAt, IsEndedAt, answer_of};
+ghost use Rattle.ug_builder.specs.Counts.{least_at, most_at, RisesBy, RisesWithin};
 
 use crate::board::{break_off, conclude, mark, offer};
 use crate::came::Came;
@@ -35,6 +36,8 @@ pub(crate) fn offer_in_turn<S: Speaker, R: Wait, L: Ledger>(
     ensures answers { IfOk result (λ came. AnswersAt S.Machine.rules S.speech pass.new.root (Ok (Says (event_of event))) (answer_of S.speech.marks came) pass.old.seen pass.new.seen) }
     ensures stopped { OnErr result (GoesOn S.Machine.rules S.speech pass.old.seen pass.new.seen) }
     ensures legal { IsLegalAt S.Machine.rules S.speech pass.new.root pass.new.seen }
+    ensures steps_least { RisesBy steps.old steps.new (least_at S.Machine.rules pass.old.root pass.old.seen) (least_at S.Machine.rules pass.old.root pass.new.seen) }
+    ensures steps_most { OnOk result (RisesWithin steps.old steps.new (most_at S.Machine.rules pass.old.root pass.old.seen) (most_at S.Machine.rules pass.old.root pass.new.seen)) }
 {
     let mut turn = turnstile.take(rt, pass);
     let came = offer(rt, alloc, turn.state(), event, steps);
@@ -58,6 +61,8 @@ pub(crate) fn mark_in_turn<S: Speaker, R: Wait, L: Ledger>(
     ensures waits { IfOk result (λ marked. IfNone marked (GoesOn S.Machine.rules S.speech pass.old.seen pass.new.seen)) }
     ensures stopped { OnErr result (GoesOn S.Machine.rules S.speech pass.old.seen pass.new.seen) }
     ensures legal { IsLegalAt S.Machine.rules S.speech pass.new.root pass.new.seen }
+    ensures steps_least { RisesBy steps.old steps.new (least_at S.Machine.rules pass.old.root pass.old.seen) (least_at S.Machine.rules pass.old.root pass.new.seen) }
+    ensures steps_most { OnOk result (RisesWithin steps.old steps.new (most_at S.Machine.rules pass.old.root pass.old.seen) (most_at S.Machine.rules pass.old.root pass.new.seen)) }
 {
     let mut turn = turnstile.take(rt, pass);
     let marked = mark(rt, turn.state(), steps);
@@ -80,6 +85,8 @@ pub(crate) fn conclude_in_turn<S: Speaker, R: Wait, L: Ledger>(
     ensures history { GoesOn S.Machine.rules S.speech pass.old.seen pass.new.seen }
     ensures ended { IfOk result (λ told. told ≡ true → IsEndedAt S.Machine.rules S.speech pass.new.root pass.new.seen) }
     ensures legal { IsLegalAt S.Machine.rules S.speech pass.new.root pass.new.seen }
+    ensures steps_least { RisesBy steps.old steps.new (least_at S.Machine.rules pass.old.root pass.old.seen) (least_at S.Machine.rules pass.old.root pass.new.seen) }
+    ensures steps_most { OnOk result (RisesWithin steps.old steps.new (most_at S.Machine.rules pass.old.root pass.old.seen) (most_at S.Machine.rules pass.old.root pass.new.seen)) }
 {
     let mut turn = turnstile.take(rt, pass);
     let concluded = conclude(rt, turn.state(), steps);
@@ -101,6 +108,7 @@ pub(crate) fn break_off_in_turn<S: Speaker, R: Wait, L: Ledger>(
     ensures free { pass.new.holds ≡ false }
     ensures history { GoesOn S.Machine.rules S.speech pass.old.seen pass.new.seen }
     ensures legal { IsLegalAt S.Machine.rules S.speech pass.new.root pass.new.seen }
+    ensures steps_least { RisesBy steps.old steps.new (least_at S.Machine.rules pass.old.root pass.old.seen) (least_at S.Machine.rules pass.old.root pass.new.seen) }
 {
     let mut turn = turnstile.take(rt, pass);
     break_off(turn.state(), steps);

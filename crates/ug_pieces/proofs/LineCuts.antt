@@ -110,15 +110,17 @@ module _ {S : Type 0} (P R : List (List ℕ) → Type 0) (Qs Rs : List (List ℕ
   pub within_stopped :
       {Same : Type 0} (stop : LineStop S)
       → (Same → (xs : List (List ℕ)) → P xs → R xs) → ((a b : List (List ℕ)) (s : S) → P a → Qs b s → Rs (a ++ b) s)
-      → HasStoppedAt stop (count ≡ most) Same (Qs (take kept (now ++ x) ∷ []))
+      → count ≤ most → HasStoppedAt stop (count ≡ most) Same (λ (s : S). (count < most) × Qs (take kept (now ++ x) ∷ []) s)
       → IsWithin P k m r piece now left n count kept most → HasStoppedWithin stop R Rs k m r n piece
-  within_stopped stops.NoMemory same ends at h = (
-    kept_of k h.done,
-    kept_of k (ended_from now left),
-    ap (kept_of k) h.lines ∙ map-append (take k) h.done (ended_from now left),
-    same at _ h.took,
-  )
-  within_stopped stops.TooMany same ends at h =
+  within_stopped stops.NoMemory same ends few at h =
+      let size : length (kept_of k h.done) ≡ length h.done = length-map h.done (take k) in (
+        kept_of k h.done,
+        kept_of k (ended_from now left),
+        ap (kept_of k) h.lines ∙ map-append (take k) h.done (ended_from now left),
+        omega (arith, size, h.counted, few, h.most_is),
+        same at _ h.took,
+      )
+  within_stopped stops.TooMany same ends few at h =
       let done = kept_of k h.done in
       let more = kept_of k (ended_from now left ++ where_some (rest_from r piece)) in
       let all : lines_from r piece ≡ h.done ++ (ended_from now left ++ where_some (rest_from r piece)) =
@@ -135,12 +137,15 @@ module _ {S : Type 0} (P R : List (List ℕ) → Type 0) (Qs Rs : List (List ℕ
       take_whole : (a b : List (List ℕ)) → take (length a) (a ++ b) ≡ a
       take_whole [] b = refl
       take_whole (z ∷ a) b = ap (λ (zs : List (List ℕ)). z ∷ zs) (take_whole a b)
-  within_stopped (stops.Stopped s) same ends at h = (
-    kept_of k (h.done ++ (now ++ x) ∷ []),
-    kept_of k (ended_from [] y),
-    ap (kept_of k) (next_lines P P R k m r piece now left x y n count kept most cut h) ∙ map-append (take k) (h.done ++ (now ++ x) ∷ []) (ended_from [] y),
-    subst (λ (ls : List (List ℕ)). Rs ls s) (next_kept P P R k m r piece now left x y n count kept most cut h) (ends _ _ s h.took at),
-  )
+  within_stopped (stops.Stopped s) same ends few at h =
+      let done = h.done ++ (now ++ x) ∷ [] in
+      let size : length (kept_of k done) ≡ length h.done + 1 = length-map done (take k) ∙ length-append h.done ((now ++ x) ∷ []) in (
+        kept_of k done,
+        kept_of k (ended_from [] y),
+        ap (kept_of k) (next_lines P P R k m r piece now left x y n count kept most cut h) ∙ map-append (take k) done (ended_from [] y),
+        omega (arith, size, h.counted, at.0, h.most_is),
+        subst (λ (ls : List (List ℕ)). Rs ls s) (next_kept P P R k m r piece now left x y n count kept most cut h) (ends _ _ s h.took at.1),
+      )
 
 -- where what is left was kept, or not
 module _ {S : Type 0} (P : List (List ℕ) → Type 0) (Rs : List (List ℕ) → S → Type 0) (k m : ℕ) (r piece now left : List ℕ) (n count kept most : ℕ) (uncut : cut_at 10 left ≡ None) where
@@ -165,11 +170,13 @@ module _ {S : Type 0} (P : List (List ℕ) → Type 0) (Rs : List (List ℕ) →
   some_bytes (z ∷ a) b some = refl
 
   pub within_unkept :
-      (stop : LineStop S) → HasStoppedAt stop ((count ≡ most) × (0 < length left)) (Unit {0}) (λ (s : S). ⊥)
+      (stop : LineStop S) → count ≤ most → HasStoppedAt stop ((count ≡ most) × (0 < length left)) (Unit {0}) (λ (s : S). ⊥)
       → IsWithin P k m r piece now left n count kept most → HasStoppedWithin stop P Rs k m r n piece
-  within_unkept stops.NoMemory at h = (kept_of k h.done, [], ap (kept_of k) (ended h) ∙ sym (append-nil (kept_of k h.done)), h.took)
-  within_unkept (stops.Stopped s) at h = absurd at
-  within_unkept stops.TooMany at h =
+  within_unkept stops.NoMemory few at h =
+      let size : length (kept_of k h.done) ≡ length h.done = length-map h.done (take k) in
+      (kept_of k h.done, [], ap (kept_of k) (ended h) ∙ sym (append-nil (kept_of k h.done)), omega (arith, size, h.counted, few, h.most_is), h.took)
+  within_unkept (stops.Stopped s) few at h = absurd at
+  within_unkept stops.TooMany few at h =
       let done = kept_of k h.done in
       let last = where_some (rest_from r piece) in
       let size : length done ≡ length h.done = length-map h.done (take k) in

@@ -19,10 +19,15 @@ lines_kept : (k : ℕ) (bytes : List ℕ) → kept_of k (lines_of bytes) ≡ kep
 lines_kept k bytes = map-append (take k) (ended_from [] bytes) (where_some (rest_from [] bytes))
 
 -- a front of the lines that are ended, where none was begun before
-some_ended : (P : List (List ℕ) → Type 0) (k : ℕ) (r bytes : List ℕ) → r ≡ [] → TakesSome P (kept_of k (ended_from r bytes)) → TakesSome P (kept_of k (ended_from [] bytes))
-some_ended P k r bytes none some = subst (λ (f : List ℕ). TakesSome P (kept_of k (ended_from f bytes))) none some
+some_ended : (P : List (List ℕ) → Type 0) (k m n : ℕ) (r bytes : List ℕ) → r ≡ [] → n ≡ 0 → TakesSome m n P (kept_of k (ended_from r bytes)) → TakesSome m 0 P (kept_of k (ended_from [] bytes))
+some_ended P k m n r bytes none zero some = subst (λ (f : List ℕ). TakesSome m 0 P (kept_of k (ended_from f bytes))) none (subst (λ (j : ℕ). TakesSome m j P (kept_of k (ended_from r bytes))) zero some)
 
 module _ {S : Type 0} (P : List (List ℕ) → Type 0) (Qs : List (List ℕ) → S → Type 0) (k m limit : ℕ) (r : List ℕ) (none : r ≡ []) (left now : Option (List ℕ)) where
+  no_line : (read : List ℕ) → read ≡ [] → 0 + length (kept_of k (ended_from r read)) ≤ m
+  unfolding ended_from
+  no_line [] is = omega arith
+  no_line (b ∷ read) is = absurd cc
+
   -- memory was wanting before anything was read
   unread :
       (r' : List ℕ) (n n' k' m' : ℕ)
@@ -33,15 +38,15 @@ module _ {S : Type 0} (P : List (List ℕ) → Type 0) (Qs : List (List ℕ) →
       record {
         read = h.read;
         taken = h.taken;
-        so = subst (λ (bytes : List ℕ). TakesSome P (kept_of k (ended_from [] bytes))) (sym none_read)
-            (some_ended P k r h.read none (kept_of k (ended_from r h.read), [], sym (append-nil (kept_of k (ended_from r h.read))), h.so.1.took));
+        so = subst (λ (bytes : List ℕ). TakesSome m 0 P (kept_of k (ended_from [] bytes))) (sym none_read)
+            (some_ended P k m 0 r h.read none refl (kept_of k (ended_from r h.read), [], sym (append-nil (kept_of k (ended_from r h.read))), no_line h.read h.so.0, h.so.1.took));
       }
 
-  starved : (n : ℕ) → HasRead left now (λ read. HasStoppedWithin {S = S} stops.NoMemory P Qs k m r n (take limit read)) → HasRead left now (IsLineHalt {S = S} halts.NoMemory limit m k P Qs now)
-  starved n h = record { read = h.read; taken = h.taken; so = some_ended P k r (take limit h.read) none h.so }
+  starved : (n : ℕ) → n ≡ 0 → HasRead left now (λ read. HasStoppedWithin {S = S} stops.NoMemory P Qs k m r n (take limit read)) → HasRead left now (IsLineHalt {S = S} halts.NoMemory limit m k P Qs now)
+  starved n zero h = record { read = h.read; taken = h.taken; so = some_ended P k m n r (take limit h.read) none zero h.so }
 
-  stopped : (stop : S) (n : ℕ) → HasRead left now (λ read. HasStoppedWithin (stops.Stopped stop) P Qs k m r n (take limit read)) → HasRead left now (IsLineHalt (halts.Stopped stop) limit m k P Qs now)
-  stopped stop n h = record { read = h.read; taken = h.taken; so = inl (some_ended (λ (ls : List (List ℕ)). Qs ls stop) k r (take limit h.read) none h.so) }
+  stopped : (stop : S) (n : ℕ) → n ≡ 0 → HasRead left now (λ read. HasStoppedWithin (stops.Stopped stop) P Qs k m r n (take limit read)) → HasRead left now (IsLineHalt (halts.Stopped stop) limit m k P Qs now)
+  stopped stop n zero h = record { read = h.read; taken = h.taken; so = inl (some_ended (λ (ls : List (List ℕ)). Qs ls stop) k m n r (take limit h.read) none zero h.so) }
 
   too_many : (n : ℕ) → n ≡ 0 → HasRead left now (λ read. HasStoppedWithin {S = S} stops.TooMany P Qs k m r n (take limit read)) → HasRead left now (IsLineHalt {S = S} halts.TooMany limit m k P Qs now)
   too_many n zero h =
@@ -72,15 +77,18 @@ module _ (P : List (List ℕ) → Type 0) (k m limit : ℕ) (r r' : List ℕ) (n
       ∙ ap (λ (ls : List (List ℕ)). kept_of k (ended_from [] read) ++ ls) last
       ∙ sym (lines_kept k read)
 
+  last_size : (read : List ℕ) → HasTakenLines P k m r r' n n' k' m' read → length (lines_of read) ≡ length (ended_from r read) + length (where_some r')
+  last_size read h =
+      sym (length-map (lines_of read) (take k)) ∙ sym (ap length (last_kept read h)) ∙ length-append (kept_of k (ended_from r read)) (where_some r')
+      ∙ ap (λ (j : ℕ). j + length (where_some r')) (length-map (ended_from r read) (take k))
+
   pub all_taken :
       (R : List (List ℕ) → Type 0) → n' + length (where_some r') ≤ m' → ((front : List (List ℕ)) → P front → R (front ++ where_some r'))
       → HasRead left now (λ read. IsEnded now × (length read ≤ limit) × HasTakenLines P k m r r' n n' k' m' read)
       → HasRead left now (λ read. IsEnded now × (length read ≤ limit) × (length (lines_of read) ≤ m) × R (kept_of k (lines_of read)))
   all_taken R room join h =
       let is = last_kept h.read h.so.2 in
-      let size : length (lines_of h.read) ≡ length (ended_from r h.read) + length (where_some r') =
-      sym (length-map (lines_of h.read) (take k)) ∙ sym (ap length is) ∙ length-append (kept_of k (ended_from r h.read)) (where_some r')
-      ∙ ap (λ (j : ℕ). j + length (where_some r')) (length-map (ended_from r h.read) (take k)) in
+      let size = last_size h.read h.so.2 in
       record {
         read = h.read;
         taken = h.taken;
@@ -88,26 +96,27 @@ module _ (P : List (List ℕ) → Type 0) (k m limit : ℕ) (r r' : List ℕ) (n
       }
 
   at_last :
-      {S : Type 0} (R : List (List ℕ) → Type 0) (Rs : List (List ℕ) → S → Type 0) (stop : S) → ((front : List (List ℕ)) → P front → Rs (front ++ where_some r') stop)
+      {S : Type 0} (R : List (List ℕ) → Type 0) (Rs : List (List ℕ) → S → Type 0) (stop : S) → n' + length (where_some r') ≤ m' → ((front : List (List ℕ)) → P front → Rs (front ++ where_some r') stop)
       → HasRead left now (λ read. IsEnded now × (length read ≤ limit) × HasTakenLines P k m r r' n n' k' m' read)
       → HasRead left now (IsLineHalt (halts.Stopped stop) limit m k R Rs now)
-  at_last R Rs stop join h =
+  at_last R Rs stop room join h =
       let is = last_kept h.read h.so.2 in
+      let size = last_size h.read h.so.2 in
       record {
         read = h.read;
         taken = h.taken;
-        so = inr (h.so.0, h.so.1, subst (λ (ls : List (List ℕ)). Rs ls stop) is (join (kept_of k (ended_from r h.read)) h.so.2.took));
+        so = inr (h.so.0, h.so.1, omega (arith, size, room, h.so.2.counted, h.so.2.most_is, zero), subst (λ (ls : List (List ℕ)). Rs ls stop) is (join (kept_of k (ended_from r h.read)) h.so.2.took));
       }
 
   pub last_stopped :
       {S : Type 0} (R : List (List ℕ) → Type 0) (Qs : List (List ℕ) → S → Type 0) (Rs : List (List ℕ) → S → Type 0) (stop : LineStop S)
       → ((front : List (List ℕ)) (s : S) → P front → Qs (where_some r') s → Rs (front ++ where_some r') s)
-      → HasStoppedAt stop ⊥ ⊥ (Qs (where_some r'))
+      → n' + length (where_some r') ≤ m' → HasStoppedAt stop ⊥ ⊥ (Qs (where_some r'))
       → HasRead left now (λ read. IsEnded now × (length read ≤ limit) × HasTakenLines P k m r r' n n' k' m' read)
       → HasRead left now (IsLineHalt (halt_of_stop stop) limit m k R Rs now)
-  last_stopped R Qs Rs stops.NoMemory join at h = absurd at
-  last_stopped R Qs Rs stops.TooMany join at h = absurd at.0
-  last_stopped R Qs Rs (stops.Stopped s) join at h = at_last R Rs s (λ front took. join front s took at) h
+  last_stopped R Qs Rs stops.NoMemory join room at h = absurd at
+  last_stopped R Qs Rs stops.TooMany join room at h = absurd at.0
+  last_stopped R Qs Rs (stops.Stopped s) join room at h = at_last R Rs s room (λ front took. join front s took at) h
 
 -- reading that ended early
 module _ {S : Type 0} (P : List (List ℕ) → Type 0) (Qs : List (List ℕ) → S → Type 0) (k m limit : ℕ) (r r' : List ℕ) (n n' k' m' : ℕ) (none : r ≡ []) (zero : n ≡ 0) (some : 0 < k) (room : n' + length (where_some r') ≤ m') (left now : Option (List ℕ)) where
@@ -117,10 +126,7 @@ module _ {S : Type 0} (P : List (List ℕ) → Type 0) (Qs : List (List ℕ) →
       → HasRead left now (IsLineHalt (halt_of_pieces halt) limit m k P Qs now)
   read_halted piece_halts.Read h =
       let none_ended : ended_from r h.read ≡ ended_from [] h.read = ap (λ (f : List ℕ). ended_from f h.read) none in
-      let is = last_kept P k m limit r r' n n' k' m' none zero some left now h.read h.so.1 in
-      let size : length (lines_of h.read) ≡ length (ended_from r h.read) + length (where_some r') =
-      sym (length-map (lines_of h.read) (take k)) ∙ sym (ap length is) ∙ length-append (kept_of k (ended_from r h.read)) (where_some r')
-      ∙ ap (λ (j : ℕ). j + length (where_some r')) (length-map (ended_from r h.read) (take k)) in
+      let size = last_size P k m limit r r' n n' k' m' none zero some left now h.read h.so.1 in
       record {
         read = h.read;
         taken = h.taken;
@@ -129,18 +135,15 @@ module _ {S : Type 0} (P : List (List ℕ) → Type 0) (Qs : List (List ℕ) →
   read_halted piece_halts.NoMemory h = unread P Qs k m limit r none left now r' n n' k' m' h
   read_halted piece_halts.TooLong h =
       let within = take limit h.read in
-      let is = last_kept P k m limit r r' n n' k' m' none zero some left now within h.so.1 in
-      let size : length (lines_of within) ≡ length (ended_from r within) + length (where_some r') =
-      sym (length-map (lines_of within) (take k)) ∙ sym (ap length is) ∙ length-append (kept_of k (ended_from r within)) (where_some r')
-      ∙ ap (λ (j : ℕ). j + length (where_some r')) (length-map (ended_from r within) (take k)) in
+      let size = last_size P k m limit r r' n n' k' m' none zero some left now within h.so.1 in
       record {
         read = h.read;
         taken = h.taken;
         so = (h.so.0, omega (arith, size, room, h.so.1.counted, h.so.1.most_is, zero), subst (λ (f : List ℕ). P (kept_of k (ended_from f within))) none h.so.1.took);
       }
-  read_halted (piece_halts.Stopped stops.NoMemory) h = starved P Qs k m limit r none left now n h
+  read_halted (piece_halts.Stopped stops.NoMemory) h = starved P Qs k m limit r none left now n zero h
   read_halted (piece_halts.Stopped stops.TooMany) h = too_many P Qs k m limit r none left now n zero h
-  read_halted (piece_halts.Stopped (stops.Stopped s)) h = stopped P Qs k m limit r none left now s n h
+  read_halted (piece_halts.Stopped (stops.Stopped s)) h = stopped P Qs k m limit r none left now s n zero h
 
 -- A read that failed is told as such, and nothing else is.
 pub read_alone : {S : Type 0} (halt : Halt (LineStop S)) → halt_of_pieces halt ≡ halts.Read → halt ≡ piece_halts.Read

@@ -142,14 +142,17 @@ takes_more_lines P Q R k m r r1 r2 n n1 n2 k1 k2 m1 m2 front more join h g =
     }
 
 some_later :
-    (P Q R : List (List ℕ) → Type 0) (k : ℕ) (r r1 front more : List ℕ) → r1 ≡ take k (rest_from r front) → ((a b : List (List ℕ)) → P a → Q b → R (a ++ b))
-    → P (kept_of k (ended_from r front)) → TakesSome Q (kept_of k (ended_from r1 more)) → TakesSome R (kept_of k (ended_from r (front ++ more)))
-some_later P Q R k r r1 front more is join took some =
-    let first = kept_of k (ended_from r front) in (
+    (P Q R : List (List ℕ) → Type 0) (k m n n1 : ℕ) (r r1 front more : List ℕ) → r1 ≡ take k (rest_from r front) → n1 ≡ n + length (ended_from r front)
+    → ((a b : List (List ℕ)) → P a → Q b → R (a ++ b))
+    → P (kept_of k (ended_from r front)) → TakesSome m n1 Q (kept_of k (ended_from r1 more)) → TakesSome m n R (kept_of k (ended_from r (front ++ more)))
+some_later P Q R k m n n1 r r1 front more is counted join took some =
+    let first = kept_of k (ended_from r front) in
+    let size : length first ≡ length (ended_from r front) = length-map (ended_from r front) (take k) in (
       first ++ some.0,
       some.1,
       ended_joined k r r1 front more is ∙ ap (λ (z : List (List ℕ)). first ++ z) some.2 ∙ sym (append_assoc first some.0 some.1),
-      join first some.0 took some.3,
+      omega (arith, size, counted, some.3, length-append first some.0),
+      join first some.0 took some.4,
     )
 
 module _ {S : Type 0} (P Q R : List (List ℕ) → Type 0) (Qs Rs : List (List ℕ) → S → Type 0) (k m : ℕ) (r r1 : List ℕ) (n n1 : ℕ) (front more : List ℕ) where
@@ -157,8 +160,8 @@ module _ {S : Type 0} (P Q R : List (List ℕ) → Type 0) (Qs Rs : List (List �
       (stop : LineStop S) → 0 < k → n1 ≤ m
       → ((a b : List (List ℕ)) → P a → Q b → R (a ++ b)) → ((a b : List (List ℕ)) (s : S) → P a → Qs b s → Rs (a ++ b) s)
       → HasTakenLines P k m r r1 n n1 k m front → HasStoppedWithin stop Q Qs k m r1 n1 more → HasStoppedWithin stop R Rs k m r n (front ++ more)
-  later stops.NoMemory some within join ends h g = some_later P Q R k r r1 front more h.rest_is join h.took g
-  later (stops.Stopped s) some within join ends h g = some_later P (λ b. Qs b s) (λ b. Rs b s) k r r1 front more h.rest_is (λ a b. ends a b s) h.took g
+  later stops.NoMemory some within join ends h g = some_later P Q R k m n n1 r r1 front more h.rest_is h.counted join h.took g
+  later (stops.Stopped s) some within join ends h g = some_later P (λ b. Qs b s) (λ b. Rs b s) k m n n1 r r1 front more h.rest_is h.counted (λ a b. ends a b s) h.took g
   later stops.TooMany some within join ends h g =
       let first = kept_of k (ended_from r front) in
       let next = kept_of k (lines_from r1 more) in

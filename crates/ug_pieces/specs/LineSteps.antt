@@ -23,10 +23,10 @@ lines_from rest bytes = ended_from rest bytes ++ where_some (rest_from rest byte
 
 -- Behind a line that begins with `rest`, and so many lines, not all of these bytes were taken.
 abbrev pub HasStoppedWithin : {S : Type 0} → LineStop S → (List (List ℕ) → Type 0) → (List (List ℕ) → S → Type 0) → ℕ → ℕ → List ℕ → ℕ → List ℕ → Type 0
-HasStoppedWithin stops.NoMemory takes stopped kept most rest before bytes = TakesSome takes (kept_of kept (ended_from rest bytes))
+HasStoppedWithin stops.NoMemory takes stopped kept most rest before bytes = TakesSome most before takes (kept_of kept (ended_from rest bytes))
 HasStoppedWithin stops.TooMany takes stopped kept most rest before bytes =
     (most < before + length (lines_from rest bytes)) × takes (take (most - before) (kept_of kept (lines_from rest bytes)))
-HasStoppedWithin (stops.Stopped stop) takes stopped kept most rest before bytes = TakesSome (λ front. stopped front stop) (kept_of kept (ended_from rest bytes))
+HasStoppedWithin (stops.Stopped stop) takes stopped kept most rest before bytes = TakesSome most before (λ front. stopped front stop) (kept_of kept (ended_from rest bytes))
 
 -- Why a line was not taken: there were so many lines, or memory was wanting and nothing changed, or what takes it stopped.
 abbrev pub HasStoppedAt : {S : Type 0} → LineStop S → Type 0 → Type 0 → (S → Type 0) → Type 0

@@ -1,5 +1,5 @@
 -- Bytes as lines: they are cut at each newline, and bytes behind the last newline are a line where there are any.
-use Rattle.std.specs.Prelude.{◌≡◌, ℕ, ◌<◌, ◌≤◌, ◌⊎◌, ◌==◌, List, [], ◌∷◌, ◌++◌, Option, map, length, take, if◌then◌else◌}
+use Rattle.std.specs.Prelude.{◌≡◌, ℕ, ◌+◌, ◌<◌, ◌≤◌, ◌⊎◌, ◌==◌, List, [], ◌∷◌, ◌++◌, Option, map, length, take, if◌then◌else◌}
 use Rattle.ug_edge.specs.Told.{IsEnded}
 use Rattle.ug_pieces.specs.declared.line_halt.LineHalt.{LineHalt}
 use Rattle.ug_pieces.specs.declared.line_halt.LineHalt.TheVariants as halts
@@ -26,24 +26,24 @@ lines_of bytes = ended_from [] bytes ++ where_some (rest_from [] bytes)
 abbrev pub kept_of : ℕ → List (List ℕ) → List (List ℕ)
 kept_of most lines = map (take most) lines
 
--- A front of these lines was taken.
-abbrev pub TakesSome : (List (List ℕ) → Type 0) → List (List ℕ) → Type 0
-TakesSome takes lines = (front : List (List ℕ)) × (more : List (List ℕ)) × (lines ≡ front ++ more) × takes front
+-- A front of these lines was taken, of no more than so many, where there were some before.
+abbrev pub TakesSome : ℕ → ℕ → (List (List ℕ) → Type 0) → List (List ℕ) → Type 0
+TakesSome most before takes lines = (front : List (List ℕ)) × (more : List (List ℕ)) × (lines ≡ front ++ more) × (before + length front ≤ most) × takes front
 
 -- At the end of the source, at its last line, what takes them stopped.
-abbrev pub IsStoppedAtEnd : ℕ → ℕ → (List (List ℕ) → Type 0) → Option (List ℕ) → List ℕ → Type 0
-IsStoppedAtEnd limit kept stopped now read = IsEnded now × (length read ≤ limit) × stopped (kept_of kept (lines_of read))
+abbrev pub IsStoppedAtEnd : ℕ → ℕ → ℕ → (List (List ℕ) → Type 0) → Option (List ℕ) → List ℕ → Type 0
+IsStoppedAtEnd limit lines kept stopped now read = IsEnded now × (length read ≤ limit) × (length (lines_of read) ≤ lines) × stopped (kept_of kept (lines_of read))
 
 -- What holds of the bytes that were read where reading ended early, and of what is left then. `lines` and `kept` are the
 -- most lines and the most bytes of one. Before the end of the source a line is taken only where a newline ends it, and at
--- a fault all of those were taken.
+-- a fault all of those were taken. No line is taken past the most.
 abbrev pub IsLineHalt : {S : Type 0} → LineHalt S → ℕ → ℕ → ℕ → (List (List ℕ) → Type 0) → (List (List ℕ) → S → Type 0) → Option (List ℕ) → List ℕ → Type 0
 IsLineHalt halts.Read limit lines kept taken stopped now read =
     (length read ≤ limit) × (length (lines_of read) ≤ lines) × taken (kept_of kept (ended_from [] read))
-IsLineHalt halts.NoMemory limit lines kept taken stopped now read = TakesSome taken (kept_of kept (ended_from [] (take limit read)))
+IsLineHalt halts.NoMemory limit lines kept taken stopped now read = TakesSome lines 0 taken (kept_of kept (ended_from [] (take limit read)))
 IsLineHalt halts.TooLong limit lines kept taken stopped now read =
     (limit < length read) × (length (lines_of (take limit read)) ≤ lines) × taken (kept_of kept (ended_from [] (take limit read)))
 IsLineHalt halts.TooMany limit lines kept taken stopped now read =
     (lines < length (lines_of (take limit read))) × taken (take lines (kept_of kept (lines_of (take limit read))))
 IsLineHalt (halts.Stopped stop) limit lines kept taken stopped now read =
-    TakesSome (λ front. stopped front stop) (kept_of kept (ended_from [] (take limit read))) ⊎ IsStoppedAtEnd limit kept (λ front. stopped front stop) now read
+    TakesSome lines 0 (λ front. stopped front stop) (kept_of kept (ended_from [] (take limit read))) ⊎ IsStoppedAtEnd limit lines kept (λ front. stopped front stop) now read

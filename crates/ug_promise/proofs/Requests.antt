@@ -3,7 +3,7 @@ use Rattle.std.proofs.Common.{◌≡◌, ℕ, ◌+◌, Bool, true, false, List, 
 use Rattle.std.specs.Prelude.{◌==◌, ◌&&◌, not, if◌then◌else◌}
 use Rattle.std.specs.List.{list_any}
 use Rattle.std.specs.Option.{option_map}
-use Rattle.ug_prefixlist.specs.Named.{same_name}
+use Rattle.ug_types.specs.Bytes.{same_bytes}
 use Rattle.ug_types.specs.declared.mark.Mark.{Mark}
 use Rattle.ug_types.specs.Messages.{Message}
 use Rattle.ug_board.specs.Entry.{Entry}
@@ -43,9 +43,9 @@ still_by true s s' is = is
 still_by false s s' is = (refl, refl)
 
 request_still : (e : Happening) (s : PeerState) → is_request e ≡ true → IsStill s (peer_after e s)
-request_still (AsksAgain name) s asks = still_by (same_name s.peer.name name) s (refiltered s) (refl, refl)
-request_still (SendsRequest name) s asks = still_by (same_name s.peer.name name) s (refiltered s) (refl, refl)
-request_still (SendsList name request) s asks = still_by (same_name s.peer.name name) s (with_orf request s) (refl, refl)
+request_still (AsksAgain name) s asks = still_by (same_bytes s.peer.name name) s (refiltered s) (refl, refl)
+request_still (SendsRequest name) s asks = still_by (same_bytes s.peer.name name) s (refiltered s) (refl, refl)
+request_still (SendsList name request) s asks = still_by (same_bytes s.peer.name name) s (with_orf request s) (refl, refl)
 request_still (ComesUp name) s asks = absurd cc
 request_still (GoesDown name) s asks = absurd cc
 request_still (HasPaths prefix paths) s asks = absurd cc

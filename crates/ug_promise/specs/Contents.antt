@@ -2,6 +2,7 @@
 use Rattle.std.specs.Prelude.{◌≡◌, ℕ, zero, suc, ◌+◌, ◌<◌, ◌==◌, Bool, true, false, not, List, [], ◌∷◌, slice_get, Option, Some, None, option_and_then}
 use Rattle.std.specs.List.{list_any}
 use Rattle.ug_types.specs.Messages.{Message}
+use Rattle.ug_types.specs.Bytes.{is_empty}
 
 -- what a wire tells: the bytes of its sessions, and how often a call of it failed
 pub record WireTold : Type 0 where
@@ -12,10 +13,6 @@ pub record WireTold : Type 0 where
 pub record Content : Type 0 where
   pub messages : List Message
   pub rest : List ℕ
-
-abbrev pub is_empty : List ℕ → Bool
-is_empty [] = true
-is_empty (b ∷ bytes) = false
 
 abbrev pub has_rest : Content → Bool
 has_rest c = not (is_empty c.rest)

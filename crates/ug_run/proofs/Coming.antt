@@ -1,9 +1,10 @@
 -- What a run comes to, by how its reading ended.
-use Rattle.std.proofs.Common.{◌≡◌, ℕ, ◌≤◌, Bool, true, false, List, [], ◌∷◌, ◌++◌, length, map, drop, Option, Some, None, inl, inr, refl, sym, ◌∙◌, ap, subst, append_assoc, arith}
+use Rattle.std.proofs.Common.{◌≡◌, ℕ, ◌≤◌, Bool, true, false, List, [], ◌∷◌, ◌++◌, length, map, Option, Some, None, inl, inr, refl, sym, ◌∙◌, ap, subst, append_assoc, arith}
 use Rattle.std.specs.Prelude.{◌&&◌, not, ◌⊎◌, ◌==◌}
 use Rattle.std.specs.List.{concat, list_any, flat_map}
-use Rattle.std.proofs.lemmas.List.{append-nil, map-append, take-append-drop}
+use Rattle.std.proofs.lemmas.List.{append-nil}
 use Rattle.ug_types.specs.declared.mark.Mark.{Mark}
+use Rattle.ug_types.specs.Bytes.{is_empty}
 use Rattle.ug_edge.specs.Told.{Rose, IsEnded, HasPicked, FileText, file_told, AppendsPiece}
 use Rattle.ug_pieces.specs.Pieces.{HasRead}
 use Rattle.ug_pieces.specs.Reporting.{AppendsFront}
@@ -27,21 +28,21 @@ use Rattle.ug_builder.specs.declared.stop.Stop.TheVariants as stops
 use Rattle.ug_builder.specs.declared.reading.End.{End}
 use Rattle.ug_builder.specs.declared.reading.End.TheVariants as ends
 use Rattle.ug_builder.specs.Standing.{said_by, AreLanes, IsTally, HasTaken, StandsAt, StopsAt, Stands, Stops, BuilderView, BuilderStands, BuilderStops}
-use Rattle.ug_builder.specs.Files.{lines_begun, lines_read, most_lines, IsPastLimits}
+use Rattle.ug_builder.specs.Files.{lines_read, IsPastLimits}
 use Rattle.ug_builder.specs.Turns.{IsEndedAt}
-use Rattle.ug_builder.specs.Reading.{Outside, OfLinesBegun, IsNotBegun, EndsAt}
+use Rattle.ug_builder.specs.Reading.{Outside, IsNotBegun, EndsAt}
 use Rattle.ug_commands.specs.Files.{IsPartOf, AgreesWithSite, AppendsThenStatus}
 use Rattle.ug_commands.specs.Statuses.{row_of, status_text}
 use Rattle.ug_commands.specs.declared.status.Status.{Status}
 use Rattle.ug_commands.specs.declared.status.Status.TheVariants as statuses
 use Rattle.ug_commands.proofs.Ends.{rest_of, part_read, no_rest, not_missing, agrees_read, then_status, later_status}
-use Rattle.ug_promise.specs.Contents.{WireTold, Content, is_empty}
+use Rattle.ug_promise.specs.Contents.{WireTold, Content}
 use Rattle.ug_promise.specs.Crew.{EachLaneFrom, IsCrewed, IsClosed, all_losses}
 use Rattle.ug_promise.specs.Kept.{IsKept, IsWireOf, IsWireRight, AreCounted}
 use Rattle.ug_promise.proofs.Lists.{each-front, each-join}
 use Rattle.ug_promise.proofs.Keeps.{closed-kept, each_wire_so}
 use Rattle.ug_run.specs.Ends.{last_text, IsFirst, IsConcluded, CompletesBy, IsFinished}
-use Rattle.ug_run.specs.Promise.{lines_within, lines_counted, IsLimited, texts, whole_text, HasReport, IsFirstLoss, IsDoneBy, IsRun}
+use Rattle.ug_run.specs.Promise.{lines_counted, IsLimited, texts, whole_text, HasReport, IsFirstLoss, IsDoneBy, IsRun}
 use Rattle.ug_run.proofs.Closing.{lines-sound, others-lanes, IsBehind, ended-all, story-all}
 
 -- ---- lines
@@ -56,11 +57,6 @@ both_true false = refl
 
 ended_empty : (left : Option (List ℕ)) → (ended : Bool) → (ended ≡ true → IsEnded left) → ended ≡ true → is_empty (rest_of left) ≡ true
 ended_empty left ended then is = ap is_empty (no_rest left (then is))
-
--- the lines that are read, and those past the limit on their number
-all_lines : (g : Grammar) (whole : Bool) (read : List ℕ) → map (said_by g) (lines_begun whole read) ≡ map (said_by g) (lines_read whole read) ++ map (said_by g) (drop most_lines (lines_begun whole read))
-all_lines g whole read =
-    sym (ap (map (said_by g)) (take-append-drop most_lines (lines_begun whole read))) ∙ map-append (said_by g) (lines_read whole read) (drop most_lines (lines_begun whole read))
 
 -- ---- reports
 
@@ -275,9 +271,6 @@ module _ {Opening State Job Said : Type 0} (rules : Rules Opening State Job Said
       counted_all : map (said_by grammar) (lines_read (is_empty (rest_of left') && true) read) ≡ said (lines_read true read) ++ []
       counted_all = ap (λ (t : Bool). said (lines_read t read)) is_whole ∙ sym (append-nil (said (lines_read true read)))
 
-      counted_some : map (said_by grammar) (lines_begun (is_empty (rest_of left') && true) read) ≡ said (lines_read true read) ++ said (drop most_lines (lines_begun true read))
-      counted_some = ap (λ (t : Bool). said (lines_begun t read)) is_whole ∙ all_lines grammar true read
-
       module _ (peers : ℕ) (peers_are : peers ≡ length wires) where
         abbrev Concludes : Status → Type 0
         Concludes status = IsConcluded b.names (losses_from 0 (all_losses 0 peers history)) b.tally.accepted b.tally.refused mid held failed status
@@ -319,8 +312,8 @@ module _ {Opening State Job Said : Type 0} (rules : Rules Opening State Job Said
             run_with statuses.ReportFault first lines stands.marks stands.taken (record {
               whole = λ no. absurd cc;
               limits = tt;
-              untaken = said (drop most_lines (lines_begun true read));
-              counted = counted_some;
+              untaken = [];
+              counted = counted_all;
               all_taken = λ no. absurd cc;
               is_ahead = inl refl;
               ahead_sound = first_sound;
@@ -335,8 +328,8 @@ module _ {Opening State Job Said : Type 0} (rules : Rules Opening State Job Said
         starved line = run_is statuses.NoMemory first (said (lines_read true read)) stands.marks stands.taken (record {
           whole = λ no. absurd cc;
           limits = tt;
-          untaken = said (drop most_lines (lines_begun true read));
-          counted = counted_some;
+          untaken = [];
+          counted = counted_all;
           all_taken = λ no. absurd cc;
           is_ahead = inl refl;
           ahead_sound = first_sound;
@@ -399,13 +392,13 @@ module _ {Opening State Job Said : Type 0} (rules : Rules Opening State Job Said
 
     -- memory was wanting, or the report could not be written, when some of the lines were taken
     module _ (whole : Bool) (whole_is : whole ≡ (is_empty (rest_of left') && true)) where
-      some_sound : (some more : List (Reads Saying)) → said (lines_begun whole read) ≡ some ++ more → Each IsSound some
-      some_sound some more parts = each-front IsSound some more (subst (λ (ls : List (Reads Saying)). Each IsSound ls) parts (lines-sound grammar (lines_begun whole read)))
+      some_sound : (some more : List (Reads Saying)) → said (lines_read whole read) ≡ some ++ more → Each IsSound some
+      some_sound some more parts = each-front IsSound some more (subst (λ (ls : List (Reads Saying)). Each IsSound ls) parts (lines-sound grammar (lines_read whole read)))
 
-      some_counted : (some more : List (Reads Saying)) → said (lines_begun whole read) ≡ some ++ more → said (lines_begun (is_empty (rest_of left') && true) read) ≡ some ++ more
-      some_counted some more parts = ap (λ (t : Bool). said (lines_begun t read)) (sym whole_is) ∙ parts
+      some_counted : (some more : List (Reads Saying)) → said (lines_read whole read) ≡ some ++ more → said (lines_read (is_empty (rest_of left') && true) read) ≡ some ++ more
+      some_counted some more parts = ap (λ (t : Bool). said (lines_read t read)) (sym whole_is) ∙ parts
 
-      starved_within : StopsAt rules speech stops.NoMemory root first (said (lines_begun whole read)) b.names seen before mid
+      starved_within : StopsAt rules speech stops.NoMemory root first (said (lines_read whole read)) b.names seen before mid
           → AppendsThenStatus mid held failed [] (status_text statuses.NoMemory) → IsRunAt statuses.NoMemory
       starved_within stop line = run_is statuses.NoMemory first stop.some stop.marks stop.taken (record {
         whole = λ no. absurd cc;
@@ -423,7 +416,7 @@ module _ {Opening State Job Said : Type 0} (rules : Rules Opening State Job Said
         tt,
       ))
 
-      unwritten_within : StopsAt rules speech stops.Report root first (said (lines_begun whole read)) b.names seen before mid → held ≡ mid → IsRunAt statuses.ReportFault
+      unwritten_within : StopsAt rules speech stops.Report root first (said (lines_read whole read)) b.names seen before mid → held ≡ mid → IsRunAt statuses.ReportFault
       unwritten_within stop same = run_is statuses.ReportFault first stop.some stop.marks stop.taken (record {
         whole = λ no. absurd cc;
         limits = tt;
@@ -464,12 +457,12 @@ module _ {Opening State Job Said : Type 0} (rules : Rules Opening State Job Said
     whole_when : (e : Bool) → (e ≡ true → IsEnded left') → e ≡ true → (is_empty (rest_of left') && true) ≡ true
     whole_when e then is = both_true (is_empty (rest_of left')) ∙ ended_empty left' e then is
 
-    module _ (peers : ℕ) (peers_are : peers ≡ length wires) (old : BuilderView Opening Job Said) (old_grammar : old.grammar ≡ grammar) (reads reads' writes writes' : ℕ) where
+    module _ (peers : ℕ) (peers_are : peers ≡ length wires) (old : BuilderView Opening Job Said) (old_grammar : old.grammar ≡ grammar) (reads reads' writes writes' counted counted' : ℕ) where
       abbrev outside : Outside
-      outside = record { left = left; reads_failed = reads; held = before; writes_failed = writes }
+      outside = record { left = left; reads_failed = reads; held = before; writes_failed = writes; steps = counted }
 
       abbrev outside' : Outside
-      outside' = record { left = left'; reads_failed = reads'; held = mid; writes_failed = writes' }
+      outside' = record { left = left'; reads_failed = reads'; held = mid; writes_failed = writes'; steps = counted' }
 
       -- the verbs are those of the run
       ends_here : (end : End) → EndsAt rules speech first old b outside outside' end read → EndsAt rules speech first (record old { grammar = grammar }) b outside outside' end read
@@ -487,12 +480,12 @@ module _ {Opening State Job Said : Type 0} (rules : Rules Opening State Job Said
       comes_at ends.NoMemory status (inl h) finished =
           let whole = is_empty (rest_of left') && true in
           subst (λ (s : Status). IsRunAt s) (sym finished.0)
-          (starved_within whole refl (stops_at stops.NoMemory first (said (lines_begun whole read)) (h.2 whole (whole_when h.0 h.1))) finished.1)
+          (starved_within whole refl (stops_at stops.NoMemory first (said (lines_read whole read)) (h.2 whole (whole_when h.0 h.1))) finished.1)
       comes_at ends.NoMemory status (inr h) finished = subst (λ (s : Status). IsRunAt s) (sym finished.0) (not_begun (stands_at [] [] h.stands) finished.1)
       comes_at ends.Report status h finished =
           let whole = is_empty (rest_of left') && true in
           subst (λ (s : Status). IsRunAt s) (sym finished.0)
-          (unwritten_within whole refl (stops_at stops.Report first (said (lines_begun whole read)) (h.0.2 whole (whole_when h.0.0 h.0.1))) finished.1)
+          (unwritten_within whole refl (stops_at stops.Report first (said (lines_read whole read)) (h.0.2 whole (whole_when h.0.0 h.0.1))) finished.1)
 
       pub comes : (end : End) (status : Status) → EndsAt rules speech first old b outside outside' end read
           → IsFinished b.names (losses_from 0 (all_losses 0 peers history)) b.tally.accepted b.tally.refused mid held failed end unnoted status → IsRunAt status

@@ -40,7 +40,8 @@ use Rattle.ug_commands.proofs.Ends.{part_read, later_status}
 use Rattle.ug_promise.specs.Contents.{WireTold}
 use Rattle.ug_promise.specs.Crew.{all_losses}
 use Rattle.ug_run.specs.Ends.{last_text, IsConcluded, CompletesBy, IsFinished}
-use Rattle.ug_run.specs.Promise.{IsRun}
+use Rattle.ug_run.specs.Promise.{IsRun, IsCounted}
+use Rattle.ug_builder.proofs.Counting.{least-whole, most-whole}
 use Rattle.ug_run.proofs.Closing.{crew-from, IsBehind, behind}
 use Rattle.ug_run.proofs.Coming.{comes}
 
@@ -220,6 +221,36 @@ legal_at rules root history = IsLegal rules root history
 
 module _ {W Opening State Job Said : Type 0} (rules : Rules Opening State Job Said) (speech : Speech Opening State Job Said) (machine : IsMachine rules) (speaks : IsSpeaker rules speech)
     (sessions : W → Option (List (List ℕ))) (begun faults : W → ℕ) where
+  -- a builder that is done, over the history that came home
+  module _ (w : World) (gate : Gate) (b0 : Held (Entry Job Said) Opening) (passes : List (Held (Entry Job Said) Opening)) (wires : List W) (is : IsBegun speech w gate b0 passes)
+      (names : List (List ℕ)) (grammar : Grammar) (old new : BuilderView Opening Job Said) (old_is : old ≡ record { pass = b0; names = names; grammar = grammar; tally = record { lines = 0; accepted = 0; refused = 0 } })
+      (first : List (Reads Saying)) (o o' : Outside) (end : End) (ended : HasEnded rules speech first old new o o' end)
+      (lanes : List (LaneView W Opening Job Said)) (pass : Held (Entry Job Said) Opening) (pass_is : pass ≡ new.pass) (history : List (Entry Job Said)) (hist : IsHistoryOf rules pass lanes history) where
+    root_begun : old.pass.root ≡ Some is.root
+    root_begun = ap (λ (b : BuilderView Opening Job Said). b.pass.root) old_is ∙ root-is speech w gate b0 passes wires is
+
+    root-same : hist.root ≡ is.root
+    root-same = some_is hist.root is.root (sym hist.known ∙ (ap (λ (p : Held (Entry Job Said) Opening). p.root) pass_is ∙ (ended.same.pass.2 ∙ root_begun)))
+
+    behind-home : IsBehind rules speech is.root history new.pass.seen
+    behind-home =
+        let number : pass.number ≡ 0 =
+        ap (λ (p : Held (Entry Job Said) Opening). p.number) pass_is ∙ (ended.same.pass.1 ∙ (ap (λ (b : BuilderView Opening Job Said). b.pass.number) old_is ∙ ap (λ (p : Held (Entry Job Said) Opening). p.number) is.head)) in
+        subst (λ (p : Held (Entry Job Said) Opening). IsBehind rules speech is.root history p.seen) pass_is
+        (behind rules speech is.root history pass number (subst (λ (r : Opening). agrees_at r history pass) root-same hist.builder_agrees))
+
+    -- what it counted
+    pub counted-home : (completed : Bool) → (completed ≡ true → end ≡ ends.Complete) → IsCounted rules speech w completed history o.steps o'.steps
+    counted-home completed complete =
+        let nothing : old.pass.seen ≡ [] = ap (λ (b : BuilderView Opening Job Said). b.pass.seen) old_is ∙ ap (λ (p : Held (Entry Job Said) Opening). p.seen) is.head in
+        let home = behind-home in
+        inr (record {
+          root = is.root;
+          first = is.first;
+          least = least-whole rules old.pass.root is.root root_begun old.pass.seen new.pass.seen home.later history nothing home.parts home.others o.steps o'.steps ended.least;
+          most = λ done. most-whole rules old.pass.root is.root root_begun old.pass.seen new.pass.seen home.later history nothing home.parts home.others o.steps o'.steps (ended.most (complete done));
+        })
+
   pub came-home :
       (w : World) → IsOpening w → (gate : Gate) (b0 : Held (Entry Job Said) Opening) (passes : List (Held (Entry Job Said) Opening)) (wires : List W) (is : IsBegun speech w gate b0 passes)
       → length passes ≡ length wires → length w.peers ≡ length wires
@@ -240,18 +271,14 @@ module _ {W Opening State Job Said : Type 0} (rules : Rules Opening State Job Sa
       let root_old : b0.root ≡ Some is.root = root-is speech w gate b0 passes wires is in
       let root_new : new.pass.root ≡ Some is.root = ended.same.pass.2 ∙ (ap (λ (b : BuilderView Opening Job Said). b.pass.root) old_is ∙ root_old) in
       let at = back-at speech w gate b0 passes wires is lanes same in
-      let number : pass.number ≡ 0 =
-      ap (λ (p : Held (Entry Job Said) Opening). p.number) pass_is ∙ (ended.same.pass.1 ∙ (ap (λ (b : BuilderView Opening Job Said). b.pass.number) old_is ∙ ap (λ (p : Held (Entry Job Said) Opening). p.number) is.head)) in
-      let root_same : hist.root ≡ is.root = some_is hist.root is.root (sym hist.known ∙ (ap (λ (p : Held (Entry Job Said) Opening). p.root) pass_is ∙ root_new)) in
+      let root_same = root-same w gate b0 passes wires is names grammar old new old_is first o o' end ended lanes pass pass_is history hist in
       let count : length (map (toldl sessions faults) lanes) ≡ length lanes = length-map lanes (toldl sessions faults) in
       let lanes_many' : length lanes ≡ length wires = same-many lanes (fresh_lanes 0 wires passes) same ∙ lanes_many 0 wires passes many in
       let wires_all : length (map (toldl sessions faults) lanes) ≡ length w.peers = count ∙ (lanes_many' ∙ sym all) in
       let stands = start-stands rules speech old b0 is.root names grammar o.held old_is root_old (ap (λ (p : Held (Entry Job Said) Opening). p.seen) is.head) in
       let done = ended.ended stands in
       let agree = subst (λ (r : Opening). Each (λ (lane : LaneView W Opening Job Said). agrees_at r history lane.pass) lanes) root_same hist.lanes_agree in
-      let behind_new : IsBehind rules speech is.root history new.pass.seen =
-      subst (λ (p : Held (Entry Job Said) Opening). IsBehind rules speech is.root history p.seen) pass_is
-      (behind rules speech is.root history pass number (subst (λ (r : Opening). agrees_at r history pass) root_same hist.builder_agrees)) in
+      let behind_new = behind-home w gate b0 passes wires is names grammar old new old_is first o o' end ended lanes pass pass_is history hist in
       let fine = subst (λ (h : List (Entry Job Said)). IsFinished new.names (losses_from 0 (all_losses 0 peers h)) new.tally.accepted new.tally.refused o'.held held G end unnoted status) history'_is
       (subst (λ (t : Tally). IsFinished new.names (losses_from 0 (all_losses 0 peers history')) t.accepted t.refused o'.held held G end unnoted status) tally_is
       (subst (λ (ns : List (List ℕ)). IsFinished ns (losses_from 0 (all_losses 0 peers history')) tally.accepted tally.refused o'.held held G end unnoted status) names'_is
@@ -264,6 +291,6 @@ module _ {W Opening State Job Said : Type 0} (rules : Rules Opening State Job Sa
       new root_new (ended.same.names ∙ (ap (λ (b : BuilderView Opening Job Said). b.names) old_is ∙ names_is)) behind_new
       files name o.left o'.left picked is_picked stays o.held o'.held held G
       done.read (part_read files name o.left o'.left done.read picked done.taken)
-      peers (peers_is ∙ sym wires_all) old (ap (λ (b : BuilderView Opening Job Said). b.grammar) old_is) o.reads_failed o'.reads_failed o.writes_failed o'.writes_failed end status done.so fine in
+      peers (peers_is ∙ sym wires_all) old (ap (λ (b : BuilderView Opening Job Said). b.grammar) old_is) o.reads_failed o'.reads_failed o.writes_failed o'.writes_failed o.steps o'.steps end status done.so fine in
       subst (λ (ts : List WireTold). IsRun rules speech w grammar first (file_told files name) status ts history is_picked o'.left o.held held G)
       (sym (ap (λ (ws : List W). map (told_one sessions faults) ws) back_is ∙ told_wires sessions faults lanes)) run

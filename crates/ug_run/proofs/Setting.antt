@@ -2,9 +2,9 @@
 use Rattle.std.proofs.Common.{◌≡◌, ℕ, List, Option, Result, Ok, Err}
 use Rattle.std.specs.Prelude.{IfErr}
 use Rattle.ug_edge.specs.Told.{HasPicked, FileText, Missing, file_told}
-use Rattle.ug_grouping.specs.Grouped.{IsCause}
-use Rattle.ug_grouping.specs.declared.stop.Stop.{Stop}
-use Rattle.ug_grouping.specs.declared.stop.Stop.TheVariants as stops
+use Rattle.ug_commands.specs.Grouped.{IsCause}
+use Rattle.ug_commands.specs.declared.stop.Stop.{Stop}
+use Rattle.ug_commands.specs.declared.stop.Stop.TheVariants as stops
 use Rattle.ug_commands.proofs.Ends.{rest_of, part_read}
 use Rattle.ug_commands.proofs.Listings.{configured}
 use Rattle.ug_run.specs.Setups.{IsStopOf}

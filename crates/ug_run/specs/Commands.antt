@@ -17,7 +17,7 @@ use Rattle.ug_commands.specs.declared.status.Status.TheVariants as statuses
 use Rattle.ug_promise.specs.Contents.{WireTold}
 use Rattle.ug_report.specs.Report.{names_in}
 use Rattle.ug_wiring.specs.Wires.{HasMade}
-use Rattle.ug_run.specs.Promise.{IsPromised}
+use Rattle.ug_run.specs.Promise.{IsPromised, IsCountedFrom}
 
 -- the line before those of the file that `one` reads: its peer comes up
 abbrev pub up_p1 : List (Reads Saying)
@@ -59,6 +59,11 @@ module _ {Opening State Job Said : Type 0} (rules : Rules Opening State Job Said
     pub configured : IsConfigured config (Ok world)
     pub made_all : HasMade made made' dir (take (length wires) (names_in world))
     pub promised : IsPromised rules speech world Every [] events status wires history is_picked left before held failed
+
+  -- What `run` counted: nothing where nothing was done, and else what a run over the world of its configuration does.
+  abbrev pub IsCountedRun : FileTold → Bool → List (Entry Job Said) → ℕ → ℕ → Type 0
+  IsCountedRun config completed history before after =
+      ((history ≡ []) × (after ≡ before)) ⊎ ((w : World) × IsConfigured config (Ok w) × IsCountedFrom rules speech w completed history before after)
 
   -- `run`: over the world of the configuration, where it stands for one.
   abbrev pub IsRunOf : FileTold → FileTold → List ℕ → Status → List WireTold → List (Entry Job Said) → WiresMade → WiresMade → Bool → Option (List ℕ) → Option (List ℕ) → Option (List ℕ) → Type 0 → Type 0

@@ -1,7 +1,8 @@
 -- What a run over a world promises.
-use Rattle.std.specs.Prelude.{◌≡◌, ℕ, ◌≤◌, ◌⊎◌, ◌==◌, Bool, true, false, ◌&&◌, not, List, [], ◌∷◌, ◌++◌, length, map, Option, Some, if◌then◌else◌}
+use Rattle.std.specs.Prelude.{◌≡◌, ℕ, ◌+◌, ◌≤◌, ◌⊎◌, ◌==◌, Bool, true, false, ◌&&◌, not, List, [], ◌∷◌, ◌++◌, length, map, Option, Some, if◌then◌else◌}
 use Rattle.std.specs.List.{concat}
 use Rattle.ug_types.specs.declared.mark.Mark.{Mark}
+use Rattle.ug_types.specs.Bytes.{is_empty}
 use Rattle.ug_edge.specs.Told.{AppendsPiece, IsFresh, FileTold, Missing}
 use Rattle.ug_pieces.specs.Reporting.{AppendsFront}
 use Rattle.ug_board.specs.Entry.{Entry}
@@ -17,27 +18,23 @@ use Rattle.ug_report.specs.declared.endings.Loss.{Loss}
 use Rattle.ug_report.specs.Report.{names_in, line_texts, end_text, losses_from, losses_status}
 use Rattle.ug_builder.specs.declared.grammar.Grammar.{Grammar}
 use Rattle.ug_builder.specs.Standing.{said_by}
-use Rattle.ug_builder.specs.Files.{lines_begun, lines_read, IsPastLimits}
+use Rattle.ug_builder.specs.Counts.{least_of, most_of}
+use Rattle.ug_builder.specs.Files.{lines_read, IsPastLimits}
 use Rattle.ug_commands.specs.Files.{IsPartOf, AgreesWithSite, AppendsThenStatus}
 use Rattle.ug_commands.specs.Statuses.{row_of, status_text}
 use Rattle.ug_commands.specs.declared.status.Status.{Status}
 use Rattle.ug_commands.specs.declared.status.Status.TheVariants as statuses
-use Rattle.ug_promise.specs.Contents.{WireTold, Content, is_empty}
+use Rattle.ug_promise.specs.Contents.{WireTold, Content}
 use Rattle.ug_promise.specs.Crew.{IsClosed, all_losses}
 use Rattle.ug_promise.specs.Kept.{IsKept}
 use Rattle.ug_run.specs.Ends.{IsFirst}
 
 -- ---- the lines that count
 
-abbrev pub lines_within : Bool → Bool → List ℕ → List (List ℕ)
-lines_within true whole read = lines_read whole read
-lines_within false whole read = lines_begun whole read
-
--- What the lines of a file say, of which this was read: those that a newline ends, and the bytes behind the last newline
--- where the whole file was read and could be. Where all of them were taken they are within the limit on their number.
+-- What the lines of a file say, of which this was read, within the limits of its bytes and lines: those that a newline
+-- ends, and the bytes behind the last newline where the whole file was read and could be.
 abbrev pub lines_counted : Status → Grammar → List ℕ → List ℕ → List (Reads Saying)
-lines_counted status grammar read rest =
-    map (said_by grammar) (lines_within (row_of status).took_all (is_empty rest && not ((row_of status).number == 3)) read)
+lines_counted status grammar read rest = map (said_by grammar) (lines_read (is_empty rest && not ((row_of status).number == 3)) read)
 
 -- The limits of the file were passed at `TooLong`, and were kept where reading came to its end or to a fault.
 abbrev pub IsLimited : Status → List ℕ → Type 0
@@ -159,6 +156,18 @@ module _ {Opening State Job Said : Type 0} (rules : Rules Opening State Job Said
     pub first_loss : IsFirstLoss status (losses_from 0 lost)
     pub report : HasReport (names_in w) (last_world w ahead) lines marks (losses_from 0 lost) status before held failed
     pub done : IsDoneBy w (ahead ++ lines) (first_marks ++ marks) (row_of status).completed wires lost history
+
+  -- What a run counted, from an opening in this world: no less than its jobs count at least, and where it completed no more
+  -- than they count at most.
+  pub record IsCountedFrom (w : World) (completed : Bool) (history : List (Entry Job Said)) (before after : ℕ) : Type 0 where
+    pub root : Opening
+    pub first : speech.first root ≡ w
+    pub least : before + least_of rules root history ≤ after
+    pub most : completed ≡ true → after ≤ before + most_of rules root history
+
+  -- the same, or nothing was done, and nothing counted
+  abbrev pub IsCounted : World → Bool → List (Entry Job Said) → ℕ → ℕ → Type 0
+  IsCounted w completed history before after = ((history ≡ []) × (after ≡ before)) ⊎ IsCountedFrom w completed history before after
 
   -- What a run over a world promises.
   abbrev pub IsPromised : World → Grammar → List (Reads Saying) → FileTold → Status → List WireTold → List (Entry Job Said) → Bool → Option (List ℕ) → Option (List ℕ) → Option (List ℕ) → Type 0 → Type 0

@@ -1,8 +1,8 @@
 -- Why the reading of a configuration stopped.
 use Rattle.std.specs.Prelude.{◌≡◌, Err}
 use Rattle.ug_edge.specs.Told.{FileTold, Missing}
-use Rattle.ug_grouping.specs.declared.stop.Stop.{Stop}
-use Rattle.ug_grouping.specs.declared.stop.Stop.TheVariants as stops
+use Rattle.ug_commands.specs.declared.stop.Stop.{Stop}
+use Rattle.ug_commands.specs.declared.stop.Stop.TheVariants as stops
 use Rattle.ug_commands.specs.Listed.{IsConfigured, IsTooLong}
 
 -- The file is there and too long, or what it stands for is a refusal; of a read that failed and of want of memory nothing is said.

@@ -14,7 +14,7 @@ ghost use Rattle.ug_wiring.specs.Wires.{AreNewWires, HasMade};
 ghost use Rattle.ug_wiring.specs.Lanes.{ArePassesFrom};
 ghost use Rattle.ug_wiring.specs.Run.{IsBegun};
 ghost use Rattle.ug_commands.specs.Statuses.{row_of, is_fixed, IsUnbegun};
-ghost use Rattle.ug_run.specs.Promise.{IsPromised, IsRun, IsUnmade};
+ghost use Rattle.ug_run.specs.Promise.{IsPromised, IsRun, IsUnmade, IsCounted};
 
 use crate::ending::{Outcome, finish};
 use std::alloc::Global;
@@ -91,6 +91,7 @@ pub(crate) fn run_over<S: Speaker, R: Threads + Wait + Sync, E: Site, K: Sink, L
     ensures site { result.status ≡ Status.SiteFault → Rose (E.wire_faults site.old) (E.wire_faults site.new) }
     ensures ended { (row_of result.status).completed ≡ true → IsEnded (E.left site.new) }
     ensures faults { E.faults site.old ≤ E.faults site.new }
+    ensures counted { IsCounted S.Machine.rules S.speech plan.world (row_of result.status).completed result.history.items steps.old steps.new }
 {
     let Plan {
         world,
@@ -205,6 +206,8 @@ fn run_begun<S: Speaker, R: Threads + Wait + Sync, E: Site, K: Sink, L: Ledger>(
     ensures made { E.made site.new ≡ E.made site.old }
     ensures wire_faults { E.wire_faults site.new ≡ E.wire_faults site.old }
     ensures faults { E.faults site.old ≤ E.faults site.new }
+    ensures counted { (w : World) → IsBegun S.speech w begun.turnstile begun.builder begun.passes.items
+        → IsCounted S.Machine.rules S.speech w (row_of result.status).completed result.history.items steps.old steps.new }
 {
     let Begun {
         turnstile,
@@ -291,8 +294,8 @@ fn read_lines<S: Speaker, R: Threads + Wait + Sync, W: Wire, E: Source, K: Sink,
     requires lanes { AreHere turnstile.now.id (posts lanes.items) }
     requires form { IfSome reading.old.first (λ event. IsEvent (event_of event)) }
     ensures ended { IsRead S.Machine.rules S.speech (first_of reading.old.first) reading.old.builder reading.new.builder
-        (record { left = E.left source.old; reads_failed = E.faults source.old; held = K.held report.old; writes_failed = K.faults report.old })
-        (record { left = E.left source.new; reads_failed = E.faults source.new; held = K.held report.new; writes_failed = K.faults report.new }) reading.new.end }
+        (record { left = E.left source.old; reads_failed = E.faults source.old; held = K.held report.old; writes_failed = K.faults report.old; steps = steps.old })
+        (record { left = E.left source.new; reads_failed = E.faults source.new; held = K.held report.new; writes_failed = K.faults report.new; steps = steps.new }) reading.new.end }
     ensures posts { posts result.items ≡ posts lanes.items }
     ensures files { E.files source.new ≡ E.files source.old }
     ensures is_picked { E.is_picked source.new ≡ E.is_picked source.old }

@@ -15,7 +15,8 @@ ghost use Rattle.ug_commands.specs.Statuses.{row_of, status_text};
 ghost use Rattle.ug_commands.specs.Files.{AppendsThenStatus};
 ghost use Rattle.ug_commands.specs.Checked.{IsChecked};
 ghost use Rattle.ug_commands.specs.Listed.{IsListed};
-ghost use Rattle.ug_run.specs.Commands.{up_p1, IsOne, IsRunOf};
+ghost use Rattle.ug_run.specs.Promise.{IsCounted};
+ghost use Rattle.ug_run.specs.Commands.{up_p1, IsOne, IsRunOf, IsCountedRun};
 
 use crate::course::{Done, Plan, run_over};
 use crate::setup::{configure, end_unset};
@@ -69,6 +70,11 @@ pub fn serve<S: Speaker, R: Threads + Wait + Sync, E: Site, K: Sink, L: Ledger>(
         IsChecked command (file_told (E.files site.old) command.stream) (E.is_picked site.new) (E.left site.new) result.status (K.held report.old) (K.held report.new) (Rose (K.faults report.old) (K.faults report.new)) }
     ensures listed { (command : GroupsCommand) → command_of (map string_bytes words.now) ≡ Some (Groups command) →
         IsListed (file_told (E.files site.old) command.config) result.status (K.held report.old) (K.held report.new) (Rose (K.faults report.old) (K.faults report.new)) }
+    // The runs of the outbound rules are counted.
+    ensures one_counted { (command : OneCommand) → command_of (map string_bytes words.now) ≡ Some (One command) →
+        IsCounted S.Machine.rules S.speech one_world (row_of result.status).completed result.history.items steps.old steps.new }
+    ensures run_counted { (command : RunCommand) → command_of (map string_bytes words.now) ≡ Some (Run command) →
+        IsCountedRun S.Machine.rules S.speech (file_told (E.files site.old) command.config) (row_of result.status).completed result.history.items steps.old steps.new }
     // A file that the site says is missing was read by nobody, and the status says so.
     ensures check_missing { (command : CheckCommand) → command_of (map string_bytes words.now) ≡ Some (Check command) →
         file_told (E.files site.old) command.stream ≡ Missing → (row_of result.status).may_be_unread ≡ true }
@@ -79,13 +85,13 @@ pub fn serve<S: Speaker, R: Threads + Wait + Sync, E: Site, K: Sink, L: Ledger>(
         HasMade (E.made site.old) (E.made site.new) command.dir (take (length result.wires.items) (names_in one_world)) }
     ensures check_unmade { (command : CheckCommand) → command_of (map string_bytes words.now) ≡ Some (Check command) → E.made site.new ≡ E.made site.old }
     ensures groups_unmade { (command : GroupsCommand) → command_of (map string_bytes words.now) ≡ Some (Groups command) → E.made site.new ≡ E.made site.old }
-    ensures check_idle { (command : CheckCommand) → command_of (map string_bytes words.now) ≡ Some (Check command) → (result.wires.items ≡ []) × (result.history.items ≡ []) }
-    ensures groups_idle { (command : GroupsCommand) → command_of (map string_bytes words.now) ≡ Some (Groups command) → (result.wires.items ≡ []) × (result.history.items ≡ []) }
+    ensures check_idle { (command : CheckCommand) → command_of (map string_bytes words.now) ≡ Some (Check command) → (result.wires.items ≡ []) × (result.history.items ≡ []) × (steps.new ≡ steps.old) }
+    ensures groups_idle { (command : GroupsCommand) → command_of (map string_bytes words.now) ≡ Some (Groups command) → (result.wires.items ≡ []) × (result.history.items ≡ []) × (steps.new ≡ steps.old) }
     // Words that are no command.
     ensures usage { (result.status ≡ Status.Usage) ↔ (is_command (map string_bytes words.now) ≡ false) }
     ensures no_command { is_command (map string_bytes words.now) ≡ false →
         AppendsThenStatus (K.held report.old) (K.held report.new) (Rose (K.faults report.old) (K.faults report.new)) [] (status_text Status.Usage) }
-    ensures idle { is_command (map string_bytes words.now) ≡ false → (result.wires.items ≡ []) × (result.history.items ≡ []) }
+    ensures idle { is_command (map string_bytes words.now) ≡ false → (result.wires.items ≡ []) × (result.history.items ≡ []) × (steps.new ≡ steps.old) }
     ensures unmade { is_command (map string_bytes words.now) ≡ false → E.made site.new ≡ E.made site.old }
     ensures unread { is_command (map string_bytes words.now) ≡ false → E.left site.new ≡ E.left site.old }
     // What a status says of the outside.
@@ -129,6 +135,7 @@ fn one<S: Speaker, R: Threads + Wait + Sync, E: Site, K: Sink, L: Ledger>(
     ensures site { result.status ≡ Status.SiteFault → Rose (E.wire_faults site.old) (E.wire_faults site.new) }
     ensures ended { (row_of result.status).completed ≡ true → IsEnded (E.left site.new) }
     ensures usage { result.status ≡ Status.Usage → ⊥ }
+    ensures counted { IsCounted S.Machine.rules S.speech one_world (row_of result.status).completed result.history.items steps.old steps.new }
 {
     one_opens();
     let Ok(world) = one_world(alloc) else {
@@ -184,6 +191,7 @@ fn run<S: Speaker, R: Threads + Wait + Sync, E: Site, K: Sink, L: Ledger>(
     ensures site { result.status ≡ Status.SiteFault → Rose (E.wire_faults site.old) (E.wire_faults site.new) }
     ensures ended { (row_of result.status).completed ≡ true → IsEnded (E.left site.new) }
     ensures usage { result.status ≡ Status.Usage → ⊥ }
+    ensures counted { IsCountedRun S.Machine.rules S.speech (file_told (E.files site.old) words.now.config.now) (row_of result.status).completed result.history.items steps.old steps.new }
 {
     configurations_open();
     let world = match configure(alloc, words.config, site) {

@@ -2,7 +2,7 @@
 
 ghost use Rattle.std.specs.Prelude.{◌≡◌, ◌≤◌, ◌<◌, [], length, true, false, Ok, IfOk, OnOk, IfErr, IsErrOf};
 ghost use Rattle.ug_edge.specs.Told.{Rose, file_told, Missing};
-ghost use Rattle.ug_grouping.specs.declared.stop.Stop.TheVariants.{Report as ReportStops};
+ghost use Rattle.ug_commands.specs.declared.stop.Stop.TheVariants.{Report as ReportStops};
 ghost use Rattle.ug_commands.specs.Statuses.{row_of, status_text};
 ghost use Rattle.ug_commands.specs.Files.{AppendsThenStatus};
 ghost use Rattle.ug_commands.specs.Listed.{IsConfigured};
@@ -10,9 +10,8 @@ ghost use Rattle.ug_run.specs.Commands.{IsUnconfigured};
 ghost use Rattle.ug_run.specs.Setups.{IsStopOf};
 
 use std::alloc::Global;
-use ug_commands::{Status, end, end_refused, pick};
+use ug_commands::{Status, Stop, end, end_refused, pick, read_world};
 use ug_edge::{Sink, Site};
-use ug_grouping::{Stop, read_world};
 use ug_world::World;
 
 /// The world that a configuration stands for.

@@ -7,7 +7,8 @@ use Rattle.toml.specs.Data.{Data, get, as_str, as_integer, as_table}
 use Rattle.ug_types.specs.Ip.{IpAddress, ipv4}
 use Rattle.ug_types.specs.declared.family.Family.{Family}
 use Rattle.ug_types.specs.declared.family.Family.TheVariants.{V4}
-use Rattle.ug_text.specs.Cutting.{◌>>=◌ as ◌>=>◌, same_bytes}
+use Rattle.ug_types.specs.Bytes.{same_bytes}
+use Rattle.ug_text.specs.Cutting.{◌>>=◌ as ◌>=>◌}
 use Rattle.ug_text.specs.Numbers.{community}
 use Rattle.ug_text.specs.Addresses.{address_in}
 use Rattle.ug_text.specs.Paths.{origin}

@@ -4,7 +4,8 @@ use Rattle.std.specs.Prelude.{nat_le, not, length, is_none, ◌+◌, if◌then�
 use Rattle.std.specs.List.{list_all}
 use Rattle.ug_types.specs.declared.named.Named.{Named}
 use Rattle.ug_types.specs.declared.family.Family.TheVariants.{V4}
-use Rattle.ug_prefixlist.specs.Named.{same_name, value_named}
+use Rattle.ug_types.specs.Bytes.{same_bytes}
+use Rattle.ug_prefixlist.specs.Named.{value_named}
 use Rattle.ug_prefixlist.specs.Order.{ascending, repeats}
 use Rattle.ug_prefixlist.specs.Lists.{seq_of}
 use Rattle.ug_prefixlist.proofs.Sorting.{ascending_all, ascending_sum}
@@ -49,7 +50,7 @@ same_sets rules =
 
 few_in : (names : List (List ℕ)) (ms : List (Named (List MapRule))) → list_all (is_map names) ms ≡ true → (name : List ℕ) → FewSets (value_named (map (in_order rule_seq) ms) name)
 few_in names [] h name = tt
-few_in names (m ∷ ms) h name = one (same_name m.name name) (few_in names ms (second_of (is_map names m) (list_all (is_map names) ms) h) name)
+few_in names (m ∷ ms) h name = one (same_bytes m.name name) (few_in names ms (second_of (is_map names m) (list_all (is_map names) ms) h) name)
   where
     one : (b : Bool) → FewSets (value_named (map (in_order rule_seq) ms) name) → FewSets (if b then Some (ascending rule_seq m.value) else value_named (map (in_order rule_seq) ms) name)
     one true rest =

@@ -12,9 +12,10 @@ use Rattle.ug_types.specs.declared.family.Family.TheVariants.{V4, V6}
 use Rattle.ug_types.specs.declared.attrs.Aggregator.{Aggregator}
 use Rattle.ug_types.specs.Ip.{IpAddress, IpPrefix, width_of, same_family, cleared, prefix_of, ipv4}
 use Rattle.ug_types.specs.Attributes.{PathSegment}
+use Rattle.ug_types.specs.Bytes.{same_bytes}
 use Rattle.ug_text.specs.declared.list_reader.Spelled.{Spelled}
 use Rattle.ug_text.specs.declared.list_reader.Spelled.TheVariants.{Plain, Community, Address}
-use Rattle.ug_text.specs.Cutting.{◌>>=◌, same_bytes, cut_at, pieces, each}
+use Rattle.ug_text.specs.Cutting.{◌>>=◌, cut_at, pieces, each}
 use Rattle.ug_text.specs.Numbers.{decimal_digit, hexadecimal_digit, digits_from, at_most, has_digits, number, any_number, where_positive, positive_number, community}
 use Rattle.ug_text.specs.Addresses.{ipv4_number, ipv4_address, Groups, no_groups, with_group, group, groups_from, groups_in, with_zeros, where_eight, cut_at_gap, filled, number_of, around_gap, ipv6_number, bits_in, address_in, length_in, prefix_in, aggregator}
 use Rattle.ug_text.specs.Paths.{number_as, numbers_as, is_in_braces, segment_from, segment, path}

@@ -1,6 +1,7 @@
-use Rattle.std.proofs.Common.{rules, ◌≡◌, ◌∙◌, sym, subst}
+use Rattle.std.proofs.Common.{rules, ◌≡◌, ◌∙◌, sym, subst, arith}
 use Rattle.ug_speaker.specs.Speech.{Prepares}
 use Rattle.ug_speaker.specs.Story.{IsUnasked}
+use Rattle.ug_builder.specs.Counts.{least_of, most_of, RisesBy, RisesWithin}
 use Rattle.ug_builder.proofs.Turning.{adds_further, goes_further, goes_by_job}
 use Rattle.ug_builder.proofs.board.prepare.Goals as goal
 
@@ -17,4 +18,6 @@ loop-preserved g c =
           (subst (λ p. IsUnasked p) (sym is) tt) c.in_ok-do_job.ensures.history),
       c.in_ok-do_job.ensures.unspent,
       c.do_job.ensures.sound,
+      let next = subst (λ (o : _). RisesBy c.loop.steps c.do_job.new.steps (least_of g.S.Machine.rules o c.loop.board.history) (least_of g.S.Machine.rules o c.do_job.new.board.history)) invariant.2 c.do_job.ensures.steps_least in omega (arith, next, invariant.7),
+      let next = subst (λ (o : _). RisesWithin c.loop.steps c.do_job.new.steps (most_of g.S.Machine.rules o c.loop.board.history) (most_of g.S.Machine.rules o c.do_job.new.board.history)) invariant.2 c.in_ok-do_job.ensures.steps_most in omega (arith, next, invariant.8),
     )

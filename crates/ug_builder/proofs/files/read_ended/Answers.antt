@@ -6,6 +6,7 @@ use Rattle.ug_pieces.specs.LineLaws.{takes_no_lines, takes_more_lines, stops_lat
 use Rattle.ug_pieces.proofs.PieceSteps.{begins, nothing, goes_on, stops_at, passes_limit, not_read, reads_all}
 use Rattle.ug_builder.specs.Standing.{TakesLines, StopsWithin}
 use Rattle.ug_builder.specs.StandingLaws.{same_itself, same_further, takes_none, takes_more, stops_later, rose_later}
+use Rattle.ug_builder.proofs.Counting.{least-further, most-further}
 use Rattle.ug_builder.proofs.files.read_ended.Goals as goal
 
 pub loop-count-init : goal.loop-count-init
@@ -21,6 +22,8 @@ loop-count-init g c =
       same = same_itself c.args.builder.now;
       posts = refl;
       writes = omega arith;
+      least = omega arith;
+      most = omega arith;
       faults = refl;
       files = refl;
       is_picked = refl;
@@ -133,9 +136,29 @@ loop-count-preserved g c =
       same = same_further old mid new c.loop-count.invariant.same c.take_piece.ensures.same;
       posts = c.take_piece.ensures.posts ∙ c.loop-count.invariant.posts;
       writes = omega (arith, c.take_piece.ensures.faults, c.loop-count.invariant.writes);
+      least = least-further rules' old.pass.root mid.pass.root old.pass.seen mid.pass.seen new.pass.seen c.args.steps.now c.loop-count.steps c.take_piece.new.steps
+          c.loop-count.invariant.same.pass.2 c.loop-count.invariant.least c.take_piece.ensures.steps_least;
+      most = most-further rules' old.pass.root mid.pass.root old.pass.seen mid.pass.seen new.pass.seen c.args.steps.now c.loop-count.steps c.take_piece.new.steps
+          c.loop-count.invariant.same.pass.2 c.loop-count.invariant.most c.in-Ok-take_piece.ensures.steps_most;
       faults = c.in-Ok-read.ensures.unharmed ∙ c.loop-count.invariant.faults;
       files = c.in-Ok-read.ensures.files ∙ c.loop-count.invariant.files;
       is_picked = c.in-Ok-read.ensures.is_picked ∙ c.loop-count.invariant.is_picked;
       made = c.in-Ok-read.ensures.made ∙ c.loop-count.invariant.made;
       wire_faults = c.in-Ok-read.ensures.wire_faults ∙ c.loop-count.invariant.wire_faults;
     }
+
+pub returns-in-Err-take_piece-clause-steps_least : goal.returns-in-Err-take_piece-clause-steps_least
+returns-in-Err-take_piece-clause-steps_least g c =
+    let old = c.args.builder.now in
+    let mid = c.loop-count.builder in
+    let new = c.take_piece.new.builder in
+    least-further g.S.Machine.rules old.pass.root mid.pass.root old.pass.seen mid.pass.seen new.pass.seen c.args.steps.now c.loop-count.steps c.take_piece.new.steps
+    c.loop-count.invariant.same.pass.2 c.loop-count.invariant.least c.take_piece.ensures.steps_least
+
+pub returns-then-within-count-clause-steps_least : goal.returns-then-within-count-clause-steps_least
+returns-then-within-count-clause-steps_least g c =
+    let old = c.args.builder.now in
+    let mid = c.loop-count.builder in
+    let new = c.take_piece.new.builder in
+    least-further g.S.Machine.rules old.pass.root mid.pass.root old.pass.seen mid.pass.seen new.pass.seen c.args.steps.now c.loop-count.steps c.take_piece.new.steps
+    c.loop-count.invariant.same.pass.2 c.loop-count.invariant.least c.take_piece.ensures.steps_least

@@ -2,6 +2,7 @@ use Rattle.std.proofs.Common.{◌≡◌, ◌-◌, ◌≤◌, length}
 use Rattle.std.specs.Vec.{vec_len}
 use Rattle.ug_pieces.specs.Pieces.{HasRead}
 use Rattle.ug_pieces.specs.LineSteps.{HasTakenLines}
+use Rattle.ug_builder.specs.Counts.{least_at, most_at, RisesBy, RisesWithin}
 use Rattle.ug_builder.specs.Standing.{IsSameBuilder, TakesLines}
 use Rattle.ug_builder.proofs.files.read_ended.Given as goal
 
@@ -15,6 +16,8 @@ invariant-loop-count g l = record {
   same : IsSameBuilder l.fn.builder l.builder;
   posts : l.crew ≡ l.fn.crew;
   writes : g.K.Sink.faults l.fn.report ≤ g.K.Sink.faults l.report;
+  least : RisesBy l.fn.steps l.steps (least_at g.S.Machine.rules l.fn.builder.pass.root l.fn.builder.pass.seen) (least_at g.S.Machine.rules l.fn.builder.pass.root l.builder.pass.seen);
+  most : RisesWithin l.fn.steps l.steps (most_at g.S.Machine.rules l.fn.builder.pass.root l.fn.builder.pass.seen) (most_at g.S.Machine.rules l.fn.builder.pass.root l.builder.pass.seen);
   faults : g.E.Source.faults l.source ≡ g.E.Source.faults l.fn.source;
   files : g.E.Source.files l.source ≡ g.E.Source.files l.fn.source;
   is_picked : g.E.Source.is_picked l.source ≡ g.E.Source.is_picked l.fn.source;

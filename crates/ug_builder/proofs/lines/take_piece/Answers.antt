@@ -2,6 +2,7 @@ use Rattle.std.proofs.Common.{sym, subst, ◌∙◌, refl, arith}
 use Rattle.ug_pieces.proofs.LineCuts.{within_init, within_next, within_stopped, within_done, within_unkept}
 use Rattle.ug_builder.specs.Standing.{TakesLines, StopsWithin}
 use Rattle.ug_builder.specs.StandingLaws.{same_itself, same_further, takes_none, takes_more, stops_later, rose_later}
+use Rattle.ug_builder.proofs.Counting.{least-further, most-further}
 use Rattle.ug_builder.proofs.lines.take_piece.Goals as goal
 
 pub loop-line-init : goal.loop-line-init
@@ -14,6 +15,8 @@ loop-line-init g c =
       same = same_itself c.args.builder.now;
       posts = refl;
       faults = omega arith;
+      least = omega arith;
+      most = omega arith;
     }
 
 pub returns-in-Err-clause-stopped : goal.returns-in-Err-clause-stopped
@@ -34,7 +37,7 @@ returns-in-Err-clause-stopped g c =
     c.in-Err.stop
     (λ same xs took. subst (λ h. TakesLines rules speech old held new h xs) (sym same.1) (subst (λ b. TakesLines rules speech old held b held_mid xs) (sym same.0) took))
     (λ a b s took stopped. stops_later rules speech old mid new held held_mid held_new a b s c.loop-line.invariant.same took stopped)
-    c.in-Err.ensures.stopped c.loop-line.invariant.within
+    at.counted c.in-Err.ensures.stopped c.loop-line.invariant.within
 
 pub loop-line-smaller : goal.loop-line-smaller
 loop-line-smaller g c = c.in-Some.ensures.shorter
@@ -61,6 +64,10 @@ loop-line-preserved g c =
       same = same_further old mid new c.loop-line.invariant.same c.take_ended.ensures.same;
       posts = c.take_ended.ensures.posts ∙ c.loop-line.invariant.posts;
       faults = omega (arith, c.take_ended.ensures.faults, c.loop-line.invariant.faults);
+      least = least-further rules old.pass.root mid.pass.root old.pass.seen mid.pass.seen new.pass.seen c.args.steps.now c.loop-line.steps c.take_ended.new.steps
+          c.loop-line.invariant.same.pass.2 c.loop-line.invariant.least c.take_ended.ensures.steps_least;
+      most = most-further rules old.pass.root mid.pass.root old.pass.seen mid.pass.seen new.pass.seen c.args.steps.now c.loop-line.steps c.take_ended.new.steps
+          c.loop-line.invariant.same.pass.2 c.loop-line.invariant.most c.in-Ok.ensures.steps_most;
     }
 
 pub returns-in-Ok-keep_begun-clause-taken : goal.returns-in-Ok-keep_begun-clause-taken
@@ -84,7 +91,15 @@ returns-in-Err-keep_begun-clause-stopped g c =
     let held_mid = g.K.Sink.held c.loop-line.report in
     within_unkept (TakesLines g.S.Machine.rules g.S.Speaker.speech c.args.builder.now held c.loop-line.builder held_mid) (λ lines why. StopsWithin g.S.Machine.rules g.S.Speaker.speech why c.args.builder.now held c.loop-line.builder held_mid lines)
     begun.kept begun.most begun.rest.items c.args.piece.now at.rest.items c.loop-line.left.now begun.count at.count at.kept at.most (sym c.in_default.ensures.parts)
-    c.in-Err-keep_begun.stop c.in-Err-keep_begun.ensures.stopped c.loop-line.invariant.within
+    c.in-Err-keep_begun.stop at.counted c.in-Err-keep_begun.ensures.stopped c.loop-line.invariant.within
 
 pub returns-in-Err-clause-rose : goal.returns-in-Err-clause-rose
 returns-in-Err-clause-rose g c = λ is. rose_later (g.K.Sink.faults c.args.report.now) (g.K.Sink.faults c.loop-line.report) (g.K.Sink.faults c.take_ended.new.report) c.loop-line.invariant.faults c.take_ended.ensures.faults (c.in-Err.ensures.rose is)
+
+pub returns-in-Err-clause-steps_least : goal.returns-in-Err-clause-steps_least
+returns-in-Err-clause-steps_least g c =
+    let old = c.args.builder.now in
+    let mid = c.loop-line.builder in
+    let new = c.take_ended.new.builder in
+    least-further g.S.Machine.rules old.pass.root mid.pass.root old.pass.seen mid.pass.seen new.pass.seen c.args.steps.now c.loop-line.steps c.take_ended.new.steps
+    c.loop-line.invariant.same.pass.2 c.loop-line.invariant.least c.take_ended.ensures.steps_least

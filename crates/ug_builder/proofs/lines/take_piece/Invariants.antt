@@ -1,5 +1,6 @@
 use Rattle.std.proofs.Common.{◌≡◌, ◌≤◌, length}
 use Rattle.ug_pieces.proofs.LineCuts.{IsWithin}
+use Rattle.ug_builder.specs.Counts.{least_at, most_at, RisesBy, RisesWithin}
 use Rattle.ug_builder.specs.Standing.{IsSameBuilder, TakesLines}
 use Rattle.ug_builder.proofs.lines.take_piece.Given as goal
 
@@ -10,6 +11,8 @@ invariant-loop-line g l = record {
   same : IsSameBuilder l.fn.builder l.builder;
   posts : l.crew ≡ l.fn.crew;
   faults : g.K.Sink.faults l.fn.report ≤ g.K.Sink.faults l.report;
+  least : RisesBy l.fn.steps l.steps (least_at g.S.Machine.rules l.fn.builder.pass.root l.fn.builder.pass.seen) (least_at g.S.Machine.rules l.fn.builder.pass.root l.builder.pass.seen);
+  most : RisesWithin l.fn.steps l.steps (most_at g.S.Machine.rules l.fn.builder.pass.root l.fn.builder.pass.seen) (most_at g.S.Machine.rules l.fn.builder.pass.root l.builder.pass.seen);
 }
 
 abbrev pub decreases-loop-line : goal.decreases-loop-line

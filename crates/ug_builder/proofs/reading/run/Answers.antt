@@ -4,6 +4,7 @@ use Rattle.ug_builder.specs.StandingLaws.{same_further}
 use Rattle.ug_builder.specs.Files.{lines_read}
 use Rattle.ug_builder.specs.Reading.{first_of}
 use Rattle.ug_builder.proofs.Turning.{goes_further}
+use Rattle.ug_builder.proofs.Counting.{least-further, most-further}
 use Rattle.ug_builder.proofs.Builders.{builder-still}
 use Rattle.ug_builder.proofs.Readings.{has-read, starved-last, ends-still}
 use Rattle.ug_builder.proofs.reading.run.Goals as goal
@@ -24,6 +25,11 @@ returns-in-Ok-conclude-clause-ended g c = record {
   unharmed = λ other. c.in-Ok.ensures.unharmed (λ is. cc);
   reads = c.take_all.ensures.faults;
   writes = c.take_all.ensures.writes;
+  least = least-further g.S.Machine.rules c.args.builder.now.pass.root c.take_all.new.builder.pass.root c.args.builder.now.pass.seen c.take_all.new.builder.pass.seen c.conclude.new.self.pass.seen
+      c.args.steps.now c.take_all.new.steps c.conclude.new.steps c.take_all.ensures.same.pass.2 c.take_all.ensures.steps_least c.conclude.ensures.steps_least;
+  most = λ _.
+      most-further g.S.Machine.rules c.args.builder.now.pass.root c.take_all.new.builder.pass.root c.args.builder.now.pass.seen c.take_all.new.builder.pass.seen c.conclude.new.self.pass.seen
+      c.args.steps.now c.take_all.new.steps c.conclude.new.steps c.take_all.ensures.same.pass.2 c.in-Ok.ensures.steps_most c.in-Ok-conclude.ensures.steps_most;
 }
 
 pub returns-in-Err-conclude-clause-ended : goal.returns-in-Err-conclude-clause-ended
@@ -36,13 +42,18 @@ returns-in-Err-conclude-clause-ended g c =
       ended = λ stands.
           has-read (g.E.Source.left c.args.source.now) (g.E.Source.left c.take_all.new.source) _ _
           (λ read so. starved-last g.S.Machine.rules g.S.Speaker.speech (first_of c.args.first) c.args.builder.now mid c.break_off.new.self
-          (record { left = g.E.Source.left c.args.source.now; reads_failed = g.E.Source.faults c.args.source.now; held = g.K.Sink.held c.args.report.now; writes_failed = g.K.Sink.faults c.args.report.now })
-          (record { left = g.E.Source.left c.take_all.new.source; reads_failed = g.E.Source.faults c.take_all.new.source; held = g.K.Sink.held c.take_all.new.report; writes_failed = g.K.Sink.faults c.take_all.new.report })
+          (record { left = g.E.Source.left c.args.source.now; reads_failed = g.E.Source.faults c.args.source.now; held = g.K.Sink.held c.args.report.now; writes_failed = g.K.Sink.faults c.args.report.now; steps = c.args.steps.now })
+          (record { left = g.E.Source.left c.take_all.new.source; reads_failed = g.E.Source.faults c.take_all.new.source; held = g.K.Sink.held c.take_all.new.report; writes_failed = g.K.Sink.faults c.take_all.new.report; steps = c.break_off.new.steps })
           read same goes c.break_off.ensures.legal so.0 so.2)
           (c.in-Ok.ensures.taken stands);
       unharmed = λ other. c.in-Ok.ensures.unharmed (λ is. cc);
       reads = c.take_all.ensures.faults;
       writes = c.take_all.ensures.writes;
+      least = least-further g.S.Machine.rules c.args.builder.now.pass.root mid.pass.root c.args.builder.now.pass.seen mid.pass.seen c.break_off.new.self.pass.seen
+          c.args.steps.now c.take_all.new.steps c.break_off.new.steps c.take_all.ensures.same.pass.2 c.take_all.ensures.steps_least
+          (least-further g.S.Machine.rules mid.pass.root c.conclude.new.self.pass.root mid.pass.seen c.conclude.new.self.pass.seen c.break_off.new.self.pass.seen
+          c.take_all.new.steps c.conclude.new.steps c.break_off.new.steps c.conclude.ensures.same.pass.2 c.conclude.ensures.steps_least c.break_off.ensures.steps_least);
+      most = λ no. absurd cc;
     }
 
 pub returns-in-Err-clause-ended : goal.returns-in-Err-clause-ended
@@ -53,11 +64,14 @@ returns-in-Err-clause-ended g c =
       ended = λ stands.
           has-read (g.E.Source.left c.args.source.now) (g.E.Source.left c.take_all.new.source) _ _
           (λ read so. ends-still g.S.Machine.rules g.S.Speaker.speech (first_of c.args.first) c.args.builder.now mid c.break_off-in-Err.new.self
-          (record { left = g.E.Source.left c.args.source.now; reads_failed = g.E.Source.faults c.args.source.now; held = g.K.Sink.held c.args.report.now; writes_failed = g.K.Sink.faults c.args.report.now })
-          (record { left = g.E.Source.left c.take_all.new.source; reads_failed = g.E.Source.faults c.take_all.new.source; held = g.K.Sink.held c.take_all.new.report; writes_failed = g.K.Sink.faults c.take_all.new.report })
+          (record { left = g.E.Source.left c.args.source.now; reads_failed = g.E.Source.faults c.args.source.now; held = g.K.Sink.held c.args.report.now; writes_failed = g.K.Sink.faults c.args.report.now; steps = c.args.steps.now })
+          (record { left = g.E.Source.left c.take_all.new.source; reads_failed = g.E.Source.faults c.take_all.new.source; held = g.K.Sink.held c.take_all.new.report; writes_failed = g.K.Sink.faults c.take_all.new.report; steps = c.take_all.new.steps }) c.break_off-in-Err.new.steps
           c.in-Err.end read (λ is. c.in-Err.ensures.incomplete (ap Err is)) c.break_off-in-Err.ensures.same c.break_off-in-Err.ensures.tally c.break_off-in-Err.ensures.history c.break_off-in-Err.ensures.legal so)
           (c.in-Err.ensures.halted stands);
       unharmed = λ other. c.in-Err.ensures.unharmed (λ is. other cc);
       reads = c.take_all.ensures.faults;
       writes = c.take_all.ensures.writes;
+      least = least-further g.S.Machine.rules c.args.builder.now.pass.root mid.pass.root c.args.builder.now.pass.seen mid.pass.seen c.break_off-in-Err.new.self.pass.seen
+          c.args.steps.now c.take_all.new.steps c.break_off-in-Err.new.steps c.take_all.ensures.same.pass.2 c.take_all.ensures.steps_least c.break_off-in-Err.ensures.steps_least;
+      most = λ is. absurd (c.in-Err.ensures.incomplete (ap Err is));
     }

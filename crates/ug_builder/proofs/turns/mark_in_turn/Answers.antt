@@ -2,7 +2,8 @@ use Rattle.std.proofs.Common.{Ok, ◌∙◌}
 use Rattle.std.specs.Prelude.{IfSome, IfNone}
 use Rattle.ug_events.specs.Events.{SaysSync}
 use Rattle.ug_builder.specs.Turns.{GoesOn, Answers, AnswersAt, answer_of}
-use Rattle.ug_builder.proofs.Passes.{if-ok, if-some, if-none, on-err, goes-over, answers-over}
+use Rattle.ug_builder.proofs.Passes.{on-ok, if-ok, if-some, if-none, on-err, goes-over, answers-over}
+use Rattle.ug_builder.proofs.Counting.{least-over, most-over}
 use Rattle.ug_builder.proofs.turns.mark_in_turn.Goals as goal
 
 pub returns-clause-answers : goal.returns-clause-answers
@@ -39,3 +40,16 @@ returns-clause-stopped g c =
     (goes-over g.S.Machine.rules g.S.Speaker.speech c.args.pass.now c.take-turn.result c.state.result.now c.mark-marked.new.board c.give.new.pass.root c.give.new.pass.seen
     c.requires.number c.take-turn.ensures.agrees c.state.ensures.value c.mark-marked.ensures.opening (c.give.ensures.same.2 ∙ c.take-turn.ensures.same.2) c.give.ensures.seen)
     c.mark-marked.ensures.stopped
+
+pub returns-clause-steps_least : goal.returns-clause-steps_least
+returns-clause-steps_least g c =
+    least-over g.S.Machine.rules c.args.pass.now c.take-turn.result c.state.result.now c.mark-marked.new.board c.give.new.pass.seen
+    c.requires.number c.take-turn.ensures.agrees c.state.ensures.value c.give.ensures.seen c.args.steps.now c.mark-marked.new.steps
+    c.mark-marked.ensures.steps_least
+
+pub returns-clause-steps_most : goal.returns-clause-steps_most
+returns-clause-steps_most g c =
+    on-ok _ _ c.mark-marked.result
+    (most-over g.S.Machine.rules c.args.pass.now c.take-turn.result c.state.result.now c.mark-marked.new.board c.give.new.pass.seen
+    c.requires.number c.take-turn.ensures.agrees c.state.ensures.value c.give.ensures.seen c.args.steps.now c.mark-marked.new.steps)
+    c.mark-marked.ensures.steps_most

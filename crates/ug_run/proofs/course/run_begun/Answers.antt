@@ -3,9 +3,11 @@ use Rattle.ug_pieces.specs.ReadingLaws.{Rose-later}
 use Rattle.ug_crew.specs.Posts.{posts}
 use Rattle.std.proofs.lemmas.List.{length-map}
 use Rattle.ug_builder.specs.Reading.{Outside, first_of}
+use Rattle.ug_builder.specs.declared.reading.End.TheVariants as ends
 use Rattle.ug_wiring.specs.Lanes.{AreAtPosts, fresh_lanes}
 use Rattle.ug_wiring.proofs.LaneLaws.{lanes_many}
-use Rattle.ug_run.proofs.Homing.{same-many, fresh-at, back-at, here-at, root-is, first-sound, finished-read, finished-report, finished-made, finished-whole, read-same, read-faults, read-ended, start-stands, read-rose, report-rose, whole-ended, rose-sooner, came-home}
+use Rattle.ug_commands.specs.Statuses.{row_of}
+use Rattle.ug_run.proofs.Homing.{same-many, fresh-at, back-at, here-at, root-is, first-sound, finished-read, finished-report, finished-made, finished-whole, read-same, read-faults, read-ended, start-stands, read-rose, report-rose, whole-ended, rose-sooner, came-home, counted-home}
 use Rattle.ug_run.proofs.course.run_begun.Goals as goal
 
 pub read_lines-lanes-requires-clause-lanes : goal.read_lines-lanes-requires-clause-lanes
@@ -61,8 +63,8 @@ returns-clause-done g c = λ w events opens is in_range names_is peers_is alike 
     let speaker = g.met.S.Speaker g.world.𝓛 g.world.𝓜 g.world.𝓡 ((λ s x. x), (λ x. x), (λ x. x), λ x. x) in
     let old = c.new.result in
     let new = c.read_lines-lanes.new.reading.builder in
-    let o : Outside = record { left = g.E.Source.left c.args.site.now; reads_failed = g.E.Source.faults c.args.site.now; held = g.K.Sink.held c.args.report.now; writes_failed = g.K.Sink.faults c.args.report.now } in
-    let o' : Outside = record { left = g.E.Source.left c.read_lines-lanes.new.source; reads_failed = g.E.Source.faults c.read_lines-lanes.new.source; held = g.K.Sink.held c.read_lines-lanes.new.report; writes_failed = g.K.Sink.faults c.read_lines-lanes.new.report } in
+    let o : Outside = record { left = g.E.Source.left c.args.site.now; reads_failed = g.E.Source.faults c.args.site.now; held = g.K.Sink.held c.args.report.now; writes_failed = g.K.Sink.faults c.args.report.now; steps = c.args.steps.now } in
+    let o' : Outside = record { left = g.E.Source.left c.read_lines-lanes.new.source; reads_failed = g.E.Source.faults c.read_lines-lanes.new.source; held = g.K.Sink.held c.read_lines-lanes.new.report; writes_failed = g.K.Sink.faults c.read_lines-lanes.new.report; steps = c.read_lines-lanes.new.steps } in
     let ended = read-ended g.S.Machine.rules g.S.Speaker.speech (first_of c.args.start.first) old new o o' c.read_lines-lanes.new.reading.end c.in-Some.end c.in-Some.is c.read_lines-lanes.ensures.ended in
     came-home g.S.Machine.rules g.S.Speaker.speech machine.lawful speaker.speaks g.E.Wire.Wire.sessions g.E.Wire.Wire.begun g.E.Wire.Wire.faults w opens
     c.args.begun.turnstile c.args.begun.builder c.args.begun.passes.items c.args.start.wires.items is c.requires.alike alike
@@ -85,8 +87,8 @@ returns-clause-all g c =
 pub returns-clause-read : goal.returns-clause-read
 returns-clause-read g c = λ is.
     let begun = c.args.begun in
-    let o : Outside = record { left = g.E.Source.left c.args.site.now; reads_failed = g.E.Source.faults c.args.site.now; held = g.K.Sink.held c.args.report.now; writes_failed = g.K.Sink.faults c.args.report.now } in
-    let o' : Outside = record { left = g.E.Source.left c.read_lines-lanes.new.source; reads_failed = g.E.Source.faults c.read_lines-lanes.new.source; held = g.K.Sink.held c.read_lines-lanes.new.report; writes_failed = g.K.Sink.faults c.read_lines-lanes.new.report } in
+    let o : Outside = record { left = g.E.Source.left c.args.site.now; reads_failed = g.E.Source.faults c.args.site.now; held = g.K.Sink.held c.args.report.now; writes_failed = g.K.Sink.faults c.args.report.now; steps = c.args.steps.now } in
+    let o' : Outside = record { left = g.E.Source.left c.read_lines-lanes.new.source; reads_failed = g.E.Source.faults c.read_lines-lanes.new.source; held = g.K.Sink.held c.read_lines-lanes.new.report; writes_failed = g.K.Sink.faults c.read_lines-lanes.new.report; steps = c.read_lines-lanes.new.steps } in
     let old = c.new.result in
     let new = c.read_lines-lanes.new.reading.builder in
     let ended = read-ended g.S.Machine.rules g.S.Speaker.speech (first_of c.args.start.first) old new o o' c.read_lines-lanes.new.reading.end c.in-Some.end c.in-Some.is c.read_lines-lanes.ensures.ended in
@@ -99,8 +101,8 @@ returns-clause-read g c = λ is.
 pub returns-clause-report : goal.returns-clause-report
 returns-clause-report g c = λ is.
     let begun = c.args.begun in
-    let o : Outside = record { left = g.E.Source.left c.args.site.now; reads_failed = g.E.Source.faults c.args.site.now; held = g.K.Sink.held c.args.report.now; writes_failed = g.K.Sink.faults c.args.report.now } in
-    let o' : Outside = record { left = g.E.Source.left c.read_lines-lanes.new.source; reads_failed = g.E.Source.faults c.read_lines-lanes.new.source; held = g.K.Sink.held c.read_lines-lanes.new.report; writes_failed = g.K.Sink.faults c.read_lines-lanes.new.report } in
+    let o : Outside = record { left = g.E.Source.left c.args.site.now; reads_failed = g.E.Source.faults c.args.site.now; held = g.K.Sink.held c.args.report.now; writes_failed = g.K.Sink.faults c.args.report.now; steps = c.args.steps.now } in
+    let o' : Outside = record { left = g.E.Source.left c.read_lines-lanes.new.source; reads_failed = g.E.Source.faults c.read_lines-lanes.new.source; held = g.K.Sink.held c.read_lines-lanes.new.report; writes_failed = g.K.Sink.faults c.read_lines-lanes.new.report; steps = c.read_lines-lanes.new.steps } in
     let old = c.new.result in
     let new = c.read_lines-lanes.new.reading.builder in
     let ended = read-ended g.S.Machine.rules g.S.Speaker.speech (first_of c.args.start.first) old new o o' c.read_lines-lanes.new.reading.end c.in-Some.end c.in-Some.is c.read_lines-lanes.ensures.ended in
@@ -117,8 +119,8 @@ returns-clause-site g c = λ is. finished-made _ _ _ _ _ _ _ c.in-Some.end c.clo
 pub returns-clause-ended : goal.returns-clause-ended
 returns-clause-ended g c = λ is.
     let begun = c.args.begun in
-    let o : Outside = record { left = g.E.Source.left c.args.site.now; reads_failed = g.E.Source.faults c.args.site.now; held = g.K.Sink.held c.args.report.now; writes_failed = g.K.Sink.faults c.args.report.now } in
-    let o' : Outside = record { left = g.E.Source.left c.read_lines-lanes.new.source; reads_failed = g.E.Source.faults c.read_lines-lanes.new.source; held = g.K.Sink.held c.read_lines-lanes.new.report; writes_failed = g.K.Sink.faults c.read_lines-lanes.new.report } in
+    let o : Outside = record { left = g.E.Source.left c.args.site.now; reads_failed = g.E.Source.faults c.args.site.now; held = g.K.Sink.held c.args.report.now; writes_failed = g.K.Sink.faults c.args.report.now; steps = c.args.steps.now } in
+    let o' : Outside = record { left = g.E.Source.left c.read_lines-lanes.new.source; reads_failed = g.E.Source.faults c.read_lines-lanes.new.source; held = g.K.Sink.held c.read_lines-lanes.new.report; writes_failed = g.K.Sink.faults c.read_lines-lanes.new.report; steps = c.read_lines-lanes.new.steps } in
     let old = c.new.result in
     let new = c.read_lines-lanes.new.reading.builder in
     let ended = read-ended g.S.Machine.rules g.S.Speaker.speech (first_of c.args.start.first) old new o o' c.read_lines-lanes.new.reading.end c.in-Some.end c.in-Some.is c.read_lines-lanes.ensures.ended in
@@ -131,3 +133,17 @@ returns-clause-ended g c = λ is.
 pub returns-clause-faults : goal.returns-clause-faults
 returns-clause-faults g c =
     read-faults g.S.Machine.rules g.S.Speaker.speech (first_of c.args.start.first) c.new.result c.read_lines-lanes.new.reading.builder _ _ c.read_lines-lanes.new.reading.end c.read_lines-lanes.ensures.ended
+
+pub returns-clause-counted : goal.returns-clause-counted
+returns-clause-counted g c = λ w is.
+    let o : Outside = record { left = g.E.Source.left c.args.site.now; reads_failed = g.E.Source.faults c.args.site.now; held = g.K.Sink.held c.args.report.now; writes_failed = g.K.Sink.faults c.args.report.now; steps = c.args.steps.now } in
+    let o' : Outside = record { left = g.E.Source.left c.read_lines-lanes.new.source; reads_failed = g.E.Source.faults c.read_lines-lanes.new.source; held = g.K.Sink.held c.read_lines-lanes.new.report; writes_failed = g.K.Sink.faults c.read_lines-lanes.new.report; steps = c.read_lines-lanes.new.steps } in
+    let old = c.new.result in
+    let new = c.read_lines-lanes.new.reading.builder in
+    let ended = read-ended g.S.Machine.rules g.S.Speaker.speech (first_of c.args.start.first) old new o o' c.read_lines-lanes.new.reading.end c.in-Some.end c.in-Some.is c.read_lines-lanes.ensures.ended in
+    counted-home g.S.Machine.rules g.S.Speaker.speech (g.met.S.Machine g.world.𝓛 g.world.𝓜 g.world.𝓡 ((λ s x. x), (λ x. x), (λ x. x), λ x. x)).lawful
+    (g.met.S.Speaker g.world.𝓛 g.world.𝓜 g.world.𝓡 ((λ s x. x), (λ x. x), (λ x. x), λ x. x)).speaks g.E.Wire.Wire.sessions g.E.Wire.Wire.begun g.E.Wire.Wire.faults
+    w c.args.begun.turnstile c.args.begun.builder c.args.begun.passes.items c.args.start.wires.items is c.args.start.names.items c.args.start.grammar old new c.new.ensures
+    (first_of c.args.start.first) o o' c.in-Some.end ended c.read_lines-lanes.result.items c.into_parts-pass.result.0 c.into_parts-pass.ensures.pass
+    c.close-history.result.history.items c.close-history.ensures.history (row_of c.finish-status.result).completed
+    (λ done. finished-whole _ _ _ _ _ _ _ (c.in-Some.end ≡ ends.Complete) c.in-Some.end c.close-history.result.unnoted c.finish-status.result c.finish-status.ensures.finished (λ is'. is') done)

@@ -60,3 +60,15 @@ returns-clause-read g c = λ is.
     let same = c.prepare.ensures.faults in
     let risen = c.pick.ensures.faults in
     Rose-later _ _ _ (omega arith) c.run_begun.ensures.faults (c.run_begun.ensures.read is)
+
+pub returns-clause-counted : goal.returns-clause-counted
+returns-clause-counted g c = c.run_begun.ensures.counted c.args.plan.world c.in-Ok-begin.ensures.begun
+
+pub returns-in-Err-clause-counted : goal.returns-in-Err-clause-counted
+returns-in-Err-clause-counted g c = inl (c.idle.ensures.history, refl)
+
+pub returns-in-Err-pick-clause-counted : goal.returns-in-Err-pick-clause-counted
+returns-in-Err-pick-clause-counted g c = inl (c.idle-in-Err-pick.ensures.history, refl)
+
+pub returns-in_default-clause-counted : goal.returns-in_default-clause-counted
+returns-in_default-clause-counted g c = inl (c.idle-in_default.ensures.history, refl)

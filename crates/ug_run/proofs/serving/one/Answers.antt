@@ -13,3 +13,9 @@ returns-in_default-up_p1-clause-promised g c =
 
 pub returns-in_default-up_p1-clause-made : goal.returns-in_default-up_p1-clause-made
 returns-in_default-up_p1-clause-made g c = made-idle c.idle-in_default-up_p1.result.wires.items _ _ (names_in one_world) (c.idle-in_default-up_p1.ensures.wires ∙ c.new-in_default-up_p1.ensures)
+
+pub returns-in_default-clause-counted : goal.returns-in_default-clause-counted
+returns-in_default-clause-counted g c = inl (c.idle.ensures.history, refl)
+
+pub returns-in_default-up_p1-clause-counted : goal.returns-in_default-up_p1-clause-counted
+returns-in_default-up_p1-clause-counted g c = inl (c.idle-in_default-up_p1.ensures.history, refl)

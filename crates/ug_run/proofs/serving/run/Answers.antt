@@ -43,3 +43,13 @@ returns-in-Err-clause-usage g c = λ is.
 
 pub returns-clause-read : goal.returns-clause-read
 returns-clause-read g c = λ is. Rose-later _ _ _ c.configure.ensures.faults c.run_over.ensures.faults (c.run_over.ensures.read is)
+
+pub returns-in-Err-clause-counted : goal.returns-in-Err-clause-counted
+returns-in-Err-clause-counted g c = inl (c.idle.ensures.history, refl)
+
+pub returns-clause-counted : goal.returns-clause-counted
+returns-clause-counted g c =
+    elim c.run_over.ensures.counted [
+      | inl none ↦ inl none
+      | inr counted ↦ inr (c.in-Ok.world, c.in-Ok.ensures.world, counted)
+    ]
