@@ -1,3 +1,5 @@
 pub mod Ends
 pub mod Checks
+pub mod Places
+pub mod Whole
 pub mod Listings

@@ -6,9 +6,9 @@ use Rattle.ug_edge.specs.Told.{AppendsPiece, HasPicked, FileText, file_told}
 use Rattle.ug_pieces.specs.Reporting.{AppendsFront}
 use Rattle.ug_fields.specs.Reads.{Reads}
 use Rattle.ug_world.specs.World.{World}
-use Rattle.ug_grouping.specs.Texts.{group_lines}
-use Rattle.ug_grouping.specs.Grouped.{IsWholly, IsGrouped, HasEnded}
-use Rattle.ug_grouping.specs.declared.stop.Stop.TheVariants as stops
+use Rattle.ug_commands.specs.Texts.{group_lines}
+use Rattle.ug_commands.specs.Grouped.{IsWholly, IsGrouped, HasEnded}
+use Rattle.ug_commands.specs.declared.stop.Stop.TheVariants as stops
 use Rattle.ug_commands.specs.Files.{IsPartOf, AppendsThenStatus}
 use Rattle.ug_commands.specs.Statuses.{status_text}
 use Rattle.ug_commands.specs.Listed.{IsConfigured, IsListed}

@@ -1,4 +1,7 @@
 pub mod Files
 pub mod Statuses
 pub mod Checked
+pub mod Groups
+pub mod Texts
+pub mod Grouped
 pub mod Listed

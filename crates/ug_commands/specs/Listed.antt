@@ -6,8 +6,8 @@ use Rattle.ug_pieces.specs.Reporting.{AppendsFront}
 use Rattle.ug_fields.specs.Reads.{Reads}
 use Rattle.ug_world.specs.World.{World}
 use Rattle.ug_config.specs.Worlds.{config}
-use Rattle.ug_grouping.specs.Texts.{group_lines}
-use Rattle.ug_grouping.specs.Grouped.{most_bytes}
+use Rattle.ug_commands.specs.Texts.{group_lines}
+use Rattle.ug_commands.specs.Grouped.{most_bytes}
 use Rattle.ug_commands.specs.Files.{IsPartOf, AppendsThenStatus}
 use Rattle.ug_commands.specs.Statuses.{status_text}
 use Rattle.ug_commands.specs.declared.status.Status.{Status}

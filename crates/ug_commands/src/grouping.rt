@@ -7,11 +7,12 @@ ghost use Rattle.ug_commands.specs.Files.{AppendsThenStatus};
 ghost use Rattle.ug_commands.specs.Listed.{IsListed};
 
 use crate::frame::{end, pick};
+use crate::listing;
 use crate::report::config_text;
 use crate::status::Status;
+use crate::stop::Stop;
 use std::alloc::Global;
 use ug_edge::{Failed, Sink, Site, Source};
-use ug_grouping::Stop;
 use ug_pieces::write_all;
 use ug_types::ByteList;
 
@@ -30,7 +31,7 @@ pub fn groups<E: Site, K: Sink>(alloc: Global, config: &str, site: &mut E, repor
         Ok(()) => {}
         Err(status) => return end(report, status),
     }
-    match ug_grouping::groups(alloc, site, report) {
+    match listing::groups(alloc, site, report) {
         Ok(()) => end(report, Status::Ok),
         Err(Stop::Read) => end(report, Status::ReadFault),
         Err(Stop::Report) => end(report, Status::ReportFault),

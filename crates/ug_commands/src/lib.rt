@@ -4,10 +4,20 @@
 mod checking;
 mod frame;
 mod grouping;
+mod lines;
+mod listing;
+mod member;
+mod members;
 mod report;
 mod status;
+mod stop;
 
 pub use checking::check;
 pub use frame::{end, pick};
 pub use grouping::{end_refused, groups};
+pub use listing::read_world;
 pub use status::Status;
+pub use stop::Stop;
+
+#[cfg(test)]
+mod tests;

@@ -1,7 +1,7 @@
 use Rattle.std.proofs.Common.{[], subst, ◌∙◌}
 use Rattle.ug_pieces.specs.ReadingLaws.{Rose-later}
-use Rattle.ug_grouping.specs.Grouped.{HasEnded}
-use Rattle.ug_grouping.specs.declared.stop.Stop.{Stop}
+use Rattle.ug_commands.specs.Grouped.{HasEnded}
+use Rattle.ug_commands.specs.declared.stop.Stop.{Stop}
 use Rattle.ug_commands.proofs.Ends.{later_status}
 use Rattle.ug_commands.proofs.Listings.{listed_ok, listed_report, listed_limit}
 use Rattle.ug_commands.proofs.grouping.groups.Goals as goal

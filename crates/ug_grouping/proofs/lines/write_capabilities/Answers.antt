@@ -1,6 +1,0 @@
-use Rattle.ug_grouping.specs.Texts.{capability_text}
-use Rattle.ug_grouping.proofs.lines.write_capabilities.Goals as goal
-
-pub returns : goal.returns
-unfolding capability_text
-returns c = rw (← c.yes_or_no-extended.ensures, ← c.yes_or_no-enhanced_refresh.ensures) c.in_ok-write.ensures.bytes

@@ -1,3 +1,0 @@
-pub mod Groups
-pub mod Texts
-pub mod Grouped
