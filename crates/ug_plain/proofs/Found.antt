@@ -11,11 +11,13 @@ use Rattle.ug_types.specs.declared.key.Key.{Key}
 use Rattle.ug_types.specs.declared.route.Path.{Path}
 use Rattle.ug_types.specs.Attributes.{Attributes}
 use Rattle.ug_tables.specs.Tables.{Table}
+use Rattle.ug_prefixlist.specs.Order.{ascending}
 use Rattle.ug_events.specs.Events.{Happening, HasPaths, HasNone, ComesUp, GoesDown, HasPolicy, HasEntries, AsksAgain, SendsRequest, SendsList}
 use Rattle.ug_world.specs.declared.peer_state.PeerState.{PeerState}
 use Rattle.ug_world.specs.World.{World, paths_to}
-use Rattle.ug_world.specs.Private.{keys_to, path_at, told_of, table_of_peer, private_table}
+use Rattle.ug_world.specs.Private.{own_keys, keys_to, path_at, told_of, table_of_peer, private_table}
 use Rattle.ug_world.specs.After.{after}
+use Rattle.ug_world.proofs.Ascending.{ascending_none}
 use Rattle.ug_plain_rules.specs.Changes.{keys_at}
 use Rattle.ug_plain.specs.declared.watch.Watch.{Watch}
 use Rattle.ug_plain.specs.Slates.{IsBefore, IsWatch, HasAddPath, changes_keys, found_in}
@@ -41,11 +43,11 @@ key_test prefix i j = ap (λ (b : Bool). b && (i == j)) (prefix_same prefix)
 
 module _ (t : Table) (prefix : IpPrefix) (id : ℕ) where
   rest_of : List Path → Option Attributes
-  rest_of paths = found_in (keys_to true prefix paths) (map t (keys_to true prefix paths)) (at_id prefix id)
+  rest_of paths = found_in (own_keys prefix paths) (map t (own_keys prefix paths)) (at_id prefix id)
 
   step_on : (path : Path) (paths : List Path) (b : Bool) → (path.id == id) ≡ b → rest_of (path ∷ paths) ≡ (if b then t (at_id prefix path.id) else rest_of paths)
   unfolding rest_of
-  step_on path paths b e = ap (λ (c : Bool). if c then t (at_id prefix path.id) else found_in (keys_to true prefix paths) (map t (keys_to true prefix paths)) (at_id prefix id)) (key_test prefix path.id id ∙ e)
+  step_on path paths b e = ap (λ (c : Bool). if c then t (at_id prefix path.id) else found_in (own_keys prefix paths) (map t (own_keys prefix paths)) (at_id prefix id)) (key_test prefix path.id id ∙ e)
 
   find_on : (path : Path) (paths : List Path) → (path.id == id) ≡ false → find (λ (q : Path). q.id == id) (path ∷ paths) ≡ find (λ (q : Path). q.id == id) paths
   find_on path paths e = rw e refl
@@ -75,10 +77,10 @@ no_path : (w : World) (p : ℕ) (key : Key) → HasAddPath w p true → find (λ
 unfolding private_table
 no_path w p key has none = no_path_by w (slice_get w.peers p) key has none
 
-map_same : (f g : Key → Option Attributes) (prefix : IpPrefix) (paths : List Path) → ((id : ℕ) → f (at_id prefix id) ≡ g (at_id prefix id)) → map f (keys_to true prefix paths) ≡ map g (keys_to true prefix paths)
+map_same : (f g : Key → Option Attributes) (prefix : IpPrefix) (paths : List Path) → ((id : ℕ) → f (at_id prefix id) ≡ g (at_id prefix id)) → map f (own_keys prefix paths) ≡ map g (own_keys prefix paths)
 map_same f g prefix [] same = refl
 map_same f g prefix (path ∷ paths) same =
-    ap (λ (l : List (Option Attributes)). f (at_id prefix path.id) ∷ l) (map_same f g prefix paths same) ∙ ap (λ (x : Option Attributes). x ∷ map g (keys_to true prefix paths)) (same path.id)
+    ap (λ (l : List (Option Attributes)). f (at_id prefix path.id) ∷ l) (map_same f g prefix paths same) ∙ ap (λ (x : Option Attributes). x ∷ map g (own_keys prefix paths)) (same path.id)
 
 -- the routes before an event under the keys after it
 pub old_are : (w : World) (p : ℕ) (prefix : IpPrefix) (paths : List Path) → HasAddPath w p true
@@ -86,8 +88,14 @@ pub old_are : (w : World) (p : ℕ) (prefix : IpPrefix) (paths : List Path) → 
     ≡ map (private_table p w) (keys_to true prefix paths)
 unfolding rest_of
 old_are w p prefix paths has =
-    map_same (found_in (keys_to true prefix (paths_to w.routes prefix)) (map (private_table p w) (keys_to true prefix (paths_to w.routes prefix)))) (private_table p w) prefix paths
-    (λ id. found_all (private_table p w) prefix id (paths_to w.routes prefix) (λ (none : find (λ (q : Path). q.id == id) (paths_to w.routes prefix) ≡ None). no_path w p (at_id prefix id) has none))
+    map_same (found_in (keys_to true prefix before) (map (private_table p w) (keys_to true prefix before))) (private_table p w) prefix (ascending number paths)
+    (λ id. found_all (private_table p w) prefix id (ascending number before) (λ none. no_path w p (at_id prefix id) has (ascending_none (λ (q : Path). q.id == id) number before none)))
+  where
+    before : List Path
+    before = paths_to w.routes prefix
+
+    number : Path → ℕ
+    number path = path.id
 
 -- ---- what is watched
 

@@ -15,6 +15,8 @@ use Rattle.ug_types.specs.Ip.{IpPrefix}
 use Rattle.ug_types.specs.Keys.{prefix_cmp, same_prefix}
 use Rattle.ug_types.specs.declared.key.Key.{Key}
 use Rattle.ug_types.specs.declared.route.Path.{Path}
+use Rattle.ug_prefixlist.specs.Order.{ascending}
+use Rattle.ug_prefixlist.proofs.Sorting.{ascending_length}
 use Rattle.ug_events.specs.Events.{GivenPath, Happening, ComesUp, GoesDown, HasPaths, HasNone, HasPolicy, HasEntries, AsksAgain, SendsRequest, SendsList, IsEvent, is_some_path}
 use Rattle.ug_world.specs.World.{Routes, World, paths_to}
 use Rattle.ug_world.specs.Verdicts.{verdict, unless_known, path_of, path_count}
@@ -91,12 +93,21 @@ count_cons r routes = sum_by-cons length r.1 (values_of routes)
 some : (n : ℕ) → nat_lt 0 n ≡ true → 1 ≤ n
 some n e = grind (arith, nat_tests)
 
+own_few : (prefix : IpPrefix) (paths : List Path) → length (keys_to true prefix paths) ≤ length paths
+own_few prefix paths =
+    let same = length-map (ascending number paths) (λ (path : Path). key_of path) in
+    let kept = ascending_length number paths in
+    omega (arith, same, kept)
+  where
+    number : Path → ℕ
+    number path = path.id
+
+    key_of : Path → Key
+    key_of path = record { prefix = prefix; id = path.id }
+
 one_few : (add_path : Bool) (r : IpPrefix × List Path) → has_path r ≡ true → length (keys_to add_path r.0 r.1) ≤ length r.1
 one_few false r have = some (length r.1) have
-one_few true r have = let same = length-map r.1 (λ (path : Path). key_at r.0 path) in omega (arith, same)
-  where
-    key_at : IpPrefix → Path → Key
-    key_at prefix path = record { prefix = prefix; id = path.id }
+one_few true r have = own_few r.0 r.1
 
 keys_in : Bool → IpPrefix × List Path → List Key
 keys_in add_path r = keys_to add_path r.0 r.1
@@ -166,10 +177,7 @@ pub all_few : (w : World) (e : Happening) → IsEvent e → have_paths w.routes 
 all_few w e form have add_path = let few = keys_few add_path (after w e).routes (after_have w e form have) in omega (arith, few)
 
 at_few : (routes : Routes) (prefix : IpPrefix) → length (keys_to true prefix (paths_to routes prefix)) ≤ path_count routes
-at_few routes prefix = let same = length-map (paths_to routes prefix) (λ (path : Path). key_of path) in omega (arith, same, few_paths routes prefix)
-  where
-    key_of : Path → Key
-    key_of path = record { prefix = prefix; id = path.id }
+at_few routes prefix = let own = own_few prefix (paths_to routes prefix) in omega (arith, own, few_paths routes prefix)
 
 -- a prefix that loses its paths had one
 one_there : (w : World) (prefix : IpPrefix) → verdict w (HasNone prefix) ≡ None → have_paths w.routes ≡ true → 1 ≤ path_count w.routes

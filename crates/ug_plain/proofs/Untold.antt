@@ -6,7 +6,7 @@ use Rattle.ug_types.specs.declared.key.Key.{Key}
 use Rattle.ug_types.specs.Attributes.{Attributes}
 use Rattle.ug_tables.specs.Tables.{Table}
 use Rattle.ug_tables.specs.Decisions.{decided_attributes, decided_option}
-use Rattle.ug_prefixlist.specs.Named.{same_name}
+use Rattle.ug_types.specs.Bytes.{same_bytes}
 use Rattle.ug_outbound.specs.Tables.{Tables}
 use Rattle.ug_outbound.specs.declared.key.GroupKey.{GroupKey}
 use Rattle.ug_outbound.specs.declared.peer.Peer.{Peer}
@@ -86,8 +86,8 @@ went_down true s s' is up =
 went_down false s s' is up = refl
 
 not_about : (e : Happening) (s s' : PeerState) → Some s' ≡ Some (peer_after e s) → s'.up ≡ true → s.sessions ≡ s'.sessions → concerns e s.peer.name ≡ false → is_about e s ≡ false
-not_about (ComesUp peer) s s' is up same not = more_sessions (same_name s.peer.name peer) s s' is same
-not_about (GoesDown peer) s s' is up same not = went_down (same_name s.peer.name peer) s s' is up
+not_about (ComesUp peer) s s' is up same not = more_sessions (same_bytes s.peer.name peer) s s' is same
+not_about (GoesDown peer) s s' is up same not = went_down (same_bytes s.peer.name peer) s s' is up
 not_about (HasPolicy peer policy) s s' is up same not = not
 not_about (AsksAgain peer) s s' is up same not = not
 not_about (SendsRequest peer) s s' is up same not = not
@@ -126,9 +126,9 @@ untold e w p s s' there later up same not =
 -- ---- an event that asks for all routes again
 
 pub asks_is : (e : Happening) (s : PeerState) (name : List ℕ) → s.peer.name ≡ name → asks_again e name ≡ (is_request e && is_about e s)
-asks_is (AsksAgain peer) s name same = ap (λ (n : List ℕ). same_name n peer) (sym same)
-asks_is (SendsRequest peer) s name same = ap (λ (n : List ℕ). same_name n peer) (sym same)
-asks_is (SendsList peer request) s name same = ap (λ (n : List ℕ). request.now && same_name n peer) (sym same)
+asks_is (AsksAgain peer) s name same = ap (λ (n : List ℕ). same_bytes n peer) (sym same)
+asks_is (SendsRequest peer) s name same = ap (λ (n : List ℕ). same_bytes n peer) (sym same)
+asks_is (SendsList peer request) s name same = ap (λ (n : List ℕ). request.now && same_bytes n peer) (sym same)
 asks_is (ComesUp peer) s name same = refl
 asks_is (GoesDown peer) s name same = refl
 asks_is (HasPaths prefix paths) s name same = refl

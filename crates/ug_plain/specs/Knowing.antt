@@ -1,6 +1,6 @@
 -- What is known of a peer before an event.
 use Rattle.std.specs.Prelude.{◌≡◌, ℕ, ◌+◌, ◌≤◌, Bool, true, false, ◌&&◌, not, List, [], ◌∷◌, length, slice_get, Option, Some, None}
-use Rattle.ug_prefixlist.specs.Named.{same_name}
+use Rattle.ug_types.specs.Bytes.{same_bytes}
 use Rattle.ug_events.specs.Events.{Happening, ComesUp, GoesDown, HasPaths, HasNone, HasPolicy, HasEntries, AsksAgain, SendsRequest, SendsList}
 use Rattle.ug_world.specs.declared.peer_state.PeerState.{PeerState}
 use Rattle.ug_world.specs.World.{World}
@@ -20,16 +20,16 @@ concerns (HasNone prefix) name = true
 concerns (HasEntries list entries) name = true
 concerns (ComesUp peer) name = false
 concerns (GoesDown peer) name = false
-concerns (HasPolicy peer policy) name = same_name name peer
-concerns (AsksAgain peer) name = same_name name peer
-concerns (SendsRequest peer) name = same_name name peer
-concerns (SendsList peer request) name = same_name name peer
+concerns (HasPolicy peer policy) name = same_bytes name peer
+concerns (AsksAgain peer) name = same_bytes name peer
+concerns (SendsRequest peer) name = same_bytes name peer
+concerns (SendsList peer request) name = same_bytes name peer
 
 -- It asks for all routes of that peer again.
 abbrev pub asks_again : Happening → List ℕ → Bool
-asks_again (AsksAgain peer) name = same_name name peer
-asks_again (SendsRequest peer) name = same_name name peer
-asks_again (SendsList peer request) name = request.now && same_name name peer
+asks_again (AsksAgain peer) name = same_bytes name peer
+asks_again (SendsRequest peer) name = same_bytes name peer
+asks_again (SendsList peer request) name = request.now && same_bytes name peer
 asks_again (ComesUp peer) name = false
 asks_again (GoesDown peer) name = false
 asks_again (HasPaths prefix paths) name = false

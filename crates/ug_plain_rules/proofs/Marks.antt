@@ -5,6 +5,7 @@ use Rattle.std.proofs.lemmas.Bool.{eqb-true, eq-eqb}
 use Rattle.std.proofs.lemmas.Bool.Decides.{nat_tests}
 use Rattle.ug_types.specs.declared.mark.Mark.{Mark}
 use Rattle.ug_types.specs.Messages.{Message}
+use Rattle.ug_types.specs.Bytes.{is_empty}
 use Rattle.ug_board.specs.History.{IsLegal, replay, job_entry}
 use Rattle.ug_deeds.specs.Deeds.{Deed, when}
 use Rattle.ug_deeds.specs.Sessions.{sessions_of}
@@ -15,7 +16,7 @@ use Rattle.ug_speaker.specs.Speech.{Purpose, TakesEvent, MarksTold, Ends, Prepar
 use Rattle.ug_speaker.specs.Told.{handed_in, deeds_to, is_lost, mark_of, marks_from, begun}
 use Rattle.ug_speaker.specs.Owes.{TellsMarks}
 use Rattle.ug_plain_rules.specs.Seats.{Seat, Plain, has, is_lost_at, sessions_had}
-use Rattle.ug_plain_rules.specs.Plain.{handed_now, is_lost_in, is_live as is_live_here, mark_at, marks_at, has_unlost, begun_at, is_empty, is_quiet, is_drained, plain_rules, plain_speech}
+use Rattle.ug_plain_rules.specs.Plain.{handed_now, is_lost_in, is_live as is_live_here, mark_at, marks_at, has_unlost, begun_at, is_quiet, is_drained, plain_rules, plain_speech}
 use Rattle.ug_plain_rules.proofs.Steps.{quiet-at}
 use Rattle.ug_plain_rules.proofs.Counts.{IsCounted, nothing-in}
 use Rattle.ug_plain_rules.proofs.Growing.{PlainEntry, legal-push, replay-push}

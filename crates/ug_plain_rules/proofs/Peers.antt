@@ -3,7 +3,7 @@ use Rattle.std.proofs.Common.{◌≡◌, ℕ, ◌+◌, ◌≤◌, ◌⊎◌, inl
 use Rattle.std.specs.Prelude.{if◌then◌else◌}
 use Rattle.std.specs.Option.{option_map}
 use Rattle.std.proofs.lemmas.Option.{slice_get-map}
-use Rattle.ug_prefixlist.specs.Named.{same_name}
+use Rattle.ug_types.specs.Bytes.{same_bytes}
 use Rattle.ug_events.specs.Events.{Happening, ComesUp, GoesDown, HasPaths, HasNone, HasPolicy, HasEntries, AsksAgain, SendsRequest, SendsList}
 use Rattle.ug_world.specs.declared.peer_state.PeerState.{PeerState}
 use Rattle.ug_world.specs.World.{World}
@@ -54,7 +54,7 @@ still : (s : PeerState) → IsNextOf s s
 still s = record { capabilities = refl; enhanced = refl; named = refl; moved = inl (refl, refl) }
 
 one_changed : (name : List ℕ) (change : PeerState → PeerState) (s : PeerState) → IsNextOf s (change s) → IsNextOf s (changed_peer name change s)
-one_changed name change s next = by (same_name s.peer.name name)
+one_changed name change s next = by (same_bytes s.peer.name name)
   where
     by : (b : Bool) → IsNextOf s (if b then change s else s)
     by true = next
@@ -80,12 +80,12 @@ sessions-rise s s' next =
     ]
 
 pub about-alike : (e : Happening) (s s' : PeerState) → s'.peer.name ≡ s.peer.name → is_about e s' ≡ is_about e s
-about-alike (ComesUp name) s s' same = ap (λ (n : List ℕ). same_name n name) same
-about-alike (GoesDown name) s s' same = ap (λ (n : List ℕ). same_name n name) same
-about-alike (AsksAgain name) s s' same = ap (λ (n : List ℕ). same_name n name) same
-about-alike (SendsRequest name) s s' same = ap (λ (n : List ℕ). same_name n name) same
-about-alike (SendsList name request) s s' same = ap (λ (n : List ℕ). same_name n name) same
-about-alike (HasPolicy name policy) s s' same = ap (λ (n : List ℕ). same_name n name) same
+about-alike (ComesUp name) s s' same = ap (λ (n : List ℕ). same_bytes n name) same
+about-alike (GoesDown name) s s' same = ap (λ (n : List ℕ). same_bytes n name) same
+about-alike (AsksAgain name) s s' same = ap (λ (n : List ℕ). same_bytes n name) same
+about-alike (SendsRequest name) s s' same = ap (λ (n : List ℕ). same_bytes n name) same
+about-alike (SendsList name request) s s' same = ap (λ (n : List ℕ). same_bytes n name) same
+about-alike (HasPolicy name policy) s s' same = ap (λ (n : List ℕ). same_bytes n name) same
 about-alike (HasEntries name entries) s s' same = refl
 about-alike (HasPaths prefix paths) s s' same = refl
 about-alike (HasNone prefix) s s' same = refl

@@ -4,6 +4,7 @@ use Rattle.std.specs.Prelude.{◌&&◌, not, is_some}
 use Rattle.std.proofs.lemmas.List.{append-nil}
 use Rattle.ug_types.specs.Attributes.{Attributes}
 use Rattle.ug_types.specs.Messages.{Message}
+use Rattle.ug_types.specs.Bytes.{is_empty}
 use Rattle.ug_board.specs.declared.steps.LaneStep.TheVariants.{Next}
 use Rattle.ug_board.specs.declared.steps.LaneSaid.{LaneSaid}
 use Rattle.ug_board.specs.declared.steps.LaneSaid.TheVariants.{Begun, Hand}
@@ -22,7 +23,7 @@ use Rattle.ug_speaker.specs.Right.{IsToldRight, IsToldAll, IsToldAgain}
 use Rattle.ug_speaker.specs.Owes.{IsCourse, HistoriesRight, IsSpeaker}
 use Rattle.ug_packing.specs.Packing.{fits, text_of}
 use Rattle.ug_plain_rules.specs.Seats.{Seat, Plain, sessions_at, texts_of}
-use Rattle.ug_plain_rules.specs.Plain.{is_empty, is_drained, front_of, texts_at, next_said, plain_rules, plain_speech}
+use Rattle.ug_plain_rules.specs.Plain.{is_drained, front_of, texts_at, next_said, plain_rules, plain_speech}
 use Rattle.ug_plain_rules.proofs.Steps.{plain_steps}
 use Rattle.ug_plain_rules.proofs.Batches.{IsLevel, right-front}
 use Rattle.ug_plain_rules.proofs.Counts.{IsCounted}

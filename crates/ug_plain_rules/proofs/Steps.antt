@@ -1,6 +1,7 @@
 -- The rules do at each step what is owed.
 use Rattle.std.proofs.Common.{◌≡◌, ℕ, suc, zero, ◌+◌, Bool, true, false, List, [], ◌∷◌, slice_get, Option, Some, None, refl, sym}
 use Rattle.std.specs.Prelude.{◌==◌, not, nat_lt, if◌then◌else◌}
+use Rattle.ug_types.specs.Bytes.{is_empty}
 use Rattle.ug_board.specs.declared.steps.LaneStep.{LaneStep}
 use Rattle.ug_board.specs.declared.steps.LaneStep.TheVariants.{Next, Lost}
 use Rattle.ug_board.specs.declared.steps.LaneSaid.{LaneSaid}
@@ -10,7 +11,7 @@ use Rattle.ug_world.specs.declared.peer_state.PeerState.{PeerState}
 use Rattle.ug_speaker.specs.Speech.{Purpose, TakesEvent, MarksTold, Ends, Prepares}
 use Rattle.ug_speaker.specs.Owes.{StepsRight, IsTimely, StaysDrained, closed_by, world_by}
 use Rattle.ug_plain_rules.specs.Seats.{Seat, Plain, sessions_at, sessions_had, change_at, with_loss}
-use Rattle.ug_plain_rules.specs.Plain.{job_legal, after_job, is_empty, is_quiet, are_quiet, is_drained, at_rest, said_of, next_said, lane_reply, after_lane, plain_rules, plain_speech}
+use Rattle.ug_plain_rules.specs.Plain.{job_legal, after_job, is_quiet, are_quiet, is_drained, at_rest, said_of, next_said, lane_reply, after_lane, plain_rules, plain_speech}
 use Rattle.ug_plain_rules.proofs.Lawful.{rest_says}
 use Rattle.ug_plain_rules.proofs.Bools.{both_so, both}
 

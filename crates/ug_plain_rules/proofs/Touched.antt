@@ -13,9 +13,10 @@ use Rattle.ug_tables.specs.Tables.{among}
 use Rattle.ug_events.specs.Events.{Happening, ComesUp, GoesDown, HasPaths, HasNone, HasPolicy, HasEntries, AsksAgain, SendsRequest, SendsList}
 use Rattle.ug_world.specs.declared.peer_state.PeerState.{PeerState}
 use Rattle.ug_world.specs.World.{Routes, World, paths_to}
-use Rattle.ug_world.specs.Private.{keys_to, keys_of, path_at, told_of, table_of_peer, private_table}
+use Rattle.ug_world.specs.Private.{own_keys, keys_to, keys_of, path_at, told_of, table_of_peer, private_table}
 use Rattle.ug_world.specs.After.{after}
 use Rattle.ug_world.proofs.Keeping.{untouched}
+use Rattle.ug_world.proofs.Ascending.{among_ascending}
 use Rattle.ug_speaker.specs.Speech.{is_request}
 use Rattle.ug_plain_rules.specs.Changes.{keys_at}
 use Rattle.ug_plain_rules.proofs.SameKeys.{prefix-is}
@@ -23,15 +24,15 @@ use Rattle.ug_plain_rules.proofs.Bools.{both, true_or, or_true}
 
 -- ---- a path's key
 
-at_own : (prefix q : IpPrefix) (id : ℕ) (paths : List Path) (path : Path) → same_prefix prefix q ≡ true → find (λ (path : Path). path.id == id) paths ≡ Some path → among (keys_to true q paths) (record { prefix = prefix; id = id }) ≡ true
+at_own : (prefix q : IpPrefix) (id : ℕ) (paths : List Path) (path : Path) → same_prefix prefix q ≡ true → find (λ (path : Path). path.id == id) paths ≡ Some path → among (own_keys q paths) (record { prefix = prefix; id = id }) ≡ true
 at_own prefix q id [] path same is = absurd cc
 at_own prefix q id (x ∷ paths) path same is = by (x.id == id) refl is (λ rest. at_own prefix q id paths path same rest)
   where
     by : (b : Bool) → (x.id == id) ≡ b → (if b then Some x else find (λ (path : Path). path.id == id) paths) ≡ Some path
-        → (find (λ (path : Path). path.id == id) paths ≡ Some path → among (keys_to true q paths) (record { prefix = prefix; id = id }) ≡ true)
-        → among (keys_to true q (x ∷ paths)) (record { prefix = prefix; id = id }) ≡ true
-    by true e is rest = true_or (same_prefix prefix q && (id == x.id)) (among (keys_to true q paths) (record { prefix = prefix; id = id })) (both (same_prefix prefix q) (id == x.id) same (eq-eqb id x.id (sym (eqb-true x.id id e))))
-    by false e is rest = or_true (same_prefix prefix q && (id == x.id)) (among (keys_to true q paths) (record { prefix = prefix; id = id })) (rest is)
+        → (find (λ (path : Path). path.id == id) paths ≡ Some path → among (own_keys q paths) (record { prefix = prefix; id = id }) ≡ true)
+        → among (own_keys q (x ∷ paths)) (record { prefix = prefix; id = id }) ≡ true
+    by true e is rest = true_or (same_prefix prefix q && (id == x.id)) (among (own_keys q paths) (record { prefix = prefix; id = id })) (both (same_prefix prefix q) (id == x.id) same (eq-eqb id x.id (sym (eqb-true x.id id e))))
+    by false e is rest = or_true (same_prefix prefix q && (id == x.id)) (among (own_keys q paths) (record { prefix = prefix; id = id })) (rest is)
 
 at_zero : (prefix q : IpPrefix) (id : ℕ) (paths : List Path) (path : Path) → same_prefix prefix q ≡ true → path_at false id paths ≡ Some path → among (keys_to false q paths) (record { prefix = prefix; id = id }) ≡ true
 at_zero prefix q id [] path same is = absurd cc
@@ -42,7 +43,7 @@ at_zero prefix q id (x ∷ paths) path same is = by (id == 0) refl is
     by false e is = absurd cc
 
 path_among : (add_path : Bool) (prefix q : IpPrefix) (id : ℕ) (paths : List Path) (path : Path) → same_prefix prefix q ≡ true → path_at add_path id paths ≡ Some path → among (keys_to add_path q paths) (record { prefix = prefix; id = id }) ≡ true
-path_among true prefix q id paths path same is = at_own prefix q id paths path same is
+path_among true prefix q id paths path same is = among_ascending q paths (record { prefix = prefix; id = id }) ∙ at_own prefix q id paths path same is
 path_among false prefix q id paths path same is = at_zero prefix q id paths path same is
 
 no_path : (add_path : Bool) (id : ℕ) → path_at add_path id [] ≡ None

@@ -2,6 +2,7 @@
 use Rattle.std.specs.Prelude.{ℕ, ◌+◌, ◌-◌, ◌*◌, ◌==◌, nat_lt, Bool, true, false, ◌&&◌, not, List, [], ◌∷◌, ◌++◌, length, take, slice_get, Option, Some, None, is_none, Result, Ok, Err, if◌then◌else◌}
 use Rattle.ug_types.specs.declared.mark.Mark.{Mark}
 use Rattle.ug_types.specs.Messages.{Message, Ignored}
+use Rattle.ug_types.specs.Bytes.{is_empty}
 use Rattle.ug_board.specs.declared.steps.LaneStep.{LaneStep}
 use Rattle.ug_board.specs.declared.steps.LaneStep.TheVariants.{Next, Lost}
 use Rattle.ug_board.specs.declared.steps.LaneSaid.{LaneSaid}
@@ -48,10 +49,6 @@ mark_at p s plain = record {
 abbrev pub marks_at : (PeerState → Bool) → ℕ → List PeerState → Plain → List Mark
 marks_at test p [] plain = []
 marks_at test p (s ∷ peers) plain = when (test s && is_live p s plain.seats) (mark_at p s plain ∷ []) ++ marks_at test (p + 1) peers plain
-
-abbrev pub is_empty : List (List ℕ) → Bool
-is_empty [] = true
-is_empty (text ∷ texts) = false
 
 -- The peer's sessions are all begun, and nothing is left to be handed out.
 abbrev pub is_quiet : ℕ → Seat → Bool
