@@ -237,9 +237,15 @@ awk 'BEGIN {
     print "withdraw 10.0.0.0/32"
     print "paths 2001:db8::/32 id=1 from=local nh=:: origin=igp as=-"
     print "paths 10.0.0.0/32 id=1 from=local nh=0.0.0.0 origin=igp as=-"
+    print "paths 10.0.0.0/32 id=1 from=p1 nh=0.0.0.0 origin=igp as=-"
+    print "paths 10.0.0.0/32 id=1 from=local nh=0.0.0.0 origin=igp as=- | id=1 from=local nh=0.0.0.0 origin=igp as=-"
+    print "paths 10.0.0.0/32 id=1"
+    print "paths 10.0.0.0/33 id=1"
+    print "paths 10.0.0.0/32 id=0"
+    print "paths 10.0.0.0/32 id=1 from=P1"
 }' > many-prefixes
 run run no-peers many-prefixes there
-ends "run over as many prefixes as there can be" 0 $'line 1048577 refused 9 table-full\nline 1048579 refused 9 table-full\nline 1048582 refused 9 table-full\naccepted 1048579 refused 3'
+ends "run over as many prefixes as there can be" 0 $'line 1048577 refused 9 table-full\nline 1048579 refused 9 table-full\nline 1048582 refused 9 table-full\nline 1048583 refused 1 unknown-peer\nline 1048584 refused 7 same-path-id\nline 1048585 refused 22 bad-words\nline 1048586 refused 23 bad-prefix\nline 1048587 refused 24 bad-attribute\nline 1048588 refused 25 bad-name\naccepted 1048579 refused 9'
 rm many-prefixes
 awk '
     function paths(n,   j, text) {
