@@ -3,12 +3,8 @@ use Rattle.std.proofs.Common.{◌≡◌, ◌⊎◌, inl, inr, ℕ, zero, suc, Bo
 use Rattle.std.specs.Prelude.{slice_set, slice_index_or, if◌then◌else◌, ◌↔◌}
 use Rattle.std.specs.Option.{option_map}
 use Rattle.std.specs.Map.{lookup}
-use Rattle.std.specs.BTreeMap.{is_at}
-use Rattle.std.specs.declared.cmp.Ordering.{Ordering}
 use Rattle.std.proofs.lemmas.List.{map-append, length-map}
 use Rattle.ug_types.specs.contracts.compared.AttrsPartialEq.TheImpl as equal
-use Rattle.ug_types.specs.contracts.compared.AttrsOrd.TheImpl as ordered
-use Rattle.ug_types.specs.contracts.compared.AttrsOrd.TheImpl.Laws as ordered_laws
 use Rattle.ug_types.specs.Attributes.{Attributes}
 use Rattle.ug_tables.specs.Decisions.{decided_attributes}
 use Rattle.ug_packing.specs.Packing.{Shared, are_same, with_key}
@@ -97,19 +93,19 @@ place_added (x ∷ xs) a b new = by (are_same x a) refl (λ none. place_added xs
     by false other rest new = at (are_same x b) refl rest other (none (place_in xs a) refl new)
 
 -- with a group more, the map finds each
-pub index_added : {K : Type 0} (cmp : Attributes → Attributes → Ordering) (compare : Attributes → K → Ordering) (law : (a b : Attributes) → is_at (cmp a) b ≡ are_same a b) (groups : List Shared) (a : Attributes) (g : Shared) (place : ℕ) (old new : List (K × ℕ))
-    → IsIndex compare groups old → place_in (attributes_in groups) a ≡ None → g.attrs ≡ a → place ≡ length groups
-    → ((q : Attributes) → lookup (is_at (compare q)) new ≡ cond (is_at (cmp a) q) (Some place) (lookup (is_at (compare q)) old)) → IsIndex compare (groups ++ g ∷ []) new
-index_added cmp compare law groups a g place old new index none same at updates b =
+pub index_added : {K : Type 0} (eq : Attributes → Attributes → Bool) (same : Attributes → K → Bool) (law : (a b : Attributes) → eq a b ≡ are_same a b) (groups : List Shared) (a : Attributes) (g : Shared) (place : ℕ) (old new : List (K × ℕ))
+    → IsIndex same groups old → place_in (attributes_in groups) a ≡ None → g.attrs ≡ a → place ≡ length groups
+    → ((q : Attributes) → lookup (same q) new ≡ cond (eq a q) (Some place) (lookup (same q) old)) → IsIndex same (groups ++ g ∷ []) new
+index_added eq same law groups a g place old new index none is at updates b =
     let xs = attributes_in groups in
     updates b
-    ∙ ap (λ (c : Bool). cond c (Some place) (lookup (is_at (compare b)) old)) (law a b)
+    ∙ ap (λ (c : Bool). cond c (Some place) (lookup (same b) old)) (law a b)
     ∙ ap (λ (p : Option ℕ). cond (are_same a b) (Some place) p) (index b)
     ∙ ap (λ (n : ℕ). cond (are_same a b) (Some n) (place_in xs b)) (at ∙ sym (length-map groups (λ (x : Shared). x.attrs)))
     ∙ sym (place_added xs a b none)
-    ∙ ap (λ (x : Attributes). place_in (xs ++ x ∷ []) b) (sym same)
+    ∙ ap (λ (x : Attributes). place_in (xs ++ x ∷ []) b) (sym is)
     ∙ ap (λ (l : List Attributes). place_in l b) (sym (map-append (λ (x : Shared). x.attrs) groups (g ∷ [])))
 
--- attributes that are equal in their order are the same
-pub at_same : (a b : Attributes) → IsTrue (equal.ghosts.eq a b) ↔ (a ≡ b) → is_at (ordered.ghosts.cmp a) b ≡ are_same a b
-at_same a b law = sym (ordered_laws.lawful.matches_eq a b) ∙ decides_same (equal.ghosts.eq a b) a b (λ e. law.0 e) (λ e. law.1 e)
+-- attributes that compare as equal are the same
+pub eq_same : (a b : Attributes) → IsTrue (equal.ghosts.eq a b) ↔ (a ≡ b) → equal.ghosts.eq a b ≡ are_same a b
+eq_same a b law = decides_same (equal.ghosts.eq a b) a b (λ e. law.0 e) (λ e. law.1 e)

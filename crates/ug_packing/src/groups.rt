@@ -6,7 +6,7 @@ ghost use Rattle.ug_packing.specs.Seen.{joined};
 ghost use Rattle.ug_packing.specs.Placed.{attributes_in, place_in};
 
 use std::alloc::Global;
-use std::collections::BTreeMap;
+use std::collections::HashMap;
 use std::marker::Model;
 use ug_types::{Attrs, Key, NoMemory, value_laws};
 
@@ -51,12 +51,12 @@ impl<'a> Group<'a> {
 }
 
 /// Keys by their attributes, in the order of the first of each. The attributes are lent, so none is copied. A map finds
-/// the group of a key, in the logarithm of how many groups there are.
+/// the group of a key by a hash of its attributes, and compares them with those of the same hash alone.
 #[derive(Drop)]
 pub struct Groups<'a> {
     alloc: Global,
     groups: Vec<Group<'a>>,
-    places: BTreeMap<&'a Attrs, usize>,
+    places: HashMap<&'a Attrs, usize>,
 }
 
 impl<'a> Model for Groups<'a> {
@@ -68,7 +68,7 @@ impl<'a> Model for Groups<'a> {
 
     ghost view = { λ g. g.groups.items };
 
-    ghost invariant = { λ g. IsIndex (λ a k. ⟦<Attrs as Ord>⟧.cmp a k.now) g.groups.items g.places.entries };
+    ghost invariant = { λ g. IsIndex (λ a k. ⟦<Attrs as PartialEq>⟧.eq a k.now) g.groups.items g.places.entries };
 }
 
 impl<'a> Groups<'a> {
@@ -79,7 +79,7 @@ impl<'a> Groups<'a> {
         Groups {
             alloc,
             groups: Vec::new(alloc),
-            places: BTreeMap::new(alloc),
+            places: HashMap::new(alloc),
         }
     }
 
