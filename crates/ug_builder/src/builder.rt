@@ -41,6 +41,7 @@ pub struct Builder<S: Speaker> {
     pass: Pass<Board<S>>,
     names: NameList,
     grammar: Grammar,
+    coalesce: u32,
     tally: Tally,
 }
 
@@ -56,8 +57,14 @@ impl<S: Speaker> Model for Builder<S> {
 }
 
 impl<S: Speaker> Builder<S> {
-    /// A builder that has taken no lines.
-    pub fn new(alloc: Global, pass: Pass<Board<S>>, names: NameList, grammar: Grammar) -> Self
+    /// A builder that has taken no lines. It pumps the lanes that work here after so many accepted events.
+    pub fn new(
+        alloc: Global,
+        pass: Pass<Board<S>>,
+        names: NameList,
+        grammar: Grammar,
+        coalesce: u32,
+    ) -> Self
         requires free { pass.holds ≡ false }
         requires number { pass.number ≡ 0 }
         ensures { result ≡ record { pass = pass; names = names.items; grammar = grammar; tally = record { lines = 0; accepted = 0; refused = 0 } } }
@@ -67,6 +74,7 @@ impl<S: Speaker> Builder<S> {
             pass,
             names,
             grammar,
+            coalesce,
             tally: Tally {
                 lines: 0,
                 accepted: 0,
@@ -94,6 +102,7 @@ impl<S: Speaker> Builder<S> {
             pass,
             names,
             grammar: _,
+            coalesce: _,
             tally: _,
         } = self;
         (pass, names)
@@ -197,7 +206,8 @@ impl<S: Speaker> Builder<S> {
         Ok(text)
     }
 
-    /// Takes a line, and tells the report what it came to. Where something was taken, the lanes that work here are pumped.
+    /// Takes a line, and tells the report what it came to. After each so many accepted events the lanes that work here are
+    /// pumped.
     pub(crate) fn take<R: Wait, W: Wire, L: Ledger, K: Sink>(
         &mut self,
         rt: &R,
@@ -224,13 +234,14 @@ impl<S: Speaker> Builder<S> {
         let Some(tally) = self.tally.with(&came) else {
             return Err(Stop::NoMemory);
         };
+        let is_due = is_multiple(tally.accepted, self.coalesce);
         match self.tell(tally.lines, &came, report) {
             Ok(()) => {}
             Err(stop) => return Err(stop),
         }
         self.tally = tally;
         if let Came::Took(_) = came {
-            crew.pump_here(rt, turnstile);
+            pump_where(rt, turnstile, crew, is_due);
         }
         Ok(())
     }
@@ -305,6 +316,26 @@ impl<S: Speaker> Builder<S> {
         ensures steps_least { RisesBy steps.old steps.new (least_at S.Machine.rules self.old.pass.root self.old.pass.seen) (least_at S.Machine.rules self.old.pass.root self.new.pass.seen) }
     {
         break_off_in_turn(rt, turnstile, &mut self.pass, steps);
+    }
+}
+
+/// Whether so many events are a multiple of that number.
+fn is_multiple(accepted: u64, coalesce: u32) -> bool {
+    accepted % u64::from(coalesce.max(1)) == 0
+}
+
+/// Pumps the lanes that work here, where that is due.
+fn pump_where<R: Wait, W: Wire, S: Speaker>(
+    rt: &R,
+    turnstile: &Turnstile<Board<S>>,
+    crew: &mut Crew<W, S>,
+    is_due: bool,
+)
+    requires crew { AreHere turnstile.now.id crew.old }
+    ensures posts { crew.new ≡ crew.old }
+{
+    if is_due {
+        crew.pump_here(rt, turnstile);
     }
 }
 

@@ -100,6 +100,7 @@ pub(crate) fn run_over<S: Speaker, R: Threads + Wait + Sync, E: Site, K: Sink, L
         apart,
     } = plan;
     let peers = world.peers();
+    let coalesce = world.local().coalesce;
     let mut wires = Sequence::new(alloc);
     let names = match prepare(alloc, &world, dir, &mut wires, site) {
         Ok(names) => names,
@@ -117,6 +118,7 @@ pub(crate) fn run_over<S: Speaker, R: Threads + Wait + Sync, E: Site, K: Sink, L
         names,
         peers,
         grammar,
+        coalesce,
         first,
         apart,
     };
@@ -160,14 +162,15 @@ fn prepare<E: Site>(
     }
 }
 
-/// What a run over a board starts with beside it: its wires, the names and the number of its peers, and of its plan all
-/// but the world.
+/// What a run over a board starts with beside it: its wires, the names and the number of its peers, after how many
+/// accepted events they are sent what is new, and of its plan all but the world.
 #[derive(Drop)]
 struct Start<W: Wire> {
     wires: WireList<W>,
     names: NameList,
     peers: u32,
     grammar: Grammar,
+    coalesce: u32,
     first: Option<Event>,
     apart: bool,
 }
@@ -222,13 +225,14 @@ fn run_begun<S: Speaker, R: Threads + Wait + Sync, E: Site, K: Sink, L: Ledger>(
         names,
         peers,
         grammar,
+        coalesce,
         first,
         apart,
     } = start;
     let lanes = man(room, wires, passes);
     let mut reading = Reading {
         alloc,
-        builder: Builder::new(alloc, builder, names, grammar),
+        builder: Builder::new(alloc, builder, names, grammar, coalesce),
         first,
         end: None,
     };
