@@ -1,8 +1,20 @@
-//! Trials of the whole: runs whose reports and sessions were worked out by hand.
+//! Trials of the whole: runs whose reports and sessions were worked out by hand, and what other trials take of them.
 #![tactic(auto)]
 
+mod configurations;
+mod given;
+mod messages;
+mod outcome;
+mod rows;
 #[cfg(test)]
 mod tests;
 mod trickle;
 
+pub use configurations::{ADD_PATH, C1, C2, C3, ENHANCED, IPV6, LOCAL, NO_MAP, ORF, P1};
+pub use given::{APART, BOTH, Given, HERE, ONE, nth, one_over, run, run_gated, run_over};
+pub use messages::{
+    EOR, NO_SESSION, Says, Session, TEN, TEN_GONE, TEN_TO_P2, add_text, bytes_of_messages,
+};
+pub use outcome::{Deed, Kept, Outcome, Sent, Step, Wanted, came_to, ended, made_nothing, sent_at};
+pub use rows::{REQUESTS, ROWS, Row, first_other};
 pub use trickle::Trickle;

@@ -2,7 +2,5 @@
 
 mod check;
 mod faults;
-mod given;
-mod messages;
 mod runs;
 mod words;

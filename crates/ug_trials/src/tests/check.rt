@@ -1,7 +1,8 @@
 //! Streams that are checked, with reports worked out by hand.
 
-use super::given::{Given, made_nothing, one_over, run};
-use super::messages::add_text;
+use crate::given::{Given, one_over, run};
+use crate::messages::add_text;
+use crate::outcome::made_nothing;
 use std::alloc::Global;
 use std::test::Fail;
 use ug_types::NoMemory;

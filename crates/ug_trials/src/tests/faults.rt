@@ -1,71 +1,15 @@
 //! Runs of which a call of the outside fails.
 
-use super::given::{
-    APART, BOTH, Given, HERE, Outcome, Wanted, came_to, ended, nth, run, run_over, sent_once,
-};
-use super::messages::{EOR, Session, TEN, bytes_of_messages};
-use super::runs::{C1, C2, NO_SESSION, TEN_TO_P2};
-use std::alloc::Global;
-use std::process::Abort;
-use std::sync::Wait;
+use crate::configurations::{C1, C2};
+use crate::given::{BOTH, Given, HERE, nth, run, run_over};
+use crate::messages::{EOR, NO_SESSION, Session, TEN, TEN_TO_P2};
+use crate::outcome::{Wanted, came_to};
 use std::test::Fail;
-use std::thread::Threads;
 use ug_edge::CallKind;
-use ug_types::NoMemory;
 
 /// p1 and p2 come up, and there is a route to 10.0.0.0/8.
 const TWO_PEERS: &str =
     "up p1\nup p2\npaths 10.0.0.0/8 id=1 from=local nh=0.0.0.0 origin=igp as=-\n";
-
-const LOST: &str = "lost p1 1\naccepted 3 refused 0\nstatus 8 lost p1 1\n";
-
-/// Whether p1 was lost with so many bytes of the 68 that it is to be sent, and p2 has all of its own.
-fn is_lost(alloc: Global, outcome: &Outcome, total: usize) -> Result<bool, NoMemory> {
-    let mut first = bytes_of_messages(alloc, &[EOR, TEN])?;
-    first.truncate(total);
-    let second = bytes_of_messages(alloc, &[EOR, TEN_TO_P2])?;
-    Ok(
-        ended(outcome, 8, LOST)
-            && sent_once(outcome, 0, first.as_slice())
-            && sent_once(outcome, 1, second.as_slice()),
-    )
-}
-
-/// The wire to p1 fails after so many bytes.
-fn is_lost_at<R: Threads + Wait + Sync + Abort>(
-    rt: &R,
-    alloc: Global,
-    words: &[&str],
-    total: usize,
-) -> Result<(), Fail> {
-    let given = Given {
-        cuts: &[("p1", total as u64)],
-        ..run_over(words, C2, TWO_PEERS)
-    };
-    let outcome = run(rt, alloc, &given)?;
-    assert!(rt; is_lost(alloc, &outcome, total)?, "at {total}");
-    Ok(())
-}
-
-/// A wire may fail within a marker, at its end, within a header, at the end of the first message and within the second.
-#[test]
-fn a_wire_that_fails_loses_one_session(rt: HostRuntime) -> Result<(), Fail> {
-    let alloc = rt.alloc();
-    for total in [0, 1, 15, 16, 18, 19, 22, 23, 24, 39, 42, 66, 67] {
-        is_lost_at(&rt, alloc, HERE, total)?;
-    }
-    Ok(())
-}
-
-/// The same beside workers: within the first message and at its end, and within the second.
-#[test]
-fn workers_lose_one_session(rt: HostRuntime) -> Result<(), Fail> {
-    let alloc = rt.alloc();
-    for total in [0, 1, 16, 22, 23, 24, 30, 67] {
-        is_lost_at(&rt, alloc, APART, total)?;
-    }
-    Ok(())
-}
 
 /// Events, the begins that fail, the report, and the sessions of p1.
 type BeginRow = (

@@ -1,8 +1,9 @@
 //! Words that are a command, and words that are none.
 
-use super::given::{Given, Wanted, came_to, made_nothing, nth, one_over, run};
-use super::messages::{EOR, TEN};
-use super::runs::C1;
+use crate::configurations::C1;
+use crate::given::{Given, nth, one_over, run};
+use crate::messages::{EOR, TEN};
+use crate::outcome::{Wanted, came_to, made_nothing};
 use std::test::Fail;
 use ug_edge::CallKind;
 

@@ -3,39 +3,53 @@
 use std::alloc::Global;
 use ug_types::NoMemory;
 
-/// A message: routes announced with an origin, a route withdrawn, or any other, as its bytes behind the marker.
+/// A message: routes announced with an origin, a route withdrawn, or any other, as its bytes behind the marker. Or the
+/// front of one that was cut, as it is.
 #[derive(Clone, Copy)]
-pub(super) enum Says<'a> {
+pub enum Says<'a> {
     Announced(u8, &'a [u8]),
     Withdrawn(&'a [u8]),
     Text(&'a [u8]),
+    Front(&'a [u8]),
 }
 
 /// A session, by its messages.
-pub(super) type Session<'a> = &'a [Says<'a>];
+pub type Session<'a> = &'a [Says<'a>];
 
-pub(super) const EOR: Says<'static> = Says::Text(&[0, 0x17, 2, 0, 0, 0, 0]);
+/// An End-of-RIB (RFC 4724 section 2).
+pub const EOR: Says<'static> = Says::Text(&[0, 0x17, 2, 0, 0, 0, 0]);
 
 /// 10.0.0.0/8, with ORIGIN IGP.
-pub(super) const TEN: Says<'static> = Says::Announced(0, &[8, 10]);
+pub const TEN: Says<'static> = Says::Announced(0, &[8, 10]);
 
-pub(super) const TEN_GONE: Says<'static> = Says::Withdrawn(&[8, 10]);
+/// 10.0.0.0/8 as p2 of C2 is told of it: with the next hop 198.51.100.1.
+pub const TEN_TO_P2: Says<'static> = Says::Text(&[
+    0, 0x2D, 2, 0, 0, 0, 0x14, 0x40, 1, 1, 0, 0x40, 2, 6, 2, 1, 0, 0, 0xFD, 0xE9, 0x40, 3, 4, 0xC6,
+    0x33, 0x64, 1, 8, 10,
+]);
+
+/// 10.0.0.0/8 withdrawn.
+pub const TEN_GONE: Says<'static> = Says::Withdrawn(&[8, 10]);
+
+/// What a wire has that nothing was begun on.
+pub const NO_SESSION: &[Session<'static>] = &[];
 
 /// The bytes of these messages.
-pub(super) fn bytes_of_messages(alloc: Global, messages: &[Says<'_>]) -> Result<Vec<u8>, NoMemory> {
+pub fn bytes_of_messages(alloc: Global, messages: &[Says<'_>]) -> Result<Vec<u8>, NoMemory> {
     let mut bytes = Vec::new(alloc);
     for says in messages {
         match says {
             Says::Announced(origin, prefix) => add_announcement(&mut bytes, *origin, prefix)?,
             Says::Withdrawn(prefix) => add_withdrawal(&mut bytes, prefix)?,
             Says::Text(text) => add_text(&mut bytes, text)?,
+            Says::Front(front) => bytes.extend_from_slice(front)?,
         }
     }
     Ok(bytes)
 }
 
 /// A message with these bytes behind its marker.
-pub(super) fn add_text(bytes: &mut Vec<u8>, text: &[u8]) -> Result<(), NoMemory> {
+pub fn add_text(bytes: &mut Vec<u8>, text: &[u8]) -> Result<(), NoMemory> {
     bytes.extend_from_slice(&[255; 16])?;
     bytes.extend_from_slice(text)?;
     Ok(())
