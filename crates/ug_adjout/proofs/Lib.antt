@@ -7,3 +7,4 @@ pub mod Forced
 pub mod Slots
 pub mod Values
 pub mod Counts
+pub mod Numbers

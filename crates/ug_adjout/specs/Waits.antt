@@ -1,5 +1,5 @@
 -- The keys that wait for a packet, by their places in the list.
-use Rattle.std.specs.Prelude.{ℕ, nat_eq, List, [], ◌∷◌, map, Option, Some, None}
+use Rattle.std.specs.Prelude.{ℕ, nat_eq, nat_le, List, [], ◌∷◌, map, Option, Some, None}
 use Rattle.std.specs.Option.{option_eq}
 use Rattle.std.specs.List.{filter}
 use Rattle.ug_adjout.specs.declared.waiting.Waiting.{Waiting}
@@ -11,6 +11,10 @@ module _ {K : Type 0} where
   -- the keys that wait for this value, or for their withdrawal
   abbrev pub keys_for : Option ℕ → List (ℕ × Waiting K) → List K
   keys_for value es = waiting_keys (filter (λ e. option_eq nat_eq e.1.value value) es)
+
+  -- what waits from this place on
+  abbrev pub from_place : ℕ → List (ℕ × Waiting K) → List (ℕ × Waiting K)
+  from_place place es = filter (λ e. nat_le place e.0) es
 
 abbrev pub value_or : Option ℕ → Option ℕ → Option ℕ
 value_or None other = other

@@ -4,7 +4,7 @@ ghost use Rattle.std.specs.Map.{remove_entry};
 ghost use Rattle.std.specs.Ordering.{nat_cmp};
 ghost use Rattle.std.specs.BTreeMap.{insert_entry, is_at};
 ghost use Rattle.ug_pending.specs.Formatting.{fitting};
-ghost use Rattle.ug_adjout.specs.Waits.{keys_for, first_announced};
+ghost use Rattle.ug_adjout.specs.Waits.{keys_for, first_announced, from_place};
 
 use crate::out_key::OutKey;
 use crate::places::Places;
@@ -66,6 +66,13 @@ impl<K: OutKey> Line<K> {
         ensures small { result < 2 ^ 63 }
     {
         self.places.len()
+    }
+
+    /// The first place from this one on at which something waits, and what waits there.
+    pub fn first_from(&self, place: u64) -> Option<(u64, Waiting<K>)>
+        ensures { result ≡ slice_get (from_place place self.now) 0 }
+    {
+        self.places.first_from(place)
     }
 
     /// This waits at the place now. Want of memory changes nothing.

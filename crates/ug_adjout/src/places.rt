@@ -4,13 +4,14 @@ ghost use Rattle.std.specs.Map.{remove_entry};
 ghost use Rattle.std.specs.Ordering.{nat_cmp};
 ghost use Rattle.std.specs.BTreeMap.{insert_entry, is_at};
 ghost use Rattle.ug_pending.specs.Tables.{IsTable, value_at, with_value};
-ghost use Rattle.ug_adjout.specs.Waits.{first_announced};
+ghost use Rattle.ug_adjout.specs.Waits.{first_announced, from_place};
 
 use crate::copied::copied;
 use crate::waiting::Waiting;
 use std::alloc::Global;
 use std::collections::BTreeMap;
 use std::marker::Model;
+use std::ops::Bound;
 use ug_intern::AttrId;
 use ug_types::NoMemory;
 
@@ -69,6 +70,17 @@ impl<K: Copy + Drop> Places<K> {
     {
         match self.waiting.get(&place) {
             Some(waiting) => Some(*waiting),
+            None => None,
+        }
+    }
+
+    /// The first place from this one on at which something waits, and what waits there.
+    pub fn first_from(&self, place: u64) -> Option<(u64, Waiting<K>)>
+        ensures { result ≡ slice_get (from_place place self.now) 0 }
+    {
+        let bounds = (Bound::Included(place), Bound::Unbounded);
+        match self.waiting.range(bounds).next() {
+            Some((place, waiting)) => Some((*place, *waiting)),
             None => None,
         }
     }

@@ -8,7 +8,7 @@ ghost use Rattle.ug_pending.specs.Tables.{value_at, with_value, has, rows_after}
 ghost use Rattle.ug_pending.specs.Pending.{with_desired, with_formatted, with_all_forced};
 ghost use Rattle.ug_pending.specs.Formatting.{fitting, withdrawals, announcements, alike, value_of_first};
 ghost use Rattle.std.specs.Option.{option_map};
-ghost use Rattle.ug_adjout.specs.Waits.{keys_for, first_announced, waiting_keys};
+ghost use Rattle.ug_adjout.specs.Waits.{keys_for, first_announced, from_place, waiting_keys};
 ghost use Rattle.ug_adjout.specs.Stored.{is_owed, IsFree, quiet, with_change, adj_of, with_one_forced, with_each_forced, IsShown, IsStored};
 
 use crate::after::{first_desired, first_formatted};
@@ -156,8 +156,78 @@ impl<K: OutKey> Table<K> {
         };
     }
 
+    /// The first of those that wait from this place on waits at the place now. Its key and its order stay. Want of memory
+    /// changes nothing.
+    fn bring(&mut self, place: u64) -> Result<(), NoMemory>
+        requires { 0 < length (from_place place self.old.waiting) }
+        ensures same { adj_of self.new.rows self.new.waiting ≡ adj_of self.old.rows self.old.waiting }
+        ensures passed { OnOk result (length (from_place (place + 1) self.new.waiting) + 1 ≡ length (from_place place self.old.waiting)) }
+    {
+        let _next = self.next;
+        let Some((was, waiting)) = self.line.first_from(place) else {
+            unreachable!()
+        };
+        if was == place {
+            return Ok(());
+        }
+        let Some(row) = self.rows.row(&waiting.key) else {
+            unreachable!()
+        };
+        self.line.put(place, waiting)?;
+        let moved = Row {
+            formatted: row.formatted,
+            forced: row.forced,
+            change: Some(Change {
+                place,
+                desired: waiting.value,
+            }),
+        };
+        let Ok(_) = self.rows.insert(waiting.key, moved) else {
+            unreachable!()
+        };
+        self.line.remove(was);
+        Ok(())
+    }
+
+    /// All that wait are numbered anew from 0, in their order. After want of memory some are.
+    fn renumber(&mut self) -> Result<(), NoMemory>
+        ensures same { adj_of self.new.rows self.new.waiting ≡ adj_of self.old.rows self.old.waiting }
+        ensures room { OnOk result (self.new.next + 1 < 2 ^ 64) }
+    {
+        let _next = self.next;
+        let waiting = self.line.len() as u64;
+        for place in 0..waiting {
+            self.bring(place)?;
+        }
+        self.next = waiting;
+        Ok(())
+    }
+
+    /// There is a place behind all others now: where their numbers have come to the end, they are numbered anew.
+    fn make_room(&mut self) -> Result<(), NoMemory>
+        ensures same { adj_of self.new.rows self.new.waiting ≡ adj_of self.old.rows self.old.waiting }
+        ensures room { OnOk result (self.new.next + 1 < 2 ^ 64) }
+    {
+        let next = self.next;
+        if next == u64::MAX {
+            self.renumber()?;
+        }
+        Ok(())
+    }
+
     /// A key is desired so from now on. What it was before. Want of memory changes nothing.
     pub fn want(&mut self, key: K, desired: Option<AttrId>) -> Result<Option<AttrId>, NoMemory>
+        ensures was { IfOk result (λ was. was ≡ value_at K.cmp (adj_of self.old.rows self.old.waiting).desired key) }
+        ensures ok { OnOk result (adj_of self.new.rows self.new.waiting ≡ with_desired K.cmp nat_eq (adj_of self.old.rows self.old.waiting) key desired) }
+        ensures err { OnErr result (adj_of self.new.rows self.new.waiting ≡ adj_of self.old.rows self.old.waiting) }
+    {
+        self.make_room()?;
+        self.want_numbered(key, desired)
+    }
+
+    /// The same where there is a place for the key.
+    fn want_numbered(&mut self, key: K, desired: Option<AttrId>) -> Result<Option<AttrId>, NoMemory>
+        requires { self.old.next + 1 < 2 ^ 64 }
         ensures was { IfOk result (λ was. was ≡ value_at K.cmp (adj_of self.old.rows self.old.waiting).desired key) }
         ensures ok { OnOk result (adj_of self.new.rows self.new.waiting ≡ with_desired K.cmp nat_eq (adj_of self.old.rows self.old.waiting) key desired) }
         ensures err { OnErr result (self.new ≡ self.old) }
@@ -183,17 +253,15 @@ impl<K: OutKey> Table<K> {
 
     /// The same of a key without a row.
     fn want_first(&mut self, key: K, desired: Option<AttrId>) -> Result<(), NoMemory>
-        requires { value_at K.cmp self.old.rows key ≡ None }
+        requires absent { value_at K.cmp self.old.rows key ≡ None }
+        requires numbered { self.old.next + 1 < 2 ^ 64 }
         ensures ok { OnOk result (adj_of self.new.rows self.new.waiting ≡ with_desired K.cmp nat_eq (adj_of self.old.rows self.old.waiting) key desired) }
         ensures err { OnErr result (self.new ≡ self.old) }
     {
-        let next = self.next;
+        let _next = self.next;
         match desired {
             None => Ok(()),
             Some(_) => {
-                if next == u64::MAX {
-                    return Err(NoMemory);
-                }
                 let row = Row {
                     formatted: None,
                     forced: false,
@@ -209,15 +277,13 @@ impl<K: OutKey> Table<K> {
     fn want_idle(&mut self, key: K, row: Row, desired: Option<AttrId>) -> Result<(), NoMemory>
         requires row { value_at K.cmp self.old.rows key ≡ Some row }
         requires idle { row.change ≡ None }
+        requires numbered { self.old.next + 1 < 2 ^ 64 }
         ensures ok { OnOk result (adj_of self.new.rows self.new.waiting ≡ with_desired K.cmp nat_eq (adj_of self.old.rows self.old.waiting) key desired) }
         ensures err { OnErr result (self.new ≡ self.old) }
     {
-        let next = self.next;
+        let _next = self.next;
         if row.formatted == desired {
             return Ok(());
-        }
-        if next == u64::MAX {
-            return Err(NoMemory);
         }
         self.begin(key, row, desired)?;
         Ok(())
@@ -290,6 +356,7 @@ impl<K: OutKey> Table<K> {
         ensures ok { OnOk result (adj_of self.new.rows self.new.waiting ≡ with_each_forced K.cmp (adj_of self.old.rows self.old.waiting) keys.now) }
     {
         for key in keys {
+            self.make_room()?;
             self.force(*key)?;
         }
         Ok(())
@@ -297,10 +364,11 @@ impl<K: OutKey> Table<K> {
 
     /// The key is forced, which has a row. Want of memory changes nothing.
     fn force(&mut self, key: K) -> Result<(), NoMemory>
-        requires { IsShown K.cmp (adj_of self.old.rows self.old.waiting) key }
+        requires shown { IsShown K.cmp (adj_of self.old.rows self.old.waiting) key }
+        requires numbered { self.old.next + 1 < 2 ^ 64 }
         ensures ok { OnOk result (adj_of self.new.rows self.new.waiting ≡ with_one_forced K.cmp (adj_of self.old.rows self.old.waiting) key) }
     {
-        let next = self.next;
+        let _next = self.next;
         let Some(row) = self.row(&key) else {
             unreachable!()
         };
@@ -311,9 +379,6 @@ impl<K: OutKey> Table<K> {
         };
         match row.change {
             None => {
-                if next == u64::MAX {
-                    return Err(NoMemory);
-                }
                 self.begin(key, forced, row.formatted)?;
                 Ok(())
             }

@@ -1,6 +1,15 @@
 //! The plain, slow Adj-RIB-Out.
+ghost use Rattle.std.specs.Prelude.{◌≡◌, ◌<◌, nat_eq, length, IfOk, OnOk, IsTrue, ◌↔◌, None, Some};
+ghost use Rattle.ug_types.specs.Keys.{weight_of};
+ghost use Rattle.ug_pending.specs.Tables as tables;
+ghost use Rattle.ug_pending.specs.Pending.{nothing_out, with_desired, with_all_forced, with_formatted};
+ghost use Rattle.ug_pending.specs.Formatting as packets;
+ghost use Rattle.ug_store_trials.specs.Orders.{key_order};
 
+use crate::rows::{has, keys_of_both, value_at, with_value, without};
+use crate::waits::{announced, fitting, of_first_value, requeued, still_forced, withdrawn};
 use std::alloc::{AllocError, Global};
+use std::marker::Model;
 use ug_intern::AttrId;
 use ug_types::Key;
 
@@ -14,9 +23,21 @@ pub struct SlowOut {
     pending: Vec<Key>,
 }
 
+impl Model for SlowOut {
+    ghost use Rattle.std.specs.Prelude.{ℕ};
+    ghost use Rattle.ug_types.specs.declared.key.Key.{Key as Route};
+    ghost use Rattle.ug_pending.specs.Pending.{AdjRibOut};
+
+    ghost Value = { AdjRibOut Route ℕ };
+
+    ghost view = { λ s. record { formatted = s.formatted.items; desired = s.desired.items; forced = s.forced.items; pending = s.pending.items } };
+}
+
 impl SlowOut {
     /// The one without routes.
-    pub fn new(alloc: Global) -> SlowOut {
+    pub fn new(alloc: Global) -> SlowOut
+        ensures { result ≡ nothing_out }
+    {
         SlowOut {
             alloc,
             formatted: Vec::new(alloc),
@@ -26,157 +47,131 @@ impl SlowOut {
         }
     }
 
-    pub fn formatted(&self, key: &Key) -> Option<AttrId> {
-        value_at(&self.formatted, key)
+    /// What was formatted for the key.
+    pub fn formatted(&self, key: &Key) -> Option<AttrId>
+        ensures { result ≡ tables.value_at key_order self.now.formatted key.now }
+    {
+        value_at(self.formatted.as_slice(), key)
     }
 
-    pub fn desired(&self, key: &Key) -> Option<AttrId> {
-        value_at(&self.desired, key)
+    /// What the key is desired with.
+    pub fn desired(&self, key: &Key) -> Option<AttrId>
+        ensures { result ≡ tables.value_at key_order self.now.desired key.now }
+    {
+        value_at(self.desired.as_slice(), key)
     }
 
-    pub fn formatted_len(&self) -> usize {
+    /// How many keys are formatted.
+    pub fn formatted_len(&self) -> usize
+        ensures { result ≡ length self.now.formatted }
+    {
         self.formatted.len()
     }
 
-    pub fn has_forced(&self) -> bool {
-        !self.forced.is_empty()
-    }
-
-    pub fn pending(&self) -> &[Key] {
-        self.pending.as_slice()
-    }
-
-    /// The key is desired so from now on. A key in neither table is forced no more.
-    pub fn want(&mut self, key: &Key, value: Option<AttrId>) -> Result<(), AllocError> {
-        self.desired = with_value(self.alloc, &self.desired, key, value)?;
-        if value.is_none() && self.formatted(key).is_none() {
-            self.forced = without(self.alloc, &self.forced, key)?;
-        }
-        self.settle(&[*key])
-    }
-
-    /// All keys of both tables are forced.
-    pub fn force_all(&mut self) -> Result<(), AllocError> {
-        let mut all = self.desired.clone()?;
-        for row in &self.formatted {
-            all = with_value(self.alloc, &all, &row.0, Some(row.1))?;
-        }
-        let mut keys = Vec::new(self.alloc);
-        for row in &all {
-            keys.push(row.0)?;
-        }
-        self.forced = keys.clone()?;
-        self.settle(keys.as_slice())
-    }
-
-    /// The key is formatted as it is desired, and forced no more.
-    pub fn mark_formatted(&mut self, key: &Key) -> Result<(), AllocError> {
-        let value = self.desired(key);
-        self.formatted = with_value(self.alloc, &self.formatted, key, value)?;
-        self.forced = without(self.alloc, &self.forced, key)?;
-        self.settle(&[*key])
-    }
-
-    /// The first pending keys that are to be withdrawn, as many as weigh at most the budget together.
-    pub fn first_withdrawals(&self, budget: usize) -> Result<Vec<Key>, AllocError> {
-        self.first_for(None, budget)
-    }
-
-    /// The first pending key that is to be announced and those of its value, as many as weigh at most the budget together.
-    pub fn first_alike(&self, budget: usize) -> Result<Vec<Key>, AllocError> {
-        for key in &self.pending {
-            let value = self.desired(key);
-            if value.is_some() {
-                return self.first_for(value, budget);
-            }
-        }
-        Ok(Vec::new(self.alloc))
-    }
-
-    fn first_for(&self, value: Option<AttrId>, budget: usize) -> Result<Vec<Key>, AllocError> {
-        let mut keys = Vec::new(self.alloc);
-        let mut left = budget;
-        for key in &self.pending {
-            if self.desired(key) != value {
-                continue;
-            }
-            let Some(rest) = left.checked_sub(key.weight()) else {
-                return Ok(keys);
-            };
-            left = rest;
-            keys.push(*key)?;
-        }
-        Ok(keys)
+    /// Whether a key is forced.
+    pub fn has_forced(&self) -> bool
+        ensures { IsTrue result ↔ (0 < length self.now.forced) }
+    {
+        self.forced.len() > 0
     }
 
     /// Whether a packet is owed for the key.
-    fn waits(&self, key: &Key) -> bool {
-        let desired = self.desired(key);
-        self.formatted(key) != desired || (self.forced.contains(key) && desired.is_some())
+    pub fn is_pending(&self, key: &Key) -> bool
+        ensures { result ≡ tables.has key_order self.now.pending key.now }
+    {
+        has(self.pending.as_slice(), key)
     }
 
-    /// The pending list where these keys may have changed: a key still pending keeps its place, and those newly pending
-    /// go last.
-    fn settle(&mut self, changed: &[Key]) -> Result<(), AllocError> {
-        let mut pending = Vec::new(self.alloc);
-        for key in &self.pending {
-            if self.waits(key) {
-                pending.push(*key)?;
-            }
-        }
-        for key in changed {
-            if self.waits(key) && !self.pending.contains(key) {
-                pending.push(*key)?;
-            }
-        }
+    /// How many keys wait.
+    pub fn pending_len(&self) -> usize
+        ensures { result ≡ length self.now.pending }
+    {
+        self.pending.len()
+    }
+
+    /// The key is desired so from now on.
+    pub fn want(&mut self, key: &Key, value: Option<AttrId>) -> Result<(), AllocError>
+        ensures { OnOk result (self.new ≡ with_desired key_order nat_eq self.old key.now value) }
+    {
+        let formatted = self.formatted.as_slice();
+        let desired = with_value(self.alloc, self.desired.as_slice(), key, value)?;
+        let forced = still_forced(
+            self.alloc,
+            formatted,
+            desired.as_slice(),
+            self.forced.as_slice(),
+        )?;
+        let pending = requeued(
+            self.alloc,
+            formatted,
+            desired.as_slice(),
+            forced.as_slice(),
+            self.pending.as_slice(),
+            &[*key],
+        )?;
+        self.desired = desired;
+        self.forced = forced;
         self.pending = pending;
         Ok(())
     }
-}
 
-/// The value at the key.
-fn value_at(rows: &[(Key, AttrId)], key: &Key) -> Option<AttrId> {
-    for row in rows {
-        if row.0 == *key {
-            return Some(row.1);
-        }
+    /// All keys of both tables are forced.
+    pub fn force_all(&mut self) -> Result<(), AllocError>
+        ensures { OnOk result (self.new ≡ with_all_forced key_order nat_eq self.old) }
+    {
+        let formatted = self.formatted.as_slice();
+        let desired = self.desired.as_slice();
+        let forced = keys_of_both(self.alloc, formatted, desired)?;
+        let pending = requeued(
+            self.alloc,
+            formatted,
+            desired,
+            forced.as_slice(),
+            self.pending.as_slice(),
+            forced.as_slice(),
+        )?;
+        self.forced = forced;
+        self.pending = pending;
+        Ok(())
     }
-    None
-}
 
-/// The rows with this value at the key, or without the key.
-fn with_value(
-    alloc: Global,
-    rows: &[(Key, AttrId)],
-    key: &Key,
-    value: Option<AttrId>,
-) -> Result<Vec<(Key, AttrId)>, AllocError> {
-    let mut left = value;
-    let mut now = Vec::new(alloc);
-    for row in rows {
-        if row.0 > *key {
-            if let Some(id) = left {
-                now.push((*key, id))?;
-            }
-            left = None;
-        }
-        if row.0 != *key {
-            now.push(*row)?;
-        }
+    /// The key is formatted as it is desired, and forced no more.
+    pub fn mark_formatted(&mut self, key: &Key) -> Result<(), AllocError>
+        ensures { OnOk result (self.new ≡ with_formatted key_order nat_eq self.old key.now) }
+    {
+        let desired = self.desired.as_slice();
+        let value = value_at(desired, key);
+        let formatted = with_value(self.alloc, self.formatted.as_slice(), key, value)?;
+        let forced = without(self.alloc, self.forced.as_slice(), key)?;
+        let pending = requeued(
+            self.alloc,
+            formatted.as_slice(),
+            desired,
+            forced.as_slice(),
+            self.pending.as_slice(),
+            &[*key],
+        )?;
+        self.formatted = formatted;
+        self.forced = forced;
+        self.pending = pending;
+        Ok(())
     }
-    if let Some(id) = left {
-        now.push((*key, id))?;
-    }
-    Ok(now)
-}
 
-/// The keys without this one.
-fn without(alloc: Global, keys: &[Key], key: &Key) -> Result<Vec<Key>, AllocError> {
-    let mut now = Vec::new(alloc);
-    for other in keys {
-        if *other != *key {
-            now.push(*other)?;
-        }
+    /// The first pending keys that are to be withdrawn, as many as weigh at most the budget together.
+    pub fn first_withdrawals(&self, budget: usize) -> Result<Vec<Key>, AllocError>
+        ensures { IfOk result (λ keys. keys.items ≡ packets.fitting weight_of budget (packets.withdrawals key_order self.now)) }
+    {
+        let keys = withdrawn(self.alloc, self.desired.as_slice(), self.pending.as_slice())?;
+        fitting(self.alloc, keys.as_slice(), budget)
     }
-    Ok(now)
+
+    /// The first pending key that is to be announced and those of its value, as many as weigh at most the budget together.
+    pub fn first_alike(&self, budget: usize) -> Result<Vec<Key>, AllocError>
+        ensures { IfOk result (λ keys. keys.items ≡ packets.fitting weight_of budget (packets.alike key_order nat_eq self.now)) }
+    {
+        let desired = self.desired.as_slice();
+        let keys = announced(self.alloc, desired, self.pending.as_slice())?;
+        let alike = of_first_value(self.alloc, desired, keys.as_slice())?;
+        fitting(self.alloc, alike.as_slice(), budget)
+    }
 }

@@ -6,7 +6,7 @@ use Rattle.ug_adjout.proofs.table.Table.force.Goals as goal
 pub unreachable-requires : goal.unreachable-requires
 unreachable-requires g c =
     let s = subst (λ v. IsStored g.K.Ord.cmp v.rows v.waiting v.next) c.self.view_is c.self.invariant in
-    no_row g.met.K.Ord.total g.met.K.OutKey.exact _ _ _ s c.args.key c.requires (sym c.row.ensures ∙ c.in_default.is)
+    no_row g.met.K.Ord.total g.met.K.OutKey.exact _ _ _ s c.args.key c.requires.shown (sym c.row.ensures ∙ c.in_default.is)
 
 pub returns-in_ok-begin-in-None : goal.returns-in_ok-begin-in-None
 returns-in_ok-begin-in-None g c =

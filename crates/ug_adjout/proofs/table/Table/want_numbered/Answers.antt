@@ -1,7 +1,7 @@
 use Rattle.std.proofs.Common.{sym, ap, subst, ◌∙◌}
 use Rattle.ug_adjout.specs.Stored.{IsStored, of_row, desired_of}
 use Rattle.ug_adjout.proofs.Views.{desired_at, idle_desired, waiting_desired}
-use Rattle.ug_adjout.proofs.table.Table.want.Goals as goal
+use Rattle.ug_adjout.proofs.table.Table.want_numbered.Goals as goal
 
 pub returns-in_ok-want_first-in-None-clause-was : goal.returns-in_ok-want_first-in-None-clause-was
 returns-in_ok-want_first-in-None-clause-was g c =

@@ -1,0 +1,36 @@
+use Rattle.std.proofs.Common.{sym, ◌∙◌}
+use Rattle.ug_adjout.proofs.Numbers.{first_is_from, behind_first, row_known, passed_same, stored_moved, view_moved, passed_moved}
+use Rattle.ug_adjout.proofs.table.Table.bring.Goals as goal
+
+pub returns-then-was-place-clause-passed : goal.returns-then-was-place-clause-passed
+returns-then-was-place-clause-passed g c =
+    rw (← c.self.view_is)
+    (passed_same g.met.K.Ord.total g.met.K.OutKey.exact _ _ _ c.self.invariant c.args.place (c.in-Some.was, c.in-Some.waiting) (sym c.first_from.ensures ∙ c.in-Some.is) c.if-was-place.true
+    (rw (← c.self.view_is) at c.requires))
+
+pub unreachable-requires-in_default-row : goal.unreachable-requires-in_default-row
+unreachable-requires-in_default-row g c =
+    row_known g.met.K.Ord.total g.met.K.OutKey.exact _ _ _ c.self.invariant c.args.place (c.in-Some.was, c.in-Some.waiting) (sym c.first_from.ensures ∙ c.in-Some.is)
+    (sym c.row.ensures ∙ c.in_default-row.is)
+
+pub invariant_of-self-2 : goal.invariant_of-self-2
+invariant_of-self-2 g c =
+    let first = sym c.first_from.ensures ∙ c.in-Some.is in
+    let lt = behind_first c.args.place c.in-Some.was (first_is_from c.args.place _ (c.in-Some.was, c.in-Some.waiting) first) c.if-was-place.false in
+    rw (c.in-Ok.ensures.entries, c.remove.ensures, c.in_ok-put.ensures.ok)
+    (stored_moved g.met.K.Ord.total g.met.K.OutKey.exact _ _ _ c.self.invariant c.args.place (c.in-Some.was, c.in-Some.waiting) first c.in-Some-row.row (sym c.row.ensures ∙ c.in-Some-row.is) lt)
+
+pub returns-clause-same : goal.returns-clause-same
+returns-clause-same g c =
+    let first = sym c.first_from.ensures ∙ c.in-Some.is in
+    let lt = behind_first c.args.place c.in-Some.was (first_is_from c.args.place _ (c.in-Some.was, c.in-Some.waiting) first) c.if-was-place.false in
+    rw (c.in-Ok.ensures.entries, c.remove.ensures, c.in_ok-put.ensures.ok, ← c.self.view_is)
+    (view_moved g.met.K.Ord.total g.met.K.OutKey.exact _ _ _ c.self.invariant c.args.place (c.in-Some.was, c.in-Some.waiting) first c.in-Some-row.row (sym c.row.ensures ∙ c.in-Some-row.is) lt)
+
+pub returns-clause-passed : goal.returns-clause-passed
+returns-clause-passed g c =
+    let first = sym c.first_from.ensures ∙ c.in-Some.is in
+    let lt = behind_first c.args.place c.in-Some.was (first_is_from c.args.place _ (c.in-Some.was, c.in-Some.waiting) first) c.if-was-place.false in
+    rw (c.remove.ensures, c.in_ok-put.ensures.ok, ← c.self.view_is)
+    (passed_moved g.met.K.Ord.total g.met.K.OutKey.exact _ _ _ c.self.invariant c.args.place (c.in-Some.was, c.in-Some.waiting) first c.in-Some-row.row (sym c.row.ensures ∙ c.in-Some-row.is) lt
+    (rw (← c.self.view_is) at c.requires))
