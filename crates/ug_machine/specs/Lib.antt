@@ -1,0 +1,5 @@
+pub mod Packets
+pub mod Machine
+pub mod Evaluations
+pub mod Rules
+pub mod Simulates

@@ -1,0 +1,9 @@
+//! The machine of update groups, as definitions: its state, its steps, and what they promise. Peers of one group key share
+//! subgroups, with one Adj-RIB-Out and one queue of packets each.
+#![tactic(auto)]
+
+mod laws;
+mod phase;
+
+pub use laws::{group_courses, group_laws, group_order, group_simulation};
+pub use phase::Phase;
