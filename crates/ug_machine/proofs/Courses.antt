@@ -8,29 +8,35 @@ use Rattle.ug_types.specs.Messages.{Message}
 use Rattle.ug_tables.specs.Tables.{table_of}
 use Rattle.ug_board.specs.declared.steps.BoardStep.{BoardStep}
 use Rattle.ug_board.specs.declared.steps.BoardStep.TheVariants.{Job as DoJob, Lane as LaneTakes}
+use Rattle.ug_board.specs.declared.steps.LaneStep.TheVariants.{Next}
+use Rattle.ug_board.specs.declared.steps.LaneSaid.TheVariants.{Hand}
 use Rattle.ug_board.specs.History.{after_step, replay_from, replay}
 use Rattle.ug_deeds.specs.Deeds.{Deed}
+use Rattle.ug_message.specs.Texts.{written}
 use Rattle.ug_outbound.specs.Keys.{ends_of}
 use Rattle.ug_rewrite.specs.NextHops.{told_to}
 use Rattle.ug_events.specs.Events.{Happening}
 use Rattle.ug_world.specs.declared.peer_state.PeerState.{PeerState}
 use Rattle.ug_world.specs.World.{World, key_in}
 use Rattle.ug_world.specs.Private.{private_table}
+use Rattle.ug_packing.specs.Packing.{fits}
+use Rattle.ug_speaker.specs.Speech.{capabilities_of}
 use Rattle.ug_speaker.specs.Told.{step_events, events_in, world_after, worlds_of, deeds_to, told, is_lost, begun, is_live as is_live_in, world_at}
 use Rattle.ug_speaker.specs.Right.{Alike, IsToldRight, IsToldAll, ends_of_rib}
 use Rattle.ug_speaker.specs.Owes.{IsCourse}
-use Rattle.ug_plain_rules.specs.Seats.{has, is_lost_at, sessions_had}
+use Rattle.ug_plain_rules.specs.Seats.{has, is_lost_at, sessions_had, sessions_at}
 use Rattle.ug_plain_rules.proofs.Bools.{both_so, not_so}
-use Rattle.ug_machine.specs.Packets.{Packet}
-use Rattle.ug_machine.specs.Machine.{Subgroup, Seat, Member, System, owes, is_drained, is_seat_quiet, is_member_quiet, has_unlost, Job, Take, Format, Merge, Slow, Sync, Close}
-use Rattle.ug_machine.specs.Rules.{begun_of, group_rules, group_speech}
+use Rattle.ug_plain_rules.proofs.Keeping.{has-text, text-short}
+use Rattle.ug_machine.specs.Packets.{Packet, message_to}
+use Rattle.ug_machine.specs.Machine.{Subgroup, Seat, Member, System, seat_of, seat_at, first_left, Begins, Rests, upshot_of, owes, is_drained, is_seat_quiet, is_member_quiet, has_unlost, Job, Take, Format, Merge, Slow, Sync, Close}
+use Rattle.ug_machine.specs.Rules.{message_for, text_for, at_rest, said_of, lane_reply, begun_of, group_rules, group_speech}
 use Rattle.ug_machine.proofs.Found.{none-so}
 use Rattle.ug_machine.proofs.Drained.{rested, quiet-at}
 use Rattle.ug_machine.proofs.Streams.{IsStream}
 use Rattle.ug_machine.proofs.Tables.{is_forced}
 use Rattle.ug_machine.proofs.Owing.{table_in}
 use Rattle.ug_machine.proofs.Going.{IsKept, desired-private, level-rows}
-use Rattle.ug_machine.proofs.Seated.{counts_of, is_live, told_by, stream_of, IsSat, IsPlaced, IsPlacedAt, IsSystem}
+use Rattle.ug_machine.proofs.Seated.{counts_of, is_live, told_by, stream_of, AreFitting, IsSat, IsPlaced, IsPlacedAt, IsSystem}
 use Rattle.ug_machine.proofs.Formatting.{up-of, session-of}
 use Rattle.ug_machine.proofs.Merging.{empty-is, IsRestedAt, rested-at}
 use Rattle.ug_machine.proofs.Staying.{world-event, world-job, stands-lane}
@@ -144,6 +150,48 @@ module _ (opening : World) (h : List GroupEntry) (course : IsCourse group_rules 
 
   pub losses-told : (p n : ℕ) → has_unlost n (slice_get here.members p) ≡ (nat_le 1 n && (nat_le n (begun group_rules group_speech p opening h) && not (is_lost group_rules group_speech p n opening h)))
   losses-told p n = loss_at p n (slice_get here.world.peers p) (slice_get here.members p) (system.placed p)
+
+  -- ---- what is handed out
+
+  module _ (p : ℕ) (s : PeerState) (is : slice_get here.world.peers p ≡ Some s) where
+    abbrev HasText : Option Packet → Type 0
+    HasText first = written (capabilities_of s.peer) (message_for (slice_get here.world.peers p) first) ≡ Some (text_for (slice_get here.world.peers p) first)
+
+    has_text : (packet : Packet) → fits (capabilities_of s.peer) (message_to (ends_of s.peer) packet.says) ≡ true → HasText (Some packet)
+    has_text packet fit =
+        rw is (has-text (capabilities_of s.peer) (message_to (ends_of s.peer) packet.says) fit ∙ ap Some (sym (text-short (capabilities_of s.peer) (message_to (ends_of s.peer) packet.says) fit)))
+
+    first_text : (t : Seat) → AreFitting s t.rest → (packet : Packet) → slice_get t.rest 0 ≡ Some packet → HasText (Some packet)
+    first_text t fitting packet first = by t.rest fitting first
+      where
+        by : (packets : List Packet) → AreFitting s packets → slice_get packets 0 ≡ Some packet → HasText (Some packet)
+        by [] fit e = absurd cc
+        by (k ∷ more) fit e = let same : k ≡ packet = cc in has_text packet (subst (λ (x : Packet). fits (capabilities_of s.peer) (message_to (ends_of s.peer) x.says) ≡ true) same fit.0)
+
+    hands_text : (m : Member) (o : Option Seat) → m.seat ≡ o → IsPlaced p worlds (deeds_at p) s m here.subgroups (key_in here.world s) → (packet : Packet) → first_left o ≡ Some packet → HasText (Some packet)
+    hands_text m None at placed packet first = absurd cc
+    hands_text m (Some t) at placed packet first = first_text t (placed.sat t at).fitting packet first
+
+    nothing_handed : (session made len : ℕ) (closed : Bool) → at_rest closed ≡ Hand session made len → ⊥
+    nothing_handed session made len true e = absurd cc
+    nothing_handed session made len false e = absurd cc
+
+    no_packet : (session made len n : ℕ) (m : Member) (b : Bool) → said_of here.closed (slice_get here.world.peers p) (if b then Begins (m.begun + 1) else Rests) ≡ Hand session made len → ⊥
+    no_packet session made len n m true e = absurd cc
+    no_packet session made len n m false e = nothing_handed session made len here.closed e
+
+    pub text-told : (session made len : ℕ) → lane_reply (Next p) here ≡ Hand session made len → HasText (first_left (seat_at p here))
+    text-told session made len said =
+        let m = member-at p s is in
+        subst (λ (u : Option Member). HasText (first_left (seat_of u))) (sym m.at)
+        (by m.member m.placed (first_left m.member.seat) refl (sym (ap (λ (u : Option Member). said_of here.closed (slice_get here.world.peers p) (upshot_of (sessions_at p here.world) u)) m.at) ∙ said))
+      where
+        by : (m : Member) → IsPlaced p worlds (deeds_at p) s m here.subgroups (key_in here.world s) → (first : Option Packet) → first_left m.seat ≡ first
+            → said_of here.closed (slice_get here.world.peers p) (upshot_of (sessions_at p here.world) (Some m)) ≡ Hand session made len → HasText (first_left m.seat)
+        by m placed (Some packet) first e = subst (λ (o : Option Packet). HasText o) (sym first) (hands_text m m.seat refl placed packet first)
+        by m placed None first e =
+            let none : said_of here.closed (slice_get here.world.peers p) (if nat_lt m.begun (sessions_at p here.world) then Begins (m.begun + 1) else Rests) ≡ Hand session made len = rw first at e in
+            absurd (no_packet session made len (sessions_at p here.world) m (nat_lt m.begun (sessions_at p here.world)) none)
 
   -- ---- when everything is told
 

@@ -1,14 +1,14 @@
 -- In the worlds that events lead through each route can be spelled, and is short.
-use Rattle.std.proofs.Common.{◌≡◌, ℕ, ◌≤◌, inl, inr, Bool, true, false, cond, List, [], ◌∷◌, length, map, slice_get, Option, Some, None, Ordering, refl, sym, ◌∙◌, ap, subst, arith}
-use Rattle.std.specs.Prelude.{◌==◌, ◌&&◌, nat_le, nat_lt, find, option_and_then, unwrap_or, if◌then◌else◌}
+use Rattle.std.proofs.Common.{◌≡◌, ℕ, ◌<◌, ◌≤◌, inl, inr, Bool, true, false, cond, List, [], ◌∷◌, length, map, slice_get, Option, Some, None, Ordering, refl, sym, ◌∙◌, ap, subst, arith}
+use Rattle.std.specs.Prelude.{◌==◌, find, option_and_then, unwrap_or, if◌then◌else◌}
 use Rattle.std.specs.Option.{option_map}
 use Rattle.std.specs.Map.{lookup, remove_entry}
 use Rattle.std.specs.BTreeMap.{insert_entry}
 use Rattle.std.specs.Ordering.{match_ordering}
 use Rattle.std.specs.declared.cmp.Ordering.TheVariants.{Less, Equal, Greater}
-use Rattle.std.proofs.lemmas.Bool.Decides.{nat_tests}
+use Rattle.std.proofs.lemmas.Bool.{eqb-true}
 use Rattle.std.proofs.lemmas.Option.{slice_get-map}
-use Rattle.ug_types.specs.Ip.{IpPrefix, width_of, same_family, cleared, bytes_for}
+use Rattle.ug_types.specs.Ip.{IpPrefix, bytes_for}
 use Rattle.ug_types.specs.Attributes.{Attributes, refusal_of}
 use Rattle.ug_types.specs.Keys.{same_prefix, prefix_cmp, weight_of}
 use Rattle.ug_types.specs.declared.capabilities.Capabilities.{Capabilities}
@@ -19,7 +19,7 @@ use Rattle.ug_types.specs.declared.route.Path.{Path}
 use Rattle.ug_types.specs.declared.route.OutAttrs.{OutAttrs}
 use Rattle.ug_deeds.specs.Deeds.{Each}
 use Rattle.ug_message.specs.Spelling.{attributes, attributes_but_next_hop}
-use Rattle.ug_message.specs.Spellable.{is_number, is_prefix, is_route, is_key}
+use Rattle.ug_message.specs.Spellable.{is_key}
 use Rattle.ug_outbound.specs.declared.key.GroupKey.{GroupKey}
 use Rattle.ug_outbound.specs.declared.peer.Peer.{Peer}
 use Rattle.ug_outbound.specs.Keys.{limit_of}
@@ -32,7 +32,7 @@ use Rattle.ug_world.specs.Parts.{fresh as fresh_peer}
 use Rattle.ug_world.specs.World.{Routes, World, paths_to}
 use Rattle.ug_world.specs.Verdicts.{path_of}
 use Rattle.ug_world.specs.After.{after}
-use Rattle.ug_world.specs.Private.{path_at, wanted, keys_of as world_keys}
+use Rattle.ug_world.specs.Private.{path_at, wanted, told_of, table_of_peer, private_table, keys_of as world_keys}
 use Rattle.ug_pending.specs.Tables.{has}
 use Rattle.ug_pack.specs.Rooms.{room, room_beside}
 use Rattle.ug_pack.specs.Ready.{key_order}
@@ -41,15 +41,15 @@ use Rattle.ug_speaker.specs.Right.{IsAmong}
 use Rattle.ug_speaker.specs.Owes.{IsOpening, AreEvents}
 use Rattle.ug_speaker.specs.Ranges.{AreInRange}
 use Rattle.ug_speaker.proofs.Ranged.{in-range-tellable}
-use Rattle.ug_plain_rules.proofs.Bools.{both_so}
 use Rattle.ug_machine.specs.Packets.{wanted_rows}
+use Rattle.ug_machine.proofs.Fitting.{key-short, limit-some}
 use Rattle.ug_machine.proofs.Tables.{row_at, wanted-value}
 use Rattle.ug_machine.proofs.Histories.{AreFine, AreDown}
 
--- ---- paths within bounds, as in what ug_speaker proves of its worlds
+-- ---- paths that have an identifier and are within bounds, as in what ug_speaker proves of its worlds
 
 abbrev IsWithin : Path → Type 0
-IsWithin path = refusal_of path.attrs ≡ None
+IsWithin path = (0 < path.id) × (refusal_of path.attrs ≡ None)
 
 abbrev AreWithin : Routes → Type 0
 AreWithin routes = Each (λ (r : IpPrefix × List Path). Each IsWithin r.1) routes
@@ -60,7 +60,7 @@ record IsBounded (w : World) : Type 0 where
 
 given_within : (w : World) (given : List GivenPath) → AreGiven given → Each IsWithin (map (path_of w) given)
 given_within w [] h = tt
-given_within w (g ∷ given) h = (h.0.1, given_within w given h.1)
+given_within w (g ∷ given) h = (h.0, given_within w given h.1)
 
 inserted : (routes : Routes) (prefix : IpPrefix) (paths : List Path) → AreWithin routes → Each IsWithin paths → AreWithin (insert_entry prefix_cmp routes prefix paths)
 inserted [] prefix paths h new = (new, tt)
@@ -125,10 +125,6 @@ to_within (r ∷ routes) prefix h = by (same_prefix prefix r.0) (to_within route
 
 -- ---- room beside attributes
 
-limit_some : (b : Bool) → 4096 ≤ (if b then 65535 else 4096)
-limit_some true = omega arith
-limit_some false = omega arith
-
 wide_room : (family : Family) (limit : ℕ) → 4096 ≤ limit → 21 ≤ room family limit
 wide_room V4 limit le = omega arith
 wide_room V6 limit le = omega arith
@@ -145,8 +141,8 @@ wanted_room w group q o bounded is = by (path_at group.add_path q.id (paths_to w
     by None at e = absurd cc
     by (Some path) at e =
         let within : IsWithin path = at_within group.add_path q.id (paths_to w.routes q.prefix) path (to_within w.routes q.prefix bounded.paths) at in
-        beside_room group.family (limit_of group) o.attrs (limit_some group.extended) (out_bytes group w.tables w.local q.prefix path o e within (bounded.few group.map))
-        (out_bytes_but_next_hop group w.tables w.local q.prefix path o e within (bounded.few group.map))
+        beside_room group.family (limit_of group) o.attrs (limit-some group.extended) (out_bytes group w.tables w.local q.prefix path o e within.1 (bounded.few group.map))
+        (out_bytes_but_next_hop group w.tables w.local q.prefix path o e within.1 (bounded.few group.map))
 
 row_room : (w : World) (group : GroupKey) (q : Key) (o : OutAttrs) → IsBounded w → row_at (wanted_rows group w) q ≡ Some o → 21 ≤ room_beside group.family (limit_of group) o.attrs
 row_room w group q o bounded is = by (has key_order (world_keys group.add_path w.routes) q) (sym (wanted-value group w q) ∙ is)
@@ -155,27 +151,31 @@ row_room w group q o bounded is = by (has key_order (world_keys group.add_path w
     by true e = wanted_room w group q o bounded e
     by false e = absurd cc
 
+-- ---- with ADD-PATH a route has an identifier
+
+found_numbered : (id : ℕ) (paths : List Path) (path : Path) → Each IsWithin paths → find (λ (path : Path). path.id == id) paths ≡ Some path → 0 < id
+found_numbered id [] path h is = absurd cc
+found_numbered id (x ∷ paths) path h is = by (x.id == id) refl is (λ rest. found_numbered id paths path h.1 rest)
+  where
+    by : (b : Bool) → (x.id == id) ≡ b → (if b then Some x else find (λ (path : Path). path.id == id) paths) ≡ Some path → (find (λ (path : Path). path.id == id) paths ≡ Some path → 0 < id) → 0 < id
+    by true e is rest = subst (λ (n : ℕ). 0 < n) (eqb-true x.id id e) h.0.0
+    by false e is rest = rest is
+
+told_numbered : (w : World) (s : PeerState) (q : Key) (a : Attributes) → IsBounded w → s.peer.add_path ≡ true → table_of_peer w (Some s) q ≡ Some a → 0 < q.id
+told_numbered w s q a bounded own is = by s.up (path_at true q.id (paths_to w.routes q.prefix)) refl (sym (ap (λ (b : Bool). if s.up then option_and_then (told_of w s q) (path_at b q.id (paths_to w.routes q.prefix)) else None) own) ∙ is)
+  where
+    by : (up : Bool) (found : Option Path) → path_at true q.id (paths_to w.routes q.prefix) ≡ found → (if up then option_and_then (told_of w s q) found else None) ≡ Some a → 0 < q.id
+    by false found at e = absurd cc
+    by true None at e = absurd cc
+    by true (Some path) at e = found_numbered q.id (paths_to w.routes q.prefix) path (to_within w.routes q.prefix bounded.paths) at
+
+private_numbered : (p : ℕ) (w : World) (s : PeerState) (q : Key) (a : Attributes) → IsBounded w → slice_get w.peers p ≡ Some s → s.peer.add_path ≡ true → private_table p w q ≡ Some a → q.id ≡ 0 → ⊥
+unfolding private_table
+private_numbered p w s q a bounded is own there none =
+    let some : 0 < q.id = told_numbered w s q a bounded own (sym (ap (λ (o : Option PeerState). table_of_peer w o q) is) ∙ there) in
+    absurd (omega arith)
+
 -- ---- a key is light
-
-width_small : (family : Family) → width_of family ≤ 128
-width_small V4 = omega arith
-width_small V6 = omega arith
-
-prefix_short : (family : Family) (p : IpPrefix) → is_prefix family p ≡ true → p.len ≤ 128
-prefix_short family p e =
-    let first = both_so ((same_family p.family family && nat_le p.len (width_of family)) && (cleared p.len p.bits == p.bits)) (nat_lt p.bits 340282366920938463463374607431768211456) e in
-    let second = both_so (same_family p.family family && nat_le p.len (width_of family)) (cleared p.len p.bits == p.bits) first.0 in
-    let third = both_so (same_family p.family family) (nat_le p.len (width_of family)) second.0 in
-    let small : p.len ≤ width_of family = (let is = third.1 in grind (arith, nat_tests)) in
-    let width = width_small family in
-    omega arith
-
-key_short : (c : Capabilities) (key : Key) → is_key c key ≡ true → key.prefix.len ≤ 128
-unfolding is_route
-key_short c key e =
-    let first = both_so (is_prefix c.family key.prefix && is_number key.id) _ e in
-    let second = both_so (is_prefix c.family key.prefix) (is_number key.id) first.0 in
-    prefix_short c.family key.prefix second.0
 
 id_small : (b : Bool) → (if b then 0 else 4) ≤ 4
 id_small true = omega arith
@@ -186,7 +186,7 @@ bytes_small len le = omega arith
 
 key_light : (c : Capabilities) (key : Key) → is_key c key ≡ true → weight_of key ≤ 21
 key_light c key e =
-    let bytes = bytes_small key.prefix.len (key_short c key e) in
+    let bytes = bytes_small key.prefix.len (key-short c key e) in
     let id = id_small (key.id == 0) in
     omega arith
 
@@ -196,10 +196,13 @@ pub are-fine : (opening : World) (events : List Happening) → IsOpening opening
 are-fine opening events opens are in_range w among =
     let bounded = bounded_through opening w events are (bounded_first opening opens) among in
     record {
-      spelled = λ p s q a is there. in-range-tellable opening events opens in_range w p s q a among is there;
-      light = λ c q a told. key_light c q told.key_is;
+      spelled = λ p s q a is there. record {
+        told = in-range-tellable opening events opens in_range w p s q a among is there;
+        numbered = λ own none. private_numbered p w s q a bounded is own there none;
+      };
+      light = λ c q a sent. key_light c q sent.told.key_is;
       beside = λ group q o is. row_room w group q o bounded is;
-      wide = λ group. wide_room group.family (limit_of group) (limit_some group.extended);
+      wide = λ group. wide_room group.family (limit_of group) (limit-some group.extended);
     }
 
 first_peer : (peers : List Peer) (p : ℕ) (s : PeerState) → slice_get (map fresh_peer peers) p ≡ Some s → s.up ≡ false

@@ -1,6 +1,6 @@
 -- What the next packet of a subgroup tells, and how the streams of its members go on by it.
 use Rattle.std.proofs.Common.{◌≡◌, ℕ, ◌<◌, ◌≤◌, Bool, true, false, cond, List, [], ◌∷◌, length, slice_get, Option, Some, None, refl, sym, ◌∙◌, ap, arith}
-use Rattle.std.specs.Prelude.{◌-◌, nat_le, ◌||◌, not, is_some, filter}
+use Rattle.std.specs.Prelude.{◌-◌, nat_le, ◌||◌, not, is_some, filter, sum_by}
 use Rattle.std.specs.Option.{option_eq}
 use Rattle.std.specs.BTreeMap.{is_at}
 use Rattle.ug_types.specs.declared.key.Key.{Key}
@@ -9,18 +9,19 @@ use Rattle.ug_types.specs.contracts.route.OutAttrsOrd.TheImpl.Laws as out_ord
 use Rattle.ug_types.specs.contracts.route.OutAttrsEq.TheImpl.Laws as out_laws
 use Rattle.ug_types.specs.Keys.{weight_of}
 use Rattle.ug_types.proofs.Orders.{out_order, out_same, is_eq-is}
+use Rattle.ug_deeds.specs.Deeds.{Each}
 use Rattle.ug_outbound.specs.declared.key.GroupKey.{GroupKey}
 use Rattle.ug_outbound.specs.Keys.{limit_of}
 use Rattle.ug_pending.specs.Tables.{has, value_at}
-use Rattle.ug_pending.specs.Formatting.{fitting, withdrawals, announcements, of_first_value, value_of_first, announced_next, withdrawn_next}
+use Rattle.ug_pending.specs.Formatting.{fitting, withdrawals, announcements, of_first_value, value_of_first, alike, announced_next, withdrawn_next}
 use Rattle.ug_pending.specs.Formatting.{Due}
 use Rattle.ug_pending.specs.Formatting.Due.{Nothing, Withdraws, Announces}
 use Rattle.ug_pending.specs.TableLaws.{has-filter, at_itself}
 use Rattle.ug_pack.specs.Rooms.{room, room_beside}
 use Rattle.ug_pack.specs.Ready.{key_order}
-use Rattle.ug_pack.proofs.Fits.{some_fit}
+use Rattle.ug_pack.proofs.Fits.{some_fit, sum_fits}
 use Rattle.ug_pack.proofs.Keys.{key_total, key_exact}
-use Rattle.ug_plain_rules.proofs.Bools.{both_so}
+use Rattle.ug_plain_rules.proofs.Bools.{both_so, or_true}
 use Rattle.ug_machine.specs.Packets.{Out, same_out, routes_due}
 use Rattle.ug_machine.proofs.Tables.{row_at}
 
@@ -64,6 +65,22 @@ IsDueOf out (Announces o keys) = (0 < length keys) × ((q : Key) → has key_ord
 
 at_first : (key : Key) (keys : List Key) → has key_order (key ∷ keys) key ≡ true
 at_first key keys = rw (at_itself key_total key_exact key) refl
+
+-- what is so of all that are among the keys is so of each of them
+pub each-has : (P : Key → Type 0) (keys : List Key) → ((q : Key) → has key_order keys q ≡ true → P q) → Each P keys
+each-has P [] h = tt
+each-has P (key ∷ keys) h = (h key (at_first key keys), each-has P keys (λ q at. h q (or_true (is_at (key_order q) key) (has key_order keys q) at)))
+
+pub some-has : (keys : List Key) → 0 < length keys → (q : Key) × (has key_order keys q ≡ true)
+some-has [] some = absurd (omega arith)
+some-has (key ∷ keys) some = (key, at_first key keys)
+
+-- Keys that are withdrawn are pending, and have room in a message; those that are announced have room beside their
+-- attributes.
+abbrev pub HasRoom : GroupKey → Out → Due Key OutAttrs → Type 0
+HasRoom group out Nothing = Unit {0}
+HasRoom group out (Withdraws keys) = ((q : Key) → has key_order keys q ≡ true → has key_order out.pending q ≡ true) × (sum_by weight_of keys ≤ room group.family (limit_of group))
+HasRoom group out (Announces o keys) = sum_by weight_of keys ≤ room_beside group.family (limit_of group) o.attrs
 
 none_of_both : (test : Key → Bool) (keys : List Key) → filter (λ q. not (test q)) keys ≡ [] → filter test keys ≡ [] → keys ≡ []
 none_of_both test [] h k = refl
@@ -135,3 +152,12 @@ module _ (group : GroupKey) (out : Out) (light : (q : Key) → has key_order out
 
   pub due-is : IsDueOf out (routes_due group out)
   due-is = due_by (withdrawals key_order out) (announcements key_order out) refl refl
+
+  room_by : (gone new : List Key) (o : Option OutAttrs) → withdrawals key_order out ≡ gone
+      → HasRoom group out (withdrawn_next weight_of (room group.family (limit_of group)) (λ o. room_beside group.family (limit_of group) o.attrs) gone (announced_next weight_of (room group.family (limit_of group)) (λ o. room_beside group.family (limit_of group) o.attrs) o new))
+  room_by (key ∷ gone) new o is = (λ q at. (gone_tests (key ∷ gone) q is (fitting_among (room group.family (limit_of group)) (key ∷ gone) q at)).1, sum_fits weight_of (room group.family (limit_of group)) (key ∷ gone))
+  room_by [] new None is = tt
+  room_by [] new (Some o) is = sum_fits weight_of (room_beside group.family (limit_of group) o.attrs) new
+
+  pub due-room : HasRoom group out (routes_due group out)
+  due-room = room_by (withdrawals key_order out) (alike key_order same_out out) (value_of_first value (announcements key_order out)) refl

@@ -1,6 +1,6 @@
 -- A formatted packet keeps what is so of the system.
 use Rattle.std.proofs.Common.{◌≡◌, ℕ, ◌≤◌, ◌⊎◌, inl, inr, Bool, true, false, List, [], ◌∷◌, ◌++◌, slice_get, Option, Some, None, refl, sym, ◌∙◌, ap, subst, append_assoc}
-use Rattle.std.specs.Prelude.{◌==◌, ◌&&◌, ◌||◌, not, is_some, if◌then◌else◌}
+use Rattle.std.specs.Prelude.{◌==◌, ◌&&◌, ◌||◌, not, is_some, sum_by, if◌then◌else◌}
 use Rattle.std.specs.Option.{option_map, option_eq}
 use Rattle.std.proofs.lemmas.Bool.{eqb-true, eq-eqb}
 use Rattle.std.proofs.lemmas.List.{map-append}
@@ -12,26 +12,35 @@ use Rattle.ug_types.specs.Keys.{weight_of}
 use Rattle.ug_types.specs.Messages.{Message}
 use Rattle.ug_deeds.specs.Deeds.{Deed}
 use Rattle.ug_deeds.specs.Sessions.{sessions_of}
-use Rattle.ug_outbound.specs.Keys.{ends_of}
+use Rattle.ug_outbound.specs.declared.key.GroupKey.{GroupKey}
+use Rattle.ug_outbound.specs.Keys.{ends_of, limit_of}
 use Rattle.ug_rewrite.specs.NextHops.{told_to}
 use Rattle.ug_world.specs.declared.peer_state.PeerState.{PeerState}
 use Rattle.ug_world.specs.World.{World, key_in}
 use Rattle.ug_world.specs.Worlds.{is_up_in, in_session}
 use Rattle.ug_world.specs.Private.{private_table}
 use Rattle.ug_pending.specs.Tables.{has}
+use Rattle.ug_pending.specs.Formatting.{Due}
+use Rattle.ug_pending.specs.Formatting.Due.{Nothing, Withdraws, Announces}
+use Rattle.ug_pack.specs.Rooms.{room, room_beside}
 use Rattle.ug_pack.specs.Ready.{key_order}
+use Rattle.ug_packing.specs.Packing.{fits}
 use Rattle.ug_speaker.specs.Speech.{capabilities_of}
 use Rattle.ug_speaker.specs.Told.{handed_in}
-use Rattle.ug_speaker.specs.Right.{CanBeTold}
 use Rattle.ug_plain_rules.specs.Seats.{is_lost_at}
 use Rattle.ug_plain_rules.proofs.Bools.{both_so, both}
-use Rattle.ug_machine.specs.Packets.{Rows, Packet, same_out, message_to}
-use Rattle.ug_machine.specs.Machine.{Subgroup, Seat, Member, System, owes, reseated, next_packet, formatted, given, with_packet}
+use Rattle.ug_plain_rules.proofs.Packed.{each-append}
+use Rattle.ug_plain_rules.proofs.Sent.{marks-fit, end-fits}
+use Rattle.ug_machine.specs.Packets.{Rows, Packet, Says, EndOfRib, RefreshBegins, RefreshEnds, same_out, all_forced, routes_due, message_to}
+use Rattle.ug_machine.specs.declared.phase.Phase.TheVariants.{Quiet, Open}
+use Rattle.ug_machine.specs.Machine.{Subgroup, Seat, Member, System, owes, is_owed, with_routes, reseated, next_packet, formatted, given, with_packet}
+use Rattle.ug_machine.proofs.Fitting.{CanBeSent, IsKeyTo, withdrawn-fit, announced-fit}
+use Rattle.ug_machine.proofs.Formats.{IsDueOf, HasRoom, each-has, some-has, due-is, due-room}
 use Rattle.ug_machine.proofs.Streams.{IsStream}
 use Rattle.ug_machine.proofs.Tables.{row_at, is_forced}
 use Rattle.ug_machine.proofs.Owing.{table_in}
 use Rattle.ug_machine.proofs.Going.{IsKept, format-goes, desired-private}
-use Rattle.ug_machine.proofs.Seated.{counts_of, told_by, stream_of, IsSat, IsPlacedAt, IsSystem, IsFine, kept-formatted, key-formatted, rows-formatted, at-same}
+use Rattle.ug_machine.proofs.Seated.{counts_of, told_by, stream_of, AreFitting, IsSat, IsPlacedAt, IsSystem, IsFine, kept-formatted, key-formatted, rows-formatted, at-same}
 
 -- what is live is up, in its session
 pub up-of : (s : PeerState) (b : Bool) → (s.up && b) ≡ true → s.up ≡ true
@@ -92,6 +101,7 @@ module _ (front : List World) (state : System) (deeds_at : ℕ → List (Deed Me
       key_is = sat.key_is;
       stream = sat.stream;
       tellable = sat.tellable;
+      fitting = sat.fitting;
     }
 
     module _ (here : (t.sub == g) ≡ true) where
@@ -104,34 +114,74 @@ module _ (front : List World) (state : System) (deeds_at : ℕ → List (Deed Me
       stream_x : IsStream p s.sessions s.peer worlds (table_in (ends_of s.peer) x.out.formatted) (is_forced x.out) x.ending x.phase (stream_of s (deeds_at p) t.rest)
       stream_x = subst (λ (y : Subgroup). IsStream p s.sessions s.peer worlds (table_in (ends_of s.peer) y.out.formatted) (is_forced y.out) y.ending y.phase (stream_of s (deeds_at p) t.rest)) same_sub sat.stream
 
-      tellable_x : (q : Key) (a : Attributes) → table_in (ends_of s.peer) x.out.formatted q ≡ Some a → CanBeTold (capabilities_of s.peer) q a
-      tellable_x = subst (λ (y : Subgroup). (q : Key) (a : Attributes) → table_in (ends_of s.peer) y.out.formatted q ≡ Some a → CanBeTold (capabilities_of s.peer) q a) same_sub sat.tellable
+      tellable_x : (q : Key) (a : Attributes) → table_in (ends_of s.peer) x.out.formatted q ≡ Some a → CanBeSent (capabilities_of s.peer) q a
+      tellable_x = subst (λ (y : Subgroup). (q : Key) (a : Attributes) → table_in (ends_of s.peer) y.out.formatted q ≡ Some a → CanBeSent (capabilities_of s.peer) q a) same_sub sat.tellable
 
       private : (q : Key) → table_in (ends_of s.peer) x.out.desired q ≡ private_table p state.world q
       private q = desired-private p front state.world s is up in_its_session x kept_x key_x q
 
-      desired_tellable : (q : Key) (a : Attributes) → table_in (ends_of s.peer) x.out.desired q ≡ Some a → CanBeTold (capabilities_of s.peer) q a
+      desired_tellable : (q : Key) (a : Attributes) → table_in (ends_of s.peer) x.out.desired q ≡ Some a → CanBeSent (capabilities_of s.peer) q a
       desired_tellable q a e = fine.spelled p s q a is (sym (private q) ∙ e)
 
-      light : (q : Key) → has key_order x.out.pending q ≡ true → weight_of q ≤ 21
-      light q pending =
+      desired_sent : (q : Key) (o : OutAttrs) → row_at x.out.desired q ≡ Some o → CanBeSent (capabilities_of s.peer) q (told_to (ends_of s.peer) o)
+      desired_sent q o e = desired_tellable q (told_to (ends_of s.peer) o) (ap (option_map (told_to (ends_of s.peer))) e)
+
+      pending_sent : (q : Key) → has key_order x.out.pending q ≡ true → IsKeyTo (capabilities_of s.peer) q
+      pending_sent q pending =
           elim (some_there (row_at x.out.formatted q) (row_at x.out.desired q) (is_forced x.out q) (sym (kept_x.exact.all q) ∙ pending)) [
-            | inl found ↦ fine.light (capabilities_of s.peer) q (told_to (ends_of s.peer) found.0) (tellable_x q (told_to (ends_of s.peer) found.0) (ap (option_map (told_to (ends_of s.peer))) found.1))
-            | inr found ↦ fine.light (capabilities_of s.peer) q (told_to (ends_of s.peer) found.0) (desired_tellable q (told_to (ends_of s.peer) found.0) (ap (option_map (told_to (ends_of s.peer))) found.1))
+            | inl found ↦ (told_to (ends_of s.peer) found.0, tellable_x q (told_to (ends_of s.peer) found.0) (ap (option_map (told_to (ends_of s.peer))) found.1))
+            | inr found ↦ (told_to (ends_of s.peer) found.0, desired_sent q found.0 found.1)
           ]
+
+      light : (q : Key) → has key_order x.out.pending q ≡ true → weight_of q ≤ 21
+      light q pending = let sent = pending_sent q pending in fine.light (capabilities_of s.peer) q sent.0 sent.1
+
+      beside : (q : Key) (o : OutAttrs) → row_at x.out.desired q ≡ Some o → 21 ≤ room_beside x.key.family (limit_of x.key) o.attrs
+      beside q o e = fine.beside x.key q o (ap (λ (rows : Rows). row_at rows q) (sym kept_x.desired) ∙ e)
+
+      -- the packet fits
+
+      abbrev Fits : Says × Subgroup → Type 0
+      Fits r = fits (capabilities_of s.peer) (message_to (ends_of s.peer) r.0) ≡ true
+
+      routes_fit : (d : Due Key OutAttrs) → IsDueOf x.out d → HasRoom x.key x.out d → Fits (with_routes x d)
+      routes_fit Nothing is space = by x.ending
+        where
+          by : (b : Bool) → Fits (if b then (EndOfRib, record x { ending = false }) else (RefreshEnds, record x { phase = Quiet }))
+          by true = end-fits (capabilities_of s.peer)
+          by false = (marks-fit (capabilities_of s.peer)).1
+      routes_fit (Withdraws keys) is space =
+          withdrawn-fit (capabilities_of s.peer) keys is.0 (each-has (IsKeyTo (capabilities_of s.peer)) keys (λ q at. pending_sent q (space.0 q at)))
+          (subst (λ (k : GroupKey). sum_by weight_of keys ≤ room k.family (limit_of k)) key_x space.1)
+      routes_fit (Announces o keys) is space =
+          let first = some-has keys is.0 in
+          let row = is.1 first.0 first.1 in
+          announced-fit (capabilities_of s.peer) keys is.0 (each-has (IsKeyTo (capabilities_of s.peer)) keys (λ q at. (told_to (ends_of s.peer) o, desired_sent q o (is.1 q at))))
+          (ends_of s.peer) o (desired_sent first.0 o row).told.attributes_are
+          (subst (λ (k : GroupKey). 21 ≤ room_beside k.family (limit_of k) o.attrs) key_x (beside first.0 o row))
+          (subst (λ (k : GroupKey). sum_by weight_of keys ≤ room_beside k.family (limit_of k) o.attrs) key_x space)
+
+      fits_next : Fits (next_packet x)
+      fits_next = by (is_owed x.phase && not x.ending)
+        where
+          by : (b : Bool) → Fits (if b then (RefreshBegins, record x { out = all_forced x.out; phase = Open }) else with_routes x (routes_due x.key x.out))
+          by true = (marks-fit (capabilities_of s.peer)).0
+          by false = routes_fit (routes_due x.key x.out) (due-is x.key x.out light (fine.wide x.key) beside) (due-room x.key x.out light (fine.wide x.key) beside)
+
+      fitting_next : AreFitting s (t.rest ++ packet ∷ [])
+      fitting_next = each-append (λ (k : Packet). fits (capabilities_of s.peer) (message_to (ends_of s.peer) k.says) ≡ true) t.rest (packet ∷ []) sat.fitting (fits_next, tt)
 
       stream_next : IsStream p s.sessions s.peer worlds (table_in (ends_of s.peer) (formatted x).out.formatted) (is_forced (formatted x).out) (formatted x).ending (formatted x).phase
           (stream_of s (deeds_at p) t.rest ++ message_to (ends_of s.peer) (next_packet x).0 ∷ [])
       stream_next =
-          format-goes p front state.world s is up in_its_session x kept_x key_x (stream_of s (deeds_at p) t.rest) stream_x light (fine.wide x.key)
-          (λ q o e. fine.beside x.key q o (ap (λ (rows : Rows). row_at rows q) (sym kept_x.desired) ∙ e)) owing
+          format-goes p front state.world s is up in_its_session x kept_x key_x (stream_of s (deeds_at p) t.rest) stream_x light (fine.wide x.key) beside owing
 
       longer : stream_of s (deeds_at p) (t.rest ++ packet ∷ []) ≡ stream_of s (deeds_at p) t.rest ++ message_to (ends_of s.peer) (next_packet x).0 ∷ []
       longer =
           ap (λ (ms : List Message). handed_in s.sessions (sessions_of (deeds_at p)) ++ ms) (map-append (λ (k : Packet). message_to (ends_of s.peer) k.says) t.rest (packet ∷ []))
           ∙ sym (append_assoc (handed_in s.sessions (sessions_of (deeds_at p))) (told_by s t.rest) (message_to (ends_of s.peer) (next_packet x).0 ∷ []))
 
-      tellable_next : (q : Key) (a : Attributes) → table_in (ends_of s.peer) (formatted x).out.formatted q ≡ Some a → CanBeTold (capabilities_of s.peer) q a
+      tellable_next : (q : Key) (a : Attributes) → table_in (ends_of s.peer) (formatted x).out.formatted q ≡ Some a → CanBeSent (capabilities_of s.peer) q a
       tellable_next q a e =
           elim (rows-formatted state.world x kept_x q) [
             | inl old ↦ tellable_x q a (sym (ap (option_map (told_to (ends_of s.peer))) old) ∙ e)
@@ -146,6 +196,7 @@ module _ (front : List World) (state : System) (deeds_at : ℕ → List (Deed Me
         key_is = key-formatted state.world x kept_x ∙ key_x;
         stream = subst (λ (ms : List Message). IsStream p s.sessions s.peer worlds (table_in (ends_of s.peer) (formatted x).out.formatted) (is_forced (formatted x).out) (formatted x).ending (formatted x).phase ms) (sym longer) stream_next;
         tellable = tellable_next;
+        fitting = fitting_next;
       }
 
     -- wherever it sits
@@ -153,7 +204,7 @@ module _ (front : List World) (state : System) (deeds_at : ℕ → List (Deed Me
     sat-next u is' = subst (λ (v : Seat). IsSat p worlds (deeds_at p) s (reseated (given g packet) m) next.subgroups (key_in state.world s) v) is' (by (t.sub == g) refl)
       where
         elsewhere : (t.sub == g) ≡ false → IsSat p worlds (deeds_at p) s (reseated (given g packet) m) next.subgroups (key_in state.world s) t
-        elsewhere e = let same = sat-elsewhere e in record { live = same.live; subgroup = same.subgroup; there = same.there; key_is = same.key_is; stream = same.stream; tellable = same.tellable }
+        elsewhere e = let same = sat-elsewhere e in record { live = same.live; subgroup = same.subgroup; there = same.there; key_is = same.key_is; stream = same.stream; tellable = same.tellable; fitting = same.fitting }
 
         by : (b : Bool) → (t.sub == g) ≡ b → IsSat p worlds (deeds_at p) s (reseated (given g packet) m) next.subgroups (key_in state.world s) (if b then record t { rest = t.rest ++ packet ∷ [] } else t)
         by true e = sat-here e

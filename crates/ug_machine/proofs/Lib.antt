@@ -5,6 +5,7 @@ mod Drained
 mod Streams
 mod Tables
 mod Owing
+mod Fitting
 mod Formats
 mod Going
 mod Standing

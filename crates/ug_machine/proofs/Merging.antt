@@ -123,7 +123,7 @@ module _ (front : List World) (state : System) (deeds_at : ℕ → List (Deed Me
     up = up-of s (not (is_lost_at (counts_of m) s.sessions)) sat.live
 
     stays : (t.sub == h) ≡ false → IsSat p worlds (deeds_at p) s (reseated (moved h g) m) next.subgroups (key_in state.world s) t
-    stays e = record { live = sat.live; subgroup = sat.subgroup; there = there_next t.sub e ∙ sat.there; key_is = sat.key_is; stream = sat.stream; tellable = sat.tellable }
+    stays e = record { live = sat.live; subgroup = sat.subgroup; there = there_next t.sub e ∙ sat.there; key_is = sat.key_is; stream = sat.stream; tellable = sat.tellable; fitting = sat.fitting }
 
     module _ (here : (t.sub == h) ≡ true) where
       same_sub : sat.subgroup ≡ other.subgroup
@@ -169,6 +169,7 @@ module _ (front : List World) (state : System) (deeds_at : ℕ → List (Deed Me
         key_is = same_key ∙ key_other;
         stream = stream_one;
         tellable = λ q a e. sat.tellable q a (ap (λ (y : Subgroup). table_in (ends_of s.peer) y.out.formatted q) same_sub ∙ same_tables q ∙ e);
+        fitting = sat.fitting;
       }
 
     sat_next : (u : Seat) → moved h g t ≡ u → IsSat p worlds (deeds_at p) s (reseated (moved h g) m) next.subgroups (key_in state.world s) u

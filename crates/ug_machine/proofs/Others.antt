@@ -97,6 +97,7 @@ placed-elsewhere p worlds deeds s m xs ys key same placed = record {
     key_is = sat.key_is;
     stream = sat.stream;
     tellable = sat.tellable;
+    fitting = sat.fitting;
   };
   empty = placed.empty;
 }

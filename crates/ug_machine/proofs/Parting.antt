@@ -16,7 +16,7 @@ use Rattle.ug_machine.proofs.Streams.{IsStream}
 use Rattle.ug_machine.proofs.Tables.{is_forced}
 use Rattle.ug_machine.proofs.Owing.{table_in}
 use Rattle.ug_machine.proofs.Going.{IsKept}
-use Rattle.ug_machine.proofs.Seated.{stream_of, IsSat, IsPlacedAt, IsSystem, at-same}
+use Rattle.ug_machine.proofs.Seated.{stream_of, AreFitting, IsSat, IsPlacedAt, IsSystem, at-same}
 
 -- ---- lists with something more at the end
 
@@ -94,6 +94,7 @@ module _ (worlds : List World) (state : System) (deeds_at : ℕ → List (Deed M
           key_is = sat'.key_is;
           stream = subst (λ (packets : List Packet). IsStream p s.sessions s.peer worlds (table_in (ends_of s.peer) sat'.subgroup.out.formatted) (is_forced sat'.subgroup.out) sat'.subgroup.ending sat'.subgroup.phase (stream_of s (deeds_at p) packets)) (sym rest) sat'.stream;
           tellable = sat'.tellable;
+          fitting = subst (λ (packets : List Packet). AreFitting s packets) (sym rest) sat'.fitting;
         }
 
     -- it stays where it is
@@ -105,6 +106,7 @@ module _ (worlds : List World) (state : System) (deeds_at : ℕ → List (Deed M
       key_is = sat.key_is;
       stream = sat.stream;
       tellable = sat.tellable;
+      fitting = sat.fitting;
     }
 
     same_sub : (t.sub == g) ≡ true → sat.subgroup ≡ x

@@ -74,6 +74,7 @@ placed-retabled p worlds w deeds s m xs key placed = record {
         sat.subgroup.ending sat.subgroup.phase sat.subgroup.phase (stream_of s deeds t.rest) (desired-as (wanted_rows sat.subgroup.key w) sat.subgroup.out (ends_of s.peer) sat.subgroup.phase)
         (stream-longer p s.sessions s.peer worlds (w ∷ []) (table_in (ends_of s.peer) sat.subgroup.out.formatted) (is_forced sat.subgroup.out) sat.subgroup.ending sat.subgroup.phase (stream_of s deeds t.rest) sat.stream);
     tellable = sat.tellable;
+    fitting = sat.fitting;
   };
   empty = placed.empty;
 }
@@ -105,6 +106,7 @@ placed-counted p worlds deeds s m state xs key placed = record {
     key_is = sat.key_is;
     stream = sat.stream;
     tellable = sat.tellable;
+    fitting = sat.fitting;
   };
   empty = placed.empty;
 }

@@ -8,7 +8,7 @@ use Rattle.ug_types.specs.declared.route.OutAttrs.{OutAttrs}
 use Rattle.ug_types.specs.Attributes.{Attributes}
 use Rattle.ug_types.specs.Keys.{weight_of}
 use Rattle.ug_types.specs.Messages.{Message}
-use Rattle.ug_deeds.specs.Deeds.{Deed}
+use Rattle.ug_deeds.specs.Deeds.{Deed, Each}
 use Rattle.ug_deeds.specs.Sessions.{sessions_of}
 use Rattle.ug_outbound.specs.declared.key.GroupKey.{GroupKey}
 use Rattle.ug_outbound.specs.Keys.{ends_of, limit_of}
@@ -20,9 +20,10 @@ use Rattle.ug_pending.specs.Formatting.{Due}
 use Rattle.ug_pending.specs.Formatting.Due.{Nothing, Withdraws, Announces}
 use Rattle.ug_pack.specs.Rooms.{room, room_beside}
 use Rattle.ug_pack.specs.Ready.{key_order}
+use Rattle.ug_packing.specs.Packing.{fits}
 use Rattle.ug_speaker.specs.Speech.{capabilities_of}
 use Rattle.ug_speaker.specs.Told.{handed_in}
-use Rattle.ug_speaker.specs.Right.{IsToldRight, CanBeTold}
+use Rattle.ug_speaker.specs.Right.{IsToldRight}
 use Rattle.ug_plain_rules.specs.Seats as plain
 use Rattle.ug_plain_rules.specs.Seats.{change_at, is_lost_at}
 use Rattle.ug_plain_rules.proofs.Bools.{both_so}
@@ -32,6 +33,7 @@ use Rattle.ug_machine.specs.declared.phase.Phase.{Phase}
 use Rattle.ug_machine.specs.declared.phase.Phase.TheVariants.{Quiet, Open}
 use Rattle.ug_machine.specs.Packets.{Packet, Says, EndOfRib, RefreshBegins, RefreshEnds, wanted_rows, all_forced, with_told, routes_due, message_to}
 use Rattle.ug_machine.specs.Machine.{Subgroup, Seat, Member, System, is_owed, with_routes, next_packet, formatted}
+use Rattle.ug_machine.proofs.Fitting.{CanBeSent}
 use Rattle.ug_machine.proofs.Streams.{IsStream}
 use Rattle.ug_machine.proofs.Tables.{row_at, is_forced, IsOut, told-desired, told-exact, told-formatted, forced-exact}
 use Rattle.ug_machine.proofs.Owing.{table_in}
@@ -52,14 +54,20 @@ told_by s packets = map (λ (packet : Packet). message_to (ends_of s.peer) packe
 abbrev pub stream_of : PeerState → List (Deed Message) → List Packet → List Message
 stream_of s deeds rest = handed_in s.sessions (sessions_of deeds) ++ told_by s rest
 
--- A live peer sits in a subgroup of its key. Its stream is right, and leads to what was formatted there.
+-- each packet has a text in the sessions of the peer
+abbrev pub AreFitting : PeerState → List Packet → Type 0
+AreFitting s packets = Each (λ (packet : Packet). fits (capabilities_of s.peer) (message_to (ends_of s.peer) packet.says) ≡ true) packets
+
+-- A live peer sits in a subgroup of its key. Its stream is right, and leads to what was formatted there; what it has
+-- still to take fits its sessions.
 pub record IsSat (p : ℕ) (worlds : List World) (deeds : List (Deed Message)) (s : PeerState) (m : Member) (xs : List (Option Subgroup)) (key : GroupKey) (t : Seat) : Type 0 where
   pub live : is_live s m ≡ true
   pub subgroup : Subgroup
   pub there : slice_get xs t.sub ≡ Some (Some subgroup)
   pub key_is : subgroup.key ≡ key
   pub stream : IsStream p s.sessions s.peer worlds (table_in (ends_of s.peer) subgroup.out.formatted) (is_forced subgroup.out) subgroup.ending subgroup.phase (stream_of s deeds t.rest)
-  pub tellable : (q : Key) (a : Attributes) → table_in (ends_of s.peer) subgroup.out.formatted q ≡ Some a → CanBeTold (capabilities_of s.peer) q a
+  pub tellable : (q : Key) (a : Attributes) → table_in (ends_of s.peer) subgroup.out.formatted q ≡ Some a → CanBeSent (capabilities_of s.peer) q a
+  pub fitting : AreFitting s t.rest
 
 -- A peer's counts are those of what was told, each session was told right, and it sits somewhere exactly where it is live.
 pub record IsPlaced (p : ℕ) (worlds : List World) (deeds : List (Deed Message)) (s : PeerState) (m : Member) (xs : List (Option Subgroup)) (key : GroupKey) : Type 0 where
@@ -78,10 +86,10 @@ pub record IsSystem (worlds : List World) (deeds_at : ℕ → List (Deed Message
   pub kept : (g : ℕ) (x : Subgroup) → slice_get state.subgroups g ≡ Some (Some x) → IsKept state.world x
   pub placed : (p : ℕ) → IsPlacedAt p worlds (deeds_at p) state.world state.subgroups (slice_get state.world.peers p) (slice_get state.members p)
 
--- What is so of the routes of a peer in a world: a message can spell them, and their attributes are short.
+-- What is so of the routes of a peer in a world: they can be sent, and their attributes are short.
 pub record IsFine (w : World) : Type 0 where
-  pub spelled : (p : ℕ) (s : PeerState) (q : Key) (a : Attributes) → slice_get w.peers p ≡ Some s → private_table p w q ≡ Some a → CanBeTold (capabilities_of s.peer) q a
-  pub light : (c : _) (q : Key) (a : Attributes) → CanBeTold c q a → weight_of q ≤ 21
+  pub spelled : (p : ℕ) (s : PeerState) (q : Key) (a : Attributes) → slice_get w.peers p ≡ Some s → private_table p w q ≡ Some a → CanBeSent (capabilities_of s.peer) q a
+  pub light : (c : _) (q : Key) (a : Attributes) → CanBeSent c q a → weight_of q ≤ 21
   pub beside : (group : GroupKey) (q : Key) (o : OutAttrs) → row_at (wanted_rows group w) q ≡ Some o → 21 ≤ room_beside group.family (limit_of group) o.attrs
   pub wide : (group : GroupKey) → 21 ≤ room group.family (limit_of group)
 

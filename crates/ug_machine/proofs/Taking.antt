@@ -21,18 +21,19 @@ use Rattle.ug_machine.specs.Machine.{Subgroup, Seat, Member, with_session, with_
 use Rattle.ug_machine.proofs.Streams.{IsStream}
 use Rattle.ug_machine.proofs.Tables.{is_forced}
 use Rattle.ug_machine.proofs.Owing.{table_in}
-use Rattle.ug_machine.proofs.Seated.{counts_of, is_live, told_by, stream_of, IsSat, IsPlaced}
+use Rattle.ug_machine.proofs.Seated.{counts_of, is_live, told_by, stream_of, AreFitting, IsSat, IsPlaced}
 
 -- another member and other deeds, with the same stream
 pub sat-as : (p : ℕ) (worlds : List World) (deeds later : List (Deed Message)) (s : PeerState) (m next : Member) (xs : List (Option Subgroup)) (key : GroupKey) (t u : Seat)
-    → is_live s next ≡ true → u.sub ≡ t.sub → stream_of s later u.rest ≡ stream_of s deeds t.rest → IsSat p worlds deeds s m xs key t → IsSat p worlds later s next xs key u
-sat-as p worlds deeds later s m next xs key t u live sub same sat = record {
+    → is_live s next ≡ true → u.sub ≡ t.sub → stream_of s later u.rest ≡ stream_of s deeds t.rest → AreFitting s u.rest → IsSat p worlds deeds s m xs key t → IsSat p worlds later s next xs key u
+sat-as p worlds deeds later s m next xs key t u live sub same fit sat = record {
   live = live;
   subgroup = sat.subgroup;
   there = ap (slice_get xs) sub ∙ sat.there;
   key_is = sat.key_is;
   stream = subst (λ (ms : List Message). IsStream p s.sessions s.peer worlds (table_in (ends_of s.peer) sat.subgroup.out.formatted) (is_forced sat.subgroup.out) sat.subgroup.ending sat.subgroup.phase ms) (sym same) sat.stream;
   tellable = sat.tellable;
+  fitting = fit;
 }
 
 module _ (p : ℕ) (worlds : List World) (deeds : List (Deed Message)) (s : PeerState) (m : Member) (xs : List (Option Subgroup)) (key : GroupKey) (placed : IsPlaced p worlds deeds s m xs key) where
@@ -49,7 +50,7 @@ module _ (p : ℕ) (worlds : List World) (deeds : List (Deed Message)) (s : Peer
     counted = counted-begins deeds s (counts_of m) placed.counted less;
     told = λ n. subst (λ (ms : List Message). IsToldRight p n s.peer worlds ms) (sym (begins_alike n)) (placed.told n);
     sat = λ t at. let sat = placed.sat t at in
-        sat-as p worlds deeds (deeds ++ BeginsDeed (m.begun + 1) ∷ []) s m (with_session m) xs key t t (begins_live ∙ sat.live) refl (ap (λ (ms : List Message). ms ++ told_by s t.rest) (begins_alike s.sessions)) sat;
+        sat-as p worlds deeds (deeds ++ BeginsDeed (m.begun + 1) ∷ []) s m (with_session m) xs key t t (begins_live ∙ sat.live) refl (ap (λ (ms : List Message). ms ++ told_by s t.rest) (begins_alike s.sessions)) sat.fitting sat;
     empty = λ none. begins_live ∙ placed.empty none;
   }
 
@@ -103,7 +104,7 @@ module _ (p : ℕ) (worlds : List World) (deeds : List (Deed Message)) (s : Peer
       told = told_then;
       sat = λ u at'.
           let same : record t { rest = rest } ≡ u = (let both : Some (record t { rest = rest }) ≡ Some u = sym seat_then ∙ at' in cc) in
-          subst (λ (v : Seat). IsSat p worlds then_deeds s (with_handed m) xs key v) same (sat-as p worlds deeds then_deeds s m (with_handed m) xs key t (record t { rest = rest }) sat_now.live refl goes_on sat_now);
+          subst (λ (v : Seat). IsSat p worlds then_deeds s (with_handed m) xs key v) same (sat-as p worlds deeds then_deeds s m (with_handed m) xs key t (record t { rest = rest }) sat_now.live refl goes_on (subst (λ (packets : List Packet). AreFitting s packets) first sat_now.fitting).1 sat_now);
       empty = λ none. let some : Some (record t { rest = rest }) ≡ None = sym seat_then ∙ none in absurd cc;
     }
 
@@ -149,7 +150,7 @@ module _ (p : ℕ) (worlds : List World) (deeds : List (Deed Message)) (s : Peer
       counted = counted_lost;
       told = told_lost;
       sat = λ t at. let sat = placed.sat t at in
-          sat-as p worlds deeds (deeds ++ Loses n ∷ []) s m (with_loss n m) xs key t t (lost_alike e ∙ sat.live) refl (ap (λ (found : List (Session Message)). handed_in s.sessions found ++ told_by s t.rest) lost_deeds) sat;
+          sat-as p worlds deeds (deeds ++ Loses n ∷ []) s m (with_loss n m) xs key t t (lost_alike e ∙ sat.live) refl (ap (λ (found : List (Session Message)). handed_in s.sessions found ++ told_by s t.rest) lost_deeds) sat.fitting sat;
       empty = λ none. lost_alike e ∙ placed.empty none;
     }
 

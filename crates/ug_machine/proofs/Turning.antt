@@ -6,7 +6,7 @@ use Rattle.ug_types.specs.declared.key.Key.{Key}
 use Rattle.ug_types.specs.declared.route.PeerEnds.{PeerEnds}
 use Rattle.ug_types.specs.declared.capabilities.Capabilities.{Capabilities}
 use Rattle.ug_types.specs.Messages.{Message}
-use Rattle.ug_deeds.specs.Deeds.{Deed}
+use Rattle.ug_deeds.specs.Deeds.{Deed, Each}
 use Rattle.ug_deeds.specs.Sessions.{sessions_of}
 use Rattle.ug_outbound.specs.declared.key.GroupKey.{GroupKey}
 use Rattle.ug_outbound.specs.Keys.{ends_of}
@@ -15,20 +15,23 @@ use Rattle.ug_types.specs.Bytes.{same_bytes}
 use Rattle.ug_world.specs.declared.peer_state.PeerState.{PeerState}
 use Rattle.ug_world.specs.World.{World}
 use Rattle.ug_world.specs.After.{come_up, gone_down, with_policy, refiltered, with_orf, changed_peer}
+use Rattle.ug_packing.specs.Packing.{fits}
+use Rattle.ug_speaker.specs.Speech.{capabilities_of}
 use Rattle.ug_speaker.specs.Told.{handed_in}
-use Rattle.ug_speaker.specs.Right.{IsToldRight, CanBeTold}
+use Rattle.ug_speaker.specs.Right.{IsToldRight}
 use Rattle.ug_plain_rules.specs.Seats.{is_lost_at}
 use Rattle.ug_plain_rules.proofs.Bools.{both}
 use Rattle.ug_plain_rules.proofs.Peers.{peer_after, IsNextOf, sessions-rise}
 use Rattle.ug_plain_rules.proofs.Counts.{IsCounted, counted-event, nothing-in, not-lost}
 use Rattle.ug_machine.specs.Packets.{Rows, Packet, message_to}
 use Rattle.ug_machine.specs.Machine.{Subgroup, Seat, Member, System, with_seat, at_end}
+use Rattle.ug_machine.proofs.Fitting.{CanBeSent}
 use Rattle.ug_machine.proofs.Streams.{IsStream}
 use Rattle.ug_machine.proofs.Standing.{stream-as, stream-peer, stream-starts, right-peer}
 use Rattle.ug_machine.proofs.Tables.{is_forced}
 use Rattle.ug_machine.proofs.Owing.{table_in}
 use Rattle.ug_machine.proofs.Going.{IsKept}
-use Rattle.ug_machine.proofs.Seated.{counts_of, is_live, told_by, stream_of, IsSat, IsPlaced}
+use Rattle.ug_machine.proofs.Seated.{counts_of, is_live, told_by, stream_of, AreFitting, IsSat, IsPlaced}
 use Rattle.ug_machine.proofs.Asking.{IsGood}
 
 -- ---- the link to a peer stays
@@ -102,6 +105,7 @@ module _ (q : ℕ) (worlds : List World) (deeds : List (Deed Message)) (s s' : P
           (subst (λ (ms : List Message). IsStream q s'.sessions s'.peer worlds (table_in (ends_of s'.peer) x.out.formatted) (is_forced x.out) true x.phase ms) (sym none_handed)
           (stream-starts q s'.sessions s'.peer worlds (table_in (ends_of s'.peer) x.out.formatted) (is_forced x.out) x.phase none_told (kept.1.closed fresh)));
       tellable = λ k a e. let none = none_told k in absurd cc;
+      fitting = tt;
     }
 
     pub placed-starts : IsPlaced q worlds deeds s' (with_seat (at_end g) m) ys key'
@@ -140,6 +144,12 @@ module _ (q : ℕ) (worlds : List World) (deeds : List (Deed Message)) (s s' : P
           (subst (λ (k : ℕ). IsStream q k s'.peer worlds (table_in (ends_of s.peer) y.out.formatted) (is_forced y.out) y.ending y.phase (stream_of s deeds t.rest)) (sym stays)
           (stream-peer q s.sessions s.peer s'.peer worlds (table_in (ends_of s.peer) y.out.formatted) (is_forced y.out) y.ending y.phase (stream_of s deeds t.rest) (sym next.enhanced) stream_good)))
 
+      fitting_now : AreFitting s' u.rest
+      fitting_now =
+          subst (λ (packets : List Packet). AreFitting s' packets) (sym rest)
+          (subst (λ (l : PeerEnds). Each (λ (packet : Packet). fits (capabilities_of s'.peer) (message_to l packet.says) ≡ true) t.rest) (sym ends)
+          (subst (λ (c : Capabilities). Each (λ (packet : Packet). fits c (message_to (ends_of s.peer) packet.says) ≡ true) t.rest) (sym next.capabilities) sat_old.fitting))
+
       stays_sat : IsSat q worlds deeds s' (with_seat (Some u) m) ys key' u
       stays_sat = record {
         live = stays_live;
@@ -149,7 +159,8 @@ module _ (q : ℕ) (worlds : List World) (deeds : List (Deed Message)) (s s' : P
         stream = stream_now;
         tellable = λ k a e.
             let was = sat_old.tellable k a (good.change.same k ∙ ap (λ (l : PeerEnds). table_in l y.out.formatted k) (sym ends) ∙ e) in
-            subst (λ (c : Capabilities). CanBeTold c k a) (sym next.capabilities) was;
+            subst (λ (c : Capabilities). CanBeSent c k a) (sym next.capabilities) was;
+        fitting = fitting_now;
       }
 
       pub placed-stays : IsPlaced q worlds deeds s' (with_seat (Some u) m) ys key'

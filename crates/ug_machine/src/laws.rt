@@ -1,18 +1,22 @@
 //! Laws over the rules, on functions that do nothing.
 
 ghost use Rattle.std.specs.Prelude.{◌≡◌, ℕ, ◌<◌, ◌≤◌, ◌&&◌, not, nat_le, true, false, List, ◌∷◌, [], ◌++◌, slice_get, Some, is_some};
+ghost use Rattle.ug_board.specs.declared.steps.LaneStep.TheVariants.{Next};
+ghost use Rattle.ug_board.specs.declared.steps.LaneSaid.TheVariants.{Hand};
 ghost use Rattle.ug_board.specs.Entry.{Entry};
 ghost use Rattle.ug_board.specs.Rules.{IsMachine};
 ghost use Rattle.ug_board.specs.History.{replay, job_entry};
 ghost use Rattle.ug_events.specs.Events.{Happening};
 ghost use Rattle.ug_world.specs.World.{World};
 ghost use Rattle.ug_world.specs.declared.peer_state.PeerState as peers;
+ghost use Rattle.ug_message.specs.Texts.{written};
+ghost use Rattle.ug_speaker.specs.Speech.{capabilities_of};
 ghost use Rattle.ug_speaker.specs.Told.{events_in, worlds_of, world_after, told, is_lost, begun, is_live, world_at};
 ghost use Rattle.ug_speaker.specs.Right.{IsToldRight, IsToldAll};
 ghost use Rattle.ug_speaker.specs.Owes.{StepsRight, IsCourse, IsPeer, TellsMarks};
 ghost use Rattle.ug_machine.specs.Machine as machine;
 ghost use Rattle.ug_machine.specs.Machine.{Job, Said, Take, legal, seat_at, subgroup_at, owes, is_full, is_turn, may_merge, must_part, is_drained, has_unlost};
-ghost use Rattle.ug_machine.specs.Rules.{group_rules, group_speech, purpose};
+ghost use Rattle.ug_machine.specs.Rules.{group_rules, group_speech, lane_reply, purpose};
 ghost use Rattle.ug_machine.specs.Simulates.{Simulates, rest_to};
 
 /// What the rules keep in every state. `machine`: what any machine keeps. `steps`: what a machine that speaks to peers
@@ -24,7 +28,7 @@ pub fn group_laws()
 
 /// What each course keeps, of what a machine that speaks to peers owes of it: its world is that which the events lead to;
 /// each session was told right; sessions are begun as they came up; when everything is told each live peer has its private
-/// table; losses are noted once; marks tell what was told.
+/// table; what is handed out is the text of a message; losses are noted once; marks tell what was told.
 pub fn group_courses()
     ensures world { (opening : World) (history : List (Entry Job Said)) → IsCourse group_rules group_speech opening history → world_at group_rules group_speech opening history ≡ world_after opening (events_in group_rules group_speech history) }
     ensures right { (opening : World) (history : List (Entry Job Said)) (p n : ℕ) (s : peers.PeerState) → IsCourse group_rules group_speech opening history → IsPeer group_rules group_speech p s opening history
@@ -36,6 +40,9 @@ pub fn group_courses()
     ensures all_told { (opening : World) (history : List (Entry Job Said)) (p : ℕ) (s : peers.PeerState) → IsCourse group_rules group_speech opening history → IsPeer group_rules group_speech p s opening history
         → is_drained (replay group_rules opening history) ≡ true → is_live group_rules group_speech p s opening history ≡ true
         → IsToldAll p (world_at group_rules group_speech opening history) (told group_rules group_speech p s.sessions opening history) }
+    ensures text { (opening : World) (history : List (Entry Job Said)) (p session made len : ℕ) (s : peers.PeerState) → IsCourse group_rules group_speech opening history → IsPeer group_rules group_speech p s opening history
+        → lane_reply (Next p) (replay group_rules opening history) ≡ Hand session made len
+        → written (capabilities_of s.peer) (group_speech.message p (replay group_rules opening history)) ≡ Some (group_rules.handed p (replay group_rules opening history)) }
     ensures losses { (opening : World) (history : List (Entry Job Said)) (p n : ℕ) → IsCourse group_rules group_speech opening history
         → has_unlost n (slice_get (replay group_rules opening history).members p) ≡ (nat_le 1 n && (nat_le n (begun group_rules group_speech p opening history) && not (is_lost group_rules group_speech p n opening history))) }
     ensures marks { (opening : World) (history : List (Entry Job Said)) (pass : ℕ) (job : Job) → IsCourse group_rules group_speech opening history → legal job (replay group_rules opening history) ≡ true

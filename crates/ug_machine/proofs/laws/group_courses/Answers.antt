@@ -1,4 +1,4 @@
-use Rattle.ug_machine.proofs.Courses.{world-led, told-right, begun-at_most, begun-all, all-told, losses-told}
+use Rattle.ug_machine.proofs.Courses.{world-led, told-right, begun-at_most, begun-all, all-told, text-told, losses-told}
 use Rattle.ug_machine.proofs.Marks.{marks-told}
 use Rattle.ug_machine.proofs.laws.group_courses.Goals as goal
 
@@ -16,6 +16,9 @@ returns-clause-begun_all c = λ opening h p s course is drained. begun-all openi
 
 pub returns-clause-all_told : goal.returns-clause-all_told
 returns-clause-all_told c = λ opening h p s course is drained live. all-told opening h course p s is drained live
+
+pub returns-clause-text : goal.returns-clause-text
+returns-clause-text c = λ opening h p session made len s course is said. text-told opening h course p s is session made len said
 
 pub returns-clause-losses : goal.returns-clause-losses
 returns-clause-losses c = λ opening h p n course. losses-told opening h course p n
