@@ -1,8 +1,9 @@
 #!/bin/bash
-# Runs the program on real files: what it ends with, what it says, and which files it leaves.
+# Runs the program on real files: what it ends with, what it says, and which files it leaves. PROGRAM is the program, or
+# else out/ug_main.
 cd "$(dirname "$0")/.." || exit 1
-make build > /dev/null || { echo "0 passed, 1 failed"; exit 1; }
-program=$PWD/out/ug_main
+program=${PROGRAM:-$PWD/out/ug_main}
+[ -x "$program" ] || { echo "no program at $program"; echo "0 passed, 1 failed"; exit 1; }
 examples=$PWD/examples
 samples=$PWD/tests/samples
 readme=$PWD/README.md
