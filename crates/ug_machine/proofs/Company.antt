@@ -8,11 +8,11 @@ use Rattle.ug_machine.specs.Machine.{Subgroup, Seat, Member, System, sits, sits_
 
 -- ---- counting
 
-abbrev one_if : Bool → ℕ
+abbrev pub one_if : Bool → ℕ
 one_if b = if b then 1 else 0
 
-count_cons : (test : Member → Bool) (m : Member) (ms : List Member) → count_by test (m ∷ ms) ≡ one_if (test m) + count_by test ms
-count_cons test m ms = sum_by-cons (λ (x : Member). one_if (test x)) m ms
+pub count-cons : (test : Member → Bool) (m : Member) (ms : List Member) → count_by test (m ∷ ms) ≡ one_if (test m) + count_by test ms
+count-cons test m ms = sum_by-cons (λ (x : Member). one_if (test x)) m ms
 
 one_so : (test : Member → Bool) (x m : Member) → x ≡ m → test m ≡ true → one_if (test x) ≡ 1
 one_so test x m same passes = ap one_if (ap test same ∙ passes)
@@ -20,20 +20,20 @@ one_so test x m same passes = ap one_if (ap test same ∙ passes)
 one_at : (test : Member → Bool) (ms : List Member) (p : ℕ) (m : Member) → slice_get ms p ≡ Some m → test m ≡ true → 1 ≤ count_by test ms
 one_at test [] p m is passes = absurd cc
 one_at test (x ∷ ms) zero m is passes =
-    let same : x ≡ m = cc in omega (arith, one_so test x m same passes, count_cons test x ms)
-one_at test (x ∷ ms) (suc p) m is passes = omega (arith, one_at test ms p m is passes, count_cons test x ms)
+    let same : x ≡ m = cc in omega (arith, one_so test x m same passes, count-cons test x ms)
+one_at test (x ∷ ms) (suc p) m is passes = omega (arith, one_at test ms p m is passes, count-cons test x ms)
 
 two_at : (test : Member → Bool) (ms : List Member) (p q : ℕ) (m n : Member) → (p ≡ q → ⊥) → slice_get ms p ≡ Some m → slice_get ms q ≡ Some n → test m ≡ true → test n ≡ true → 2 ≤ count_by test ms
 two_at test [] p q m n apart is at one two = absurd cc
 two_at test (x ∷ ms) zero zero m n apart is at one two = absurd (apart refl)
 two_at test (x ∷ ms) zero (suc q) m n apart is at one two =
     let same : x ≡ m = cc in
-    omega (arith, one_so test x m same one, one_at test ms q n at two, count_cons test x ms)
+    omega (arith, one_so test x m same one, one_at test ms q n at two, count-cons test x ms)
 two_at test (x ∷ ms) (suc p) zero m n apart is at one two =
     let same : x ≡ n = cc in
-    omega (arith, one_so test x n same two, one_at test ms p m is one, count_cons test x ms)
+    omega (arith, one_so test x n same two, one_at test ms p m is one, count-cons test x ms)
 two_at test (x ∷ ms) (suc p) (suc q) m n apart is at one two =
-    omega (arith, two_at test ms p q m n (λ e. apart (ap suc e)) is at one two, count_cons test x ms)
+    omega (arith, two_at test ms p q m n (λ e. apart (ap suc e)) is at one two, count-cons test x ms)
 
 -- with no company the others sit elsewhere
 pub alone : (g : ℕ) (members : List Member) (p q : ℕ) (m n : Member) (t u : Seat) → has_company g members ≡ false → (p ≡ q → ⊥) → slice_get members p ≡ Some m → slice_get members q ≡ Some n

@@ -36,7 +36,7 @@ use Rattle.ug_machine.proofs.Streams.{IsStream}
 use Rattle.ug_machine.proofs.Tables.{is_forced}
 use Rattle.ug_machine.proofs.Owing.{table_in}
 use Rattle.ug_machine.proofs.Going.{IsKept, desired-private, level-rows}
-use Rattle.ug_machine.proofs.Seated.{counts_of, is_live, told_by, stream_of, AreFitting, IsSat, IsPlaced, IsPlacedAt, IsSystem}
+use Rattle.ug_machine.proofs.Seated.{counts_of, is_live, told_by, stream_of, AreFitting, IsSat, IsPlaced, IsPlacedAt, IsSystem, member-of}
 use Rattle.ug_machine.proofs.Formatting.{up-of, session-of}
 use Rattle.ug_machine.proofs.Merging.{empty-is, IsRestedAt, rested-at}
 use Rattle.ug_machine.proofs.Staying.{world-event, world-job, stands-lane}
@@ -83,12 +83,7 @@ module _ (opening : World) (h : List GroupEntry) (course : IsCourse group_rules 
     pub placed : IsPlaced p worlds (deeds_at p) s member here.subgroups (key_in here.world s)
 
   pub member-at : (p : ℕ) (s : PeerState) → slice_get here.world.peers p ≡ Some s → IsMemberAt p s
-  member-at p s is = by (slice_get here.world.peers p) (slice_get here.members p) is refl (system.placed p)
-    where
-      by : (o : Option PeerState) (u : Option Member) → o ≡ Some s → slice_get here.members p ≡ u → IsPlacedAt p worlds (deeds_at p) here.world here.subgroups o u → IsMemberAt p s
-      by None u is at placed = absurd cc
-      by (Some t) None is at placed = absurd placed
-      by (Some t) (Some m) is at placed = let same : t ≡ s = cc in subst (λ (x : PeerState). IsMemberAt p x) same (record { member = m; at = at; placed = placed })
+  member-at p s is = let found = member-of p worlds (deeds_at p) here s is (system.placed p) in record { member = found.0; at = found.1; placed = found.2 }
 
   -- each session was told right
   pub told-right : (p n : ℕ) (s : PeerState) → slice_get here.world.peers p ≡ Some s → IsToldRight p n s.peer worlds (told group_rules group_speech p n opening h)
@@ -202,51 +197,51 @@ module _ (opening : World) (h : List GroupEntry) (course : IsCourse group_rules 
     abbrev AllTold : Type 0
     AllTold = IsToldAll p here.world (told group_rules group_speech p s.sessions opening h)
 
-    m : IsMemberAt p s
+    abbrev m : IsMemberAt p s
     m = member-at p s is
 
     live_now : is_live s m.member ≡ true
     live_now = sym (live-here p s m) ∙ live
 
-    up : s.up ≡ true
-    up = up-of s (not (is_lost_at (counts_of m.member) s.sessions)) live_now
+    pub up-here : s.up ≡ true
+    up-here = up-of s (not (is_lost_at (counts_of m.member) s.sessions)) live_now
 
     module _ (t : Seat) (at : m.member.seat ≡ Some t) where
-      sat : IsSat p worlds (deeds_at p) s m.member here.subgroups (key_in here.world s) t
-      sat = m.placed.sat t at
+      pub sat-here : IsSat p worlds (deeds_at p) s m.member here.subgroups (key_in here.world s) t
+      sat-here = m.placed.sat t at
 
       abbrev x : Subgroup
-      x = sat.subgroup
+      x = sat-here.subgroup
 
-      kept : IsKept here.world x
-      kept = system.kept t.sub x sat.there
+      pub kept-here : IsKept here.world x
+      kept-here = system.kept t.sub x sat-here.there
 
-      rests : IsRestedAt x
-      rests = rested-at x (none-so here (λ g y. owes y) t.sub x (rested here drained).owing sat.there)
+      pub rests-here : IsRestedAt x
+      rests-here = rested-at x (none-so here (λ g y. owes y) t.sub x (rested here drained).owing sat-here.there)
 
       taken : t.rest ≡ []
       taken = empty-is t.rest (sym (ap is_seat_quiet at) ∙ (quiet_here p s m is drained).1)
 
-      all_told : stream_of s (deeds_at p) t.rest ≡ told group_rules group_speech p s.sessions opening h
-      all_told = ap (λ (packets : List Packet). told group_rules group_speech p s.sessions opening h ++ told_by s packets) taken ∙ append-nil (told group_rules group_speech p s.sessions opening h)
+      pub all-handed : stream_of s (deeds_at p) t.rest ≡ told group_rules group_speech p s.sessions opening h
+      all-handed = ap (λ (packets : List Packet). told group_rules group_speech p s.sessions opening h ++ told_by s packets) taken ∙ append-nil (told group_rules group_speech p s.sessions opening h)
 
       stream : IsStream p s.sessions s.peer worlds (table_in (ends_of s.peer) x.out.formatted) (is_forced x.out) x.ending x.phase (told group_rules group_speech p s.sessions opening h)
-      stream = subst (λ (ms : List Message). IsStream p s.sessions s.peer worlds (table_in (ends_of s.peer) x.out.formatted) (is_forced x.out) x.ending x.phase ms) all_told sat.stream
+      stream = subst (λ (ms : List Message). IsStream p s.sessions s.peer worlds (table_in (ends_of s.peer) x.out.formatted) (is_forced x.out) x.ending x.phase ms) all-handed sat-here.stream
 
       whole : Alike (table_of (told group_rules group_speech p s.sessions opening h)) (private_table p here.world)
       whole q =
           stream.has q
-          ∙ ap (option_map (told_to (ends_of s.peer))) (level-rows p [] here.world s is up (session-of p here.world s is up) x kept sat.key_is rests.pending q)
-          ∙ desired-private p [] here.world s is up (session-of p here.world s is up) x kept sat.key_is q
+          ∙ ap (option_map (told_to (ends_of s.peer))) (level-rows p [] here.world s is up-here (session-of p here.world s is up-here) x kept-here sat-here.key_is rests-here.pending q)
+          ∙ desired-private p [] here.world s is up-here (session-of p here.world s is up-here) x kept-here sat-here.key_is q
 
       one_end : ends_of_rib (told group_rules group_speech p s.sessions opening h) ≡ 1
       one_end =
           let one : ends_of_rib (told group_rules group_speech p s.sessions opening h) + 0 ≡ 1 =
-          subst (λ (b : Bool). ends_of_rib (told group_rules group_speech p s.sessions opening h) + (if b then 1 else 0) ≡ 1) rests.ending stream.one in
+          subst (λ (b : Bool). ends_of_rib (told group_rules group_speech p s.sessions opening h) + (if b then 1 else 0) ≡ 1) rests-here.ending stream.one in
           omega arith
 
       told_here : AllTold
-      told_here = record { whole = whole; end_of_rib = one_end; ended = stream.rests rests.phase }
+      told_here = record { whole = whole; end_of_rib = one_end; ended = stream.rests rests-here.phase }
 
     pub all-told : AllTold
     all-told = by m.member.seat refl

@@ -73,15 +73,15 @@ module _ (front : List World) (state : System) (deeds_at : ℕ → List (Deed Me
   kept_x : IsKept state.world x
   kept_x = system.kept g x there
 
-  next_at : (h : ℕ) (b : Bool) → (h == g) ≡ b → slice_get next.subgroups h ≡ (if b then Some (Some (formatted x)) else slice_get state.subgroups h)
-  next_at h b e = at-same (option_map formatted) g h state.subgroups (Some x) there b e
+  pub next-at : (h : ℕ) (b : Bool) → (h == g) ≡ b → slice_get next.subgroups h ≡ (if b then Some (Some (formatted x)) else slice_get state.subgroups h)
+  next-at h b e = at-same (option_map formatted) g h state.subgroups (Some x) there b e
 
   next_kept : (h : ℕ) (y : Subgroup) → slice_get next.subgroups h ≡ Some (Some y) → IsKept state.world y
   next_kept h y is = by (h == g) refl
     where
       by : (b : Bool) → (h == g) ≡ b → IsKept state.world y
-      by true e = let both_are : Some (Some (formatted x)) ≡ Some (Some y) = sym (next_at h true e) ∙ is in let same : formatted x ≡ y = cc in subst (λ (z : Subgroup). IsKept state.world z) same (kept-formatted state.world x kept_x)
-      by false e = system.kept h y (sym (next_at h false e) ∙ is)
+      by true e = let both_are : Some (Some (formatted x)) ≡ Some (Some y) = sym (next-at h true e) ∙ is in let same : formatted x ≡ y = cc in subst (λ (z : Subgroup). IsKept state.world z) same (kept-formatted state.world x kept_x)
+      by false e = system.kept h y (sym (next-at h false e) ∙ is)
 
   -- ---- a member of the subgroup
 
@@ -97,11 +97,12 @@ module _ (front : List World) (state : System) (deeds_at : ℕ → List (Deed Me
     sat-elsewhere e = record {
       live = sat.live;
       subgroup = sat.subgroup;
-      there = next_at t.sub false e ∙ sat.there;
+      there = next-at t.sub false e ∙ sat.there;
       key_is = sat.key_is;
       stream = sat.stream;
       tellable = sat.tellable;
       fitting = sat.fitting;
+      untold = sat.untold;
     }
 
     module _ (here : (t.sub == g) ≡ true) where
@@ -139,6 +140,9 @@ module _ (front : List World) (state : System) (deeds_at : ℕ → List (Deed Me
       beside : (q : Key) (o : OutAttrs) → row_at x.out.desired q ≡ Some o → 21 ≤ room_beside x.key.family (limit_of x.key) o.attrs
       beside q o e = fine.beside x.key q o (ap (λ (rows : Rows). row_at rows q) (sym kept_x.desired) ∙ e)
 
+      pub due-here : IsDueOf x.out (routes_due x.key x.out)
+      due-here = due-is x.key x.out light (fine.wide x.key) beside
+
       -- the packet fits
 
       abbrev Fits : Says × Subgroup → Type 0
@@ -166,7 +170,7 @@ module _ (front : List World) (state : System) (deeds_at : ℕ → List (Deed Me
         where
           by : (b : Bool) → Fits (if b then (RefreshBegins, record x { out = all_forced x.out; phase = Open }) else with_routes x (routes_due x.key x.out))
           by true = (marks-fit (capabilities_of s.peer)).0
-          by false = routes_fit (routes_due x.key x.out) (due-is x.key x.out light (fine.wide x.key) beside) (due-room x.key x.out light (fine.wide x.key) beside)
+          by false = routes_fit (routes_due x.key x.out) due-here (due-room x.key x.out light (fine.wide x.key) beside)
 
       fitting_next : AreFitting s (t.rest ++ packet ∷ [])
       fitting_next = each-append (λ (k : Packet). fits (capabilities_of s.peer) (message_to (ends_of s.peer) k.says) ≡ true) t.rest (packet ∷ []) sat.fitting (fits_next, tt)
@@ -192,11 +196,12 @@ module _ (front : List World) (state : System) (deeds_at : ℕ → List (Deed Me
       sat-here = record {
         live = sat.live;
         subgroup = formatted x;
-        there = next_at t.sub true here;
+        there = next-at t.sub true here;
         key_is = key-formatted state.world x kept_x ∙ key_x;
         stream = subst (λ (ms : List Message). IsStream p s.sessions s.peer worlds (table_in (ends_of s.peer) (formatted x).out.formatted) (is_forced (formatted x).out) (formatted x).ending (formatted x).phase ms) (sym longer) stream_next;
         tellable = tellable_next;
         fitting = fitting_next;
+        untold = λ e. absurd cc;
       }
 
     -- wherever it sits
@@ -204,7 +209,7 @@ module _ (front : List World) (state : System) (deeds_at : ℕ → List (Deed Me
     sat-next u is' = subst (λ (v : Seat). IsSat p worlds (deeds_at p) s (reseated (given g packet) m) next.subgroups (key_in state.world s) v) is' (by (t.sub == g) refl)
       where
         elsewhere : (t.sub == g) ≡ false → IsSat p worlds (deeds_at p) s (reseated (given g packet) m) next.subgroups (key_in state.world s) t
-        elsewhere e = let same = sat-elsewhere e in record { live = same.live; subgroup = same.subgroup; there = same.there; key_is = same.key_is; stream = same.stream; tellable = same.tellable; fitting = same.fitting }
+        elsewhere e = let same = sat-elsewhere e in record { live = same.live; subgroup = same.subgroup; there = same.there; key_is = same.key_is; stream = same.stream; tellable = same.tellable; fitting = same.fitting; untold = same.untold }
 
         by : (b : Bool) → (t.sub == g) ≡ b → IsSat p worlds (deeds_at p) s (reseated (given g packet) m) next.subgroups (key_in state.world s) (if b then record t { rest = t.rest ++ packet ∷ [] } else t)
         by true e = sat-here e

@@ -38,12 +38,13 @@ use Rattle.ug_machine.proofs.Owing.{table_in, has-among, private-rows}
 use Rattle.ug_machine.proofs.Formats.{same-row, IsDueOf, due-is}
 
 -- What is so of each subgroup: its pending list is exact, it desires what its key wants, nothing was formatted where it is
--- fresh, and it is in a refresh only where its key has enhanced refresh.
+-- fresh, so that End-of-RIB is due, and it is in a refresh only where its key has enhanced refresh.
 pub record IsKept (w : World) (x : Subgroup) : Type 0 where
   pub exact : IsOut x.out
   pub desired : x.out.desired ≡ wanted_rows x.key w
   pub nothing : x.fresh ≡ true → x.out.formatted ≡ []
   pub closed : x.fresh ≡ true → x.phase ≡ Open → ⊥
+  pub due : x.fresh ≡ true → x.ending ≡ true
   pub marked : (x.phase ≡ Quiet) ⊎ (x.key.enhanced_refresh ≡ true)
 
 -- ---- phases
@@ -58,13 +59,18 @@ open_is Quiet e f = absurd cc
 open_is Owed e f = absurd cc
 open_is Open e f = refl
 
-some_mapped : {A B : Type 0} (f : A → B) (o : Option A) → is_some (option_map f o) ≡ is_some o
-some_mapped f None = refl
-some_mapped f (Some x) = refl
+pub some-mapped : {A B : Type 0} (f : A → B) (o : Option A) → is_some (option_map f o) ≡ is_some o
+some-mapped f None = refl
+some-mapped f (Some x) = refl
 
-right_none : (b : Bool) → (b || false) ≡ b
-right_none true = refl
-right_none false = refl
+pub and-unless : (a b : Bool) → (a && not b) ≡ false → b ≡ false → a ≡ false
+and-unless true true e f = absurd cc
+and-unless true false e f = absurd cc
+and-unless false b e f = refl
+
+pub right-none : (b : Bool) → (b || false) ≡ b
+right-none true = refl
+right-none false = refl
 
 module _ (p : ℕ) (front : List World) (w : World) (s : PeerState) (is : slice_get w.peers p ≡ Some s) (up : s.up ≡ true) (session : in_session p s.sessions w ≡ true) (x : Subgroup) (kept : IsKept w x) (key : x.key ≡ key_in w s) where
   abbrev worlds : List World
@@ -100,7 +106,7 @@ module _ (p : ℕ) (front : List World) (w : World) (s : PeerState) (is : slice_
       let waits_not = sym (kept.exact.all q) ∙ ap (λ (keys : List Key). has key_order keys q) none in
       let gone = not_both (option_eq same_out (row_at x.out.formatted q) (row_at x.out.desired q)) (is_forced x.out q) (is_some (row_at x.out.desired q)) waits_not forced in
       let same = ap is_some (level-rows none q) in
-      let mapped = some_mapped (told_to ends) (row_at x.out.formatted q) in absurd cc
+      let mapped = some-mapped (told_to ends) (row_at x.out.formatted q) in absurd cc
 
   enhanced : (x.phase ≡ Quiet → ⊥) → s.peer.enhanced_refresh ≡ true
   enhanced other =
@@ -121,7 +127,7 @@ module _ (p : ℕ) (front : List World) (w : World) (s : PeerState) (is : slice_
         (stream-begins p s.sessions s.peer worlds (table_in ends x.out.formatted) (is_forced x.out) (is_forced (all_forced x.out)) x.phase ms
         (subst (λ (b : Bool). IsStream p s.sessions s.peer worlds (table_in ends x.out.formatted) (is_forced x.out) b x.phase ms) not_due stream)
         (enhanced (λ quiet. let phase = owed_is x.phase owed in absurd cc))
-        (λ q there. forced-all x.out q ∙ ap (λ (b : Bool). b || is_some (row_at x.out.desired q)) (sym (some_mapped (told_to ends) (row_at x.out.formatted q)) ∙ there)))
+        (λ q there. forced-all x.out q ∙ ap (λ (b : Bool). b || is_some (row_at x.out.desired q)) (sym (some-mapped (told_to ends) (row_at x.out.formatted q)) ∙ there)))
 
     -- the tables after some keys are told
     told_table : (keys : List Key) (q : Key) → has key_order keys q ≡ true → table_in ends (with_told keys x.out).formatted q ≡ table_in ends x.out.desired q
@@ -160,11 +166,11 @@ module _ (p : ℕ) (front : List World) (w : World) (s : PeerState) (is : slice_
         stream-update p s.sessions s.peer worlds (table_in ends x.out.formatted) (table_in ends (with_told keys x.out).formatted) (is_forced x.out) (is_forced (with_told keys x.out)) x.ending x.phase ms
         (record { withdrawn = []; attrs = Some (told_to ends o); announced = keys }) stream
         (λ q named.
-        let listed : among keys q ≡ true = sym (right_none (among keys q)) ∙ named in
+        let listed : among keys q ≡ true = sym (right-none (among keys q)) ∙ named in
         let there : has key_order keys q ≡ true = has-among keys q ∙ listed in
         let next : table_in ends (with_told keys x.out).formatted q ≡ Some (told_to ends o) = told_table keys q there ∙ ap (option_map (told_to ends)) (due_now.1 q there) in
         (ap (λ (b : Bool). if b then Some (told_to ends o) else (if false then None else table_in ends x.out.formatted q)) listed ∙ sym next, newest q _ (told_table keys q there ∙ desired-private q)))
-        (λ q other. let out_of : has key_order keys q ≡ false = has-among keys q ∙ (sym (right_none (among keys q)) ∙ other) in (other_table keys q out_of, other_forced keys q out_of))
+        (λ q other. let out_of : has key_order keys q ≡ false = has-among keys q ∙ (sym (right-none (among keys q)) ∙ other) in (other_table keys q out_of, other_forced keys q out_of))
         (says_new (told_to ends o) keys due_now.0)
 
     among_last : (v : World) (vs : List World) → IsAmong v (vs ++ v ∷ [])
@@ -204,11 +210,6 @@ module _ (p : ℕ) (front : List World) (w : World) (s : PeerState) (is : slice_
         not_so' true e = absurd cc
         not_so' false e = refl
 
-    and_unless : (a b : Bool) → (a && not b) ≡ false → b ≡ false → a ≡ false
-    and_unless true true e f = absurd cc
-    and_unless true false e f = absurd cc
-    and_unless false b e f = refl
-
     goes_by : (d : Due Key OutAttrs) → IsDueOf x.out d → owes x ≡ true → (is_owed x.phase && not x.ending) ≡ false → Goes (with_routes x d)
     goes_by (Withdraws keys) due_now owing no_mark = goes_gone keys due_now
     goes_by (Announces o keys) due_now owing no_mark = goes_new o keys due_now
@@ -216,7 +217,7 @@ module _ (p : ℕ) (front : List World) (w : World) (s : PeerState) (is : slice_
       where
         by : (b : Bool) → x.ending ≡ b → Goes (if b then (EndOfRib, record x { ending = false }) else (RefreshEnds, record x { phase = Quiet }))
         by true e = goes_end none e
-        by false e = goes_ends none e (owing_open none owing (and_unless (is_owed x.phase) x.ending no_mark e) e)
+        by false e = goes_ends none e (owing_open none owing (and-unless (is_owed x.phase) x.ending no_mark e) e)
 
     pub format-goes : (light : (q : Key) → has key_order x.out.pending q ≡ true → weight_of q ≤ 21) → 21 ≤ room x.key.family (limit_of x.key)
         → ((q : Key) (o : OutAttrs) → row_at x.out.desired q ≡ Some o → 21 ≤ room_beside x.key.family (limit_of x.key) o.attrs) → owes x ≡ true → Goes (next_packet x)

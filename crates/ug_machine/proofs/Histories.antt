@@ -119,46 +119,57 @@ module _ (front : List World) (deeds_at : ℕ → List (Deed Message)) (state : 
   step-job Sync said legal fine = by_step (DoJob Sync) (JobSaid said) state refl refl refl (no_deeds state system)
   step-job Close said legal fine = by_step (DoJob Close) (JobSaid said) (record state { closed = true }) refl refl refl (no_deeds (record state { closed = true }) closing)
 
-  step : (step : BoardStep Job) (said : BoardSaid Said) → IsLegalStep group_rules step said state → IsFine state.world → Stepped front deeds_at state step said
-  step (DoJob job) (JobSaid said) legal fine = step-job job said legal.0 fine
-  step (LaneTakes (Next q)) (LaneGot said) legal fine =
+  pub step-any : (step : BoardStep Job) (said : BoardSaid Said) → IsLegalStep group_rules step said state → IsFine state.world → Stepped front deeds_at state step said
+  step-any (DoJob job) (JobSaid said) legal fine = step-job job said legal.0 fine
+  step-any (LaneTakes (Next q)) (LaneGot said) legal fine =
       by_step (LaneTakes (Next q)) (LaneGot said) (after_next q state) refl refl refl
       (system_as worlds (λ p. deeds_at p ++ (when (q == p) (lane_deeds group_speech.message (Next q) said state) ++ [])) (deeds_then deeds_at (LaneTakes (Next q)) (LaneGot said) state) (after_next q state)
       (λ p. ap (λ (l : List (Deed Message)). deeds_at p ++ l) (append-nil (when (q == p) (lane_deeds group_speech.message (Next q) said state))))
       (system-next worlds deeds_at state system q said legal.1 legal.0))
-  step (LaneTakes (Lost q n)) (LaneGot said) legal fine =
+  step-any (LaneTakes (Lost q n)) (LaneGot said) legal fine =
       by_step (LaneTakes (Lost q n)) (LaneGot said) (after_loss q n state) refl refl (stands-lane (Lost q n) state).0
       (system_as worlds (λ p. deeds_at p ++ (when (q == p) (Loses n ∷ []) ++ [])) (deeds_then deeds_at (LaneTakes (Lost q n)) (LaneGot said) state) (after_loss q n state)
       (λ p. ap (λ (l : List (Deed Message)). deeds_at p ++ l) (append-nil (when (q == p) (Loses n ∷ []))))
       (system-lost worlds deeds_at state system q n legal.0))
-  step (DoJob job) (LaneGot said) legal fine = absurd legal
-  step (LaneTakes lane) (JobSaid said) legal fine = absurd legal
+  step-any (DoJob job) (LaneGot said) legal fine = absurd legal
+  step-any (LaneTakes lane) (JobSaid said) legal fine = absurd legal
 
 -- ---- a history
 
-first_among : (w : World) (es : List Happening) (front : List World) → IsAmong w (front ++ worlds_through w es)
-first_among w [] [] = inl refl
-first_among w (e ∷ es) [] = inl refl
-first_among w es (v ∷ front) = inr (first_among w es front)
+pub first-among : (w : World) (es : List Happening) (front : List World) → IsAmong w (front ++ worlds_through w es)
+first-among w [] [] = inl refl
+first-among w (e ∷ es) [] = inl refl
+first-among w es (v ∷ front) = inr (first-among w es front)
 
-abbrev Through : (h : List GroupEntry) → List World → (ℕ → List (Deed Message)) → System → Type 0
-Through h front deeds_at state =
-    IsSystem (front ++ worlds_through state.world (events_in group_rules group_speech h)) (λ p. deeds_at p ++ deeds_from group_rules group_speech.message (to_peer p) state h) (replay_from group_rules state h)
+-- Where a history leads, with what is so there of the system, and what follows is legal there.
+pub record Reached (h more : List GroupEntry) (front : List World) (deeds_at : ℕ → List (Deed Message)) (state : System) : Type 0 where
+  pub front_then : List World
+  pub worlds :
+      front ++ worlds_through state.world (events_in group_rules group_speech (h ++ more))
+      ≡ front_then ++ worlds_through (replay_from group_rules state h).world (events_in group_rules group_speech more)
+  pub system : IsSystem (front_then ++ (replay_from group_rules state h).world ∷ []) (λ p. deeds_at p ++ deeds_from group_rules group_speech.message (to_peer p) state h) (replay_from group_rules state h)
+  pub legal : IsLegalFrom group_rules (replay_from group_rules state h) more
 
-along : (h : List GroupEntry) (front : List World) (deeds_at : ℕ → List (Deed Message)) (state : System) → IsSystem (front ++ state.world ∷ []) deeds_at state → IsLegalFrom group_rules state h
-    → AreFine (front ++ worlds_through state.world (events_in group_rules group_speech h)) → Through h front deeds_at state
-along [] front deeds_at state system legal fine = system_as (front ++ state.world ∷ []) deeds_at (λ p. deeds_at p ++ []) state (λ p. sym (append-nil (deeds_at p))) system
-along (entry ∷ h) front deeds_at state system legal fine =
-    let one = step front deeds_at state system entry.step entry.said legal.0 (fine state.world (first_among state.world (events_in group_rules group_speech (entry ∷ h)) front)) in
-    let same = one.worlds (events_in group_rules group_speech h) in
+pub reach : (h more : List GroupEntry) (front : List World) (deeds_at : ℕ → List (Deed Message)) (state : System) → IsSystem (front ++ state.world ∷ []) deeds_at state → IsLegalFrom group_rules state (h ++ more)
+    → AreFine (front ++ worlds_through state.world (events_in group_rules group_speech (h ++ more))) → Reached h more front deeds_at state
+reach [] more front deeds_at state system legal fine =
+    record { front_then = front; worlds = refl; system = system_as (front ++ state.world ∷ []) deeds_at (λ p. deeds_at p ++ []) state (λ p. sym (append-nil (deeds_at p))) system; legal = legal }
+reach (entry ∷ h) more front deeds_at state system legal fine =
+    let one = step-any front deeds_at state system entry.step entry.said legal.0 (fine state.world (first-among state.world (events_in group_rules group_speech (entry ∷ h ++ more)) front)) in
+    let same = one.worlds (events_in group_rules group_speech (h ++ more)) in
     let next = after_step group_rules entry.step state in
-    let rest : Through h one.front_then (deeds_then deeds_at entry.step entry.said state) next =
-    along h one.front_then (deeds_then deeds_at entry.step entry.said state) next one.system legal.1 (subst (λ (ws : List World). AreFine ws) same fine)
+    let rest : Reached h more one.front_then (deeds_then deeds_at entry.step entry.said state) next =
+    reach h more one.front_then (deeds_then deeds_at entry.step entry.said state) next one.system legal.1 (subst (λ (ws : List World). AreFine ws) same fine)
     in
-    subst (λ (ws : List World). IsSystem ws (λ p. deeds_at p ++ deeds_from group_rules group_speech.message (to_peer p) state (entry ∷ h)) (replay_from group_rules state (entry ∷ h))) (sym same)
-    (system_as (one.front_then ++ worlds_through next.world (events_in group_rules group_speech h)) (λ p. deeds_then deeds_at entry.step entry.said state p ++ deeds_from group_rules group_speech.message (to_peer p) next h)
-    (λ p. deeds_at p ++ deeds_from group_rules group_speech.message (to_peer p) state (entry ∷ h)) (replay_from group_rules next h)
-    (λ p. append_assoc (deeds_at p) (when (is_to p entry.step) (step_deeds group_speech.message entry.step entry.said state)) (deeds_from group_rules group_speech.message (to_peer p) next h)) rest)
+    record {
+      front_then = rest.front_then;
+      worlds = same ∙ rest.worlds;
+      system =
+          system_as (rest.front_then ++ (replay_from group_rules next h).world ∷ []) (λ p. deeds_then deeds_at entry.step entry.said state p ++ deeds_from group_rules group_speech.message (to_peer p) next h)
+          (λ p. deeds_at p ++ deeds_from group_rules group_speech.message (to_peer p) state (entry ∷ h)) (replay_from group_rules next h)
+          (λ p. append_assoc (deeds_at p) (when (is_to p entry.step) (step_deeds group_speech.message entry.step entry.said state)) (deeds_from group_rules group_speech.message (to_peer p) next h)) rest.system;
+      legal = rest.legal;
+    }
 
 fresh_lost : (n : ℕ) → false ≡ is_lost_at (counts_of fresh_member) n
 fresh_lost zero = refl
@@ -184,8 +195,8 @@ placed_first w p (Some s) down = record {
   empty = λ at. let off = down s refl in rw off refl;
 }
 
-system_first : (w : World) → AreDown w → IsSystem (w ∷ []) (λ p. []) (start w)
-system_first w down = record {
+pub system-first : (w : World) → AreDown w → IsSystem (w ∷ []) (λ p. []) (start w)
+system-first w down = record {
   kept = λ g x is. absurd cc;
   placed = λ p.
       subst (λ (u : Option Member). IsPlacedAt p (w ∷ []) [] w [] (slice_get w.peers p) u) (sym (slice_get-map (λ (s : PeerState). fresh_member) w.peers p))
@@ -194,4 +205,11 @@ system_first w down = record {
 
 pub are-systems : (opening : World) (h : List GroupEntry) → AreDown opening → IsLegal group_rules opening h → AreFine (worlds_of group_rules group_speech opening h)
     → IsSystem (worlds_of group_rules group_speech opening h) (λ p. deeds_to group_rules group_speech p opening h) (replay group_rules opening h)
-are-systems opening h down legal fine = along h [] (λ p. []) (start opening) (system_first opening down) legal fine
+are-systems opening h down legal fine =
+    let all : h ++ [] ≡ h = append-nil h in
+    let end =
+    reach h [] [] (λ p. []) (start opening) (system-first opening down) (subst (λ (l : List GroupEntry). IsLegal group_rules opening l) (sym all) legal)
+    (subst (λ (l : List GroupEntry). AreFine (worlds_of group_rules group_speech opening l)) (sym all) fine)
+    in
+    subst (λ (ws : List World). IsSystem ws (λ p. deeds_to group_rules group_speech p opening h) (replay group_rules opening h))
+    (sym (ap (λ (l : List GroupEntry). worlds_of group_rules group_speech opening l) (sym all) ∙ end.worlds)) end.system

@@ -9,7 +9,7 @@ use Rattle.ug_types.specs.Messages.{Message}
 use Rattle.ug_board.specs.declared.steps.LaneStep.TheVariants.{Next}
 use Rattle.ug_board.specs.declared.steps.LaneSaid.{LaneSaid}
 use Rattle.ug_board.specs.Rules.{says_more}
-use Rattle.ug_deeds.specs.Deeds.{Deed, Begins as BeginsDeed, Hands as HandsDeed, Loses, lane_deeds, when}
+use Rattle.ug_deeds.specs.Deeds.{Deed, Begins as BeginsDeed, Hands as HandsDeed, lane_deeds, when}
 use Rattle.ug_outbound.specs.Keys.{ends_of}
 use Rattle.ug_world.specs.declared.peer_state.PeerState.{PeerState}
 use Rattle.ug_world.specs.World.{World, key_in}
@@ -24,7 +24,7 @@ use Rattle.ug_machine.proofs.Taking.{placed-begins, placed-hands}
 
 -- ---- what is next
 
-abbrev IsUpshot : ℕ → Member → Upshot → Type 0
+abbrev pub IsUpshot : ℕ → Member → Upshot → Type 0
 IsUpshot n m (Begins k) = (k ≡ m.begun + 1) × (m.begun < n)
 IsUpshot n m (Hands k packet) = (k ≡ m.begun) × (0 < m.begun) × (n ≤ m.begun) × (first_left m.seat ≡ Some packet)
 IsUpshot n m Rests = Unit {0}
@@ -40,9 +40,9 @@ pub upshot-is : (n : ℕ) (m : Member) → IsUpshot n m (upshot_of n (Some m))
 upshot-is n m = upshot_by n m (nat_lt m.begun n) (nat_lt 0 m.begun) (first_left m.seat) refl refl refl
 
 -- the seat whose first packet this is
-first_is : (o : Option Seat) (packet : Packet) → first_left o ≡ Some packet → (t : Seat) × (rest : List Packet) × (o ≡ Some t) × (t.rest ≡ packet ∷ rest)
-first_is None packet e = absurd cc
-first_is (Some t) packet e = by t.rest refl e
+pub first-is : (o : Option Seat) (packet : Packet) → first_left o ≡ Some packet → (t : Seat) × (rest : List Packet) × (o ≡ Some t) × (t.rest ≡ packet ∷ rest)
+first-is None packet e = absurd cc
+first-is (Some t) packet e = by t.rest refl e
   where
     by : (rest : List Packet) → t.rest ≡ rest → slice_get rest 0 ≡ Some packet → (u : Seat) × (more : List Packet) × (Some t ≡ Some u) × (u.rest ≡ packet ∷ more)
     by [] is e = absurd cc
@@ -53,9 +53,6 @@ module _ (worlds : List World) (deeds_at : ℕ → List (Deed Message)) (state :
   abbrev pub deeds_next : ℕ → LaneSaid → ℕ → List (Deed Message)
   deeds_next q said p = deeds_at p ++ (when (q == p) (lane_deeds group_speech.message (Next q) said state) ++ [])
 
-  abbrev pub deeds_lost : ℕ → ℕ → ℕ → List (Deed Message)
-  deeds_lost q n p = deeds_at p ++ (when (q == p) (Loses n ∷ []) ++ [])
-
   member_next : (q p : ℕ) (s : PeerState) (m : Member) → q ≡ p → slice_get state.world.peers p ≡ Some s → slice_get state.members p ≡ Some m → upshot q state ≡ upshot_of s.sessions (Some m)
   member_next q p s m same is at = ap (λ (k : ℕ). upshot k state) same ∙ ap (λ (o : Option PeerState). upshot_of (sessions_had o) (slice_get state.members p)) is ∙ ap (upshot_of s.sessions) at
 
@@ -65,8 +62,8 @@ module _ (worlds : List World) (deeds_at : ℕ → List (Deed Message)) (state :
     abbrev Then : Upshot → Type 0
     Then u = IsPlaced p worlds (deeds_at p ++ (lane_deeds group_speech.message (Next p) (said_of state.closed (slice_get state.world.peers p) u) state ++ [])) s (after_upshot u m) state.subgroups (key_in state.world s)
 
-    message_is : (packet : Packet) → first_left m.seat ≡ Some packet → group_speech.message p state ≡ message_to (ends_of s.peer) packet.says
-    message_is packet first =
+    pub message-is : (packet : Packet) → first_left m.seat ≡ Some packet → group_speech.message p state ≡ message_to (ends_of s.peer) packet.says
+    message-is packet first =
         ap (λ (o : Option PeerState). message_for o (first_left (seat_at p state))) is
         ∙ ap (λ (o : Option Member). message_for (Some s) (first_left (seat_of o))) at
         ∙ ap (message_for (Some s)) first
@@ -76,11 +73,11 @@ module _ (worlds : List World) (deeds_at : ℕ → List (Deed Message)) (state :
         let number = up.0 in
         subst (λ (j : ℕ). IsPlaced p worlds (deeds_at p ++ BeginsDeed j ∷ []) s (with_session m) state.subgroups (key_in state.world s)) (sym number) (placed-begins p worlds (deeds_at p) s m state.subgroups (key_in state.world s) placed up.1)
     next_by (Hands k packet) up more =
-        let found = first_is m.seat packet up.3 in
+        let found = first-is m.seat packet up.3 in
         let few = placed.counted.begun in
         let least = up.2 in
         let all : m.begun ≡ s.sessions = omega arith in
-        subst (λ (x : Message). IsPlaced p worlds (deeds_at p ++ HandsDeed k x ∷ []) s (with_handed m) state.subgroups (key_in state.world s)) (sym (message_is packet up.3))
+        subst (λ (x : Message). IsPlaced p worlds (deeds_at p ++ HandsDeed k x ∷ []) s (with_handed m) state.subgroups (key_in state.world s)) (sym (message-is packet up.3))
         (subst (λ (j : ℕ). IsPlaced p worlds (deeds_at p ++ HandsDeed j (message_to (ends_of s.peer) packet.says) ∷ []) s (with_handed m) state.subgroups (key_in state.world s)) (sym up.0)
         (placed-hands p worlds (deeds_at p) s m state.subgroups (key_in state.world s) placed found.0 found.2 packet found.1 found.3 all up.1))
     next_by Rests up more = let none = rest_says state.closed in absurd cc

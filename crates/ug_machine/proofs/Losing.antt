@@ -10,11 +10,11 @@ use Rattle.ug_world.specs.declared.peer_state.PeerState.{PeerState}
 use Rattle.ug_world.specs.World.{World, key_in}
 use Rattle.ug_plain_rules.specs.Seats.{change_at, has, sessions_at, sessions_had}
 use Rattle.ug_plain_rules.proofs.Lawful.{changed-here, changed-there}
-use Rattle.ug_machine.specs.Machine.{Seat, Member, System, seat_of, seat_at, with_loss, with_seat, seated, has_members, without_subgroup, after_loss, leave, has_unlost}
+use Rattle.ug_machine.specs.Machine.{Member, System, seat_of, seat_at, with_loss, with_seat, after_loss, leave, has_unlost}
 use Rattle.ug_machine.proofs.Going.{IsKept}
 use Rattle.ug_machine.proofs.Seated.{IsPlacedAt, IsSystem}
 use Rattle.ug_machine.proofs.Taking.{placed-loses, placed-gone}
-use Rattle.ug_machine.proofs.Others.{leave-member, leave-there, leave-kept, leave-here, placed-elsewhere}
+use Rattle.ug_machine.proofs.Others.{leave-world, leave-members, leave-there, leave-kept, leave-here, placed-elsewhere}
 
 module _ (worlds : List World) (deeds_at : ℕ → List (Deed Message)) (state : System) (system : IsSystem worlds deeds_at state) (q n : ℕ) (may : has_unlost n (slice_get state.members q) ≡ true) where
   abbrev deeds_then : ℕ → Bool → List (Deed Message)
@@ -29,14 +29,6 @@ module _ (worlds : List World) (deeds_at : ℕ → List (Deed Message)) (state :
   apart_from : (p : ℕ) → (q == p) ≡ false → p ≡ q → ⊥
   apart_from p e same = let so = eq-eqb q p (sym same) in absurd cc
 
-  world_left : (o : Option Seat) → (leave q o noted).world ≡ state.world
-  world_left None = refl
-  world_left (Some u) = by (has_members u.sub (seated q None noted).members)
-    where
-      by : (b : Bool) → (if b then seated q None noted else without_subgroup u.sub (seated q None noted)).world ≡ state.world
-      by true = refl
-      by false = refl
-
   -- ---- another peer
 
   there_noted : (p : ℕ) → (q == p) ≡ false → slice_get noted.members p ≡ slice_get state.members p
@@ -45,21 +37,10 @@ module _ (worlds : List World) (deeds_at : ℕ → List (Deed Message)) (state :
   other_left : (p : ℕ) → (q == p) ≡ false → (o : Option PeerState) (u : Option Member) → slice_get state.members p ≡ u → IsPlacedAt p worlds (deeds_at p) state.world state.subgroups o u
       → IsPlacedAt p worlds (deeds_at p) state.world left.subgroups o (slice_get left.members p)
   other_left p e (Some s) (Some m) at placed =
-      subst (λ (v : Option Member). IsPlacedAt p worlds (deeds_at p) state.world left.subgroups (Some s) v) (sym (leave-member q p (apart_from p e) noted m (there_noted p e ∙ at) (seat_at q noted)))
+      subst (λ (v : Option Member). IsPlacedAt p worlds (deeds_at p) state.world left.subgroups (Some s) v) (sym (leave-members q p (apart_from p e) (seat_at q noted) noted ∙ there_noted p e ∙ at))
       (placed-elsewhere p worlds (deeds_at p) s m state.subgroups left.subgroups (key_in state.world s) (λ t sits. leave-there q p (apart_from p e) noted m (there_noted p e ∙ at) (seat_at q noted) t sits) placed)
-  other_left p e None None at placed = none_left (seat_at q noted)
-    where
-      none_there : slice_get noted.members p ≡ None
-      none_there = there_noted p e ∙ at
-
-      none_left : (o : Option Seat) → IsPlacedAt p worlds (deeds_at p) state.world (leave q o noted).subgroups None (slice_get (leave q o noted).members p)
-      none_left None = subst (λ (v : Option Member). IsPlacedAt p worlds (deeds_at p) state.world noted.subgroups None v) (sym none_there) tt
-      none_left (Some u) = by (has_members u.sub (seated q None noted).members)
-        where
-          by : (b : Bool) → IsPlacedAt p worlds (deeds_at p) state.world (if b then seated q None noted else without_subgroup u.sub (seated q None noted)).subgroups None
-              (slice_get (if b then seated q None noted else without_subgroup u.sub (seated q None noted)).members p)
-          by true = subst (λ (v : Option Member). IsPlacedAt p worlds (deeds_at p) state.world noted.subgroups None v) (sym (changed-there (with_seat None) q p noted.members (apart_from p e) ∙ none_there)) tt
-          by false = subst (λ (v : Option Member). IsPlacedAt p worlds (deeds_at p) state.world noted.subgroups None v) (sym (changed-there (with_seat None) q p noted.members (apart_from p e) ∙ none_there)) tt
+  other_left p e None None at placed =
+      subst (λ (v : Option Member). IsPlacedAt p worlds (deeds_at p) state.world left.subgroups None v) (sym (leave-members q p (apart_from p e) (seat_at q noted) noted ∙ there_noted p e ∙ at)) tt
   other_left p e (Some s) None at placed = absurd placed
   other_left p e None (Some m) at placed = absurd placed
 
@@ -119,9 +100,9 @@ module _ (worlds : List World) (deeds_at : ℕ → List (Deed Message)) (state :
 
   left_system : (n == sessions_at q state.world) ≡ true → IsSystem worlds DeedsLost left
   left_system now = record {
-    kept = λ g x is. subst (λ (w : World). IsKept w x) (sym (world_left (seat_at q noted))) (system.kept g x (leave-kept q (seat_at q noted) noted g x is));
+    kept = λ g x is. subst (λ (w : World). IsKept w x) (sym (leave-world q (seat_at q noted) noted)) (system.kept g x (leave-kept q (seat_at q noted) noted g x is));
     placed = λ p.
-        subst (λ (w : World). IsPlacedAt p worlds (DeedsLost p) w left.subgroups (slice_get w.peers p) (slice_get left.members p)) (sym (world_left (seat_at q noted)))
+        subst (λ (w : World). IsPlacedAt p worlds (DeedsLost p) w left.subgroups (slice_get w.peers p) (slice_get left.members p)) (sym (leave-world q (seat_at q noted) noted))
         (present_at now p (q == p) refl (slice_get state.world.peers p) (slice_get state.members p) refl refl (system.placed p));
   }
 

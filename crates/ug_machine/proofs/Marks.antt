@@ -82,9 +82,9 @@ module _ (opening : World) (h : List GroupEntry) (worlds : List World) (system :
 
 -- ---- behind a job
 
-replay_push : (s : System) (h : List GroupEntry) (entry : GroupEntry) → replay_from group_rules s (h ++ entry ∷ []) ≡ after_step group_rules entry.step (replay_from group_rules s h)
-replay_push s [] entry = refl
-replay_push s (first ∷ h) entry = replay_push (after_step group_rules first.step s) h entry
+pub replay-push : (s : System) (h : List GroupEntry) (entry : GroupEntry) → replay_from group_rules s (h ++ entry ∷ []) ≡ after_step group_rules entry.step (replay_from group_rules s h)
+replay-push s [] entry = refl
+replay-push s (first ∷ h) entry = replay-push (after_step group_rules first.step s) h entry
 
 among_end : (w : World) (front : List World) → IsAmong w (front ++ w ∷ [])
 among_end w [] = inl refl
@@ -97,14 +97,14 @@ module _ (opening : World) (h : List GroupEntry) (course : IsCourse group_rules 
   abbrev later : List GroupEntry
   later = h ++ job_entry group_rules pass job state ∷ []
 
-  replayed : replay group_rules opening later ≡ group_rules.after job state
-  replayed = replay_push (group_rules.start opening) h (job_entry group_rules pass job state)
+  pub replayed : replay group_rules opening later ≡ group_rules.after job state
+  replayed = replay-push (group_rules.start opening) h (job_entry group_rules pass job state)
 
-  nothing_told : (p : ℕ) → deeds_to group_rules group_speech p opening later ≡ deeds_to group_rules group_speech p opening h ++ []
-  nothing_told p = deeds_from-append group_rules group_speech.message (to_peer p) (group_rules.start opening) h (job_entry group_rules pass job state ∷ [])
+  pub nothing-told : (p : ℕ) → deeds_to group_rules group_speech p opening later ≡ deeds_to group_rules group_speech p opening h ++ []
+  nothing-told p = deeds_from-append group_rules group_speech.message (to_peer p) (group_rules.start opening) h (job_entry group_rules pass job state ∷ [])
 
-  system_later : (worlds : List World) × IsSystem worlds (λ p. deeds_to group_rules group_speech p opening later) (replay group_rules opening later)
-  system_later =
+  pub system-later : (worlds : List World) × IsSystem worlds (λ p. deeds_to group_rules group_speech p opening later) (replay group_rules opening later)
+  system-later =
       let end = through-last opening (events_in group_rules group_speech h) in
       let same : worlds_of group_rules group_speech opening h ≡ end.0 ++ state.world ∷ [] = end.1 ∙ ap (λ (w : World). end.0 ++ w ∷ []) (sym (world-led opening h)) in
       let good : IsFine state.world = fine opening h course state.world (subst (λ (ws : List World). IsAmong state.world ws) (sym same) (among_end state.world end.0)) in
@@ -120,13 +120,13 @@ module _ (opening : World) (h : List GroupEntry) (course : IsCourse group_rules 
               placed = λ p.
                   subst
                   (λ (ds : List (Deed Message)). IsPlacedAt p worlds ds (group_rules.after job state).world (group_rules.after job state).subgroups (slice_get (group_rules.after job state).world.peers p)
-                  (slice_get (group_rules.after job state).members p)) (sym (nothing_told p)) (one.system.placed p);
+                  (slice_get (group_rules.after job state).members p)) (sym (nothing-told p)) (one.system.placed p);
             }),
       )
 
   marks_then : (test : PeerState → Bool)
       → marks_at test 0 (group_rules.after job state).world.peers (group_rules.after job state) ≡ marks_from group_rules group_speech test 0 (replay group_rules opening later).world.peers opening later
-  marks_then test = ap (λ (s : System). marks_at test 0 s.world.peers s) (sym replayed) ∙ marks_all opening later system_later.0 system_later.1 test
+  marks_then test = ap (λ (s : System). marks_at test 0 s.world.peers s) (sym replayed) ∙ marks_all opening later system-later.0 system-later.1 test
 
 pub marks-told : (opening : World) (h : List GroupEntry) (pass : ℕ) (job : Job) → IsCourse group_rules group_speech opening h → group_rules.legal job (replay group_rules opening h) ≡ true
     → TellsMarks group_rules group_speech (purpose job) (group_rules.reply job (replay group_rules opening h)) opening (h ++ job_entry group_rules pass job (replay group_rules opening h) ∷ [])

@@ -84,13 +84,13 @@ module _ (front : List World) (state : System) (deeds_at : ℕ → List (Deed Me
   apart : (g == h) ≡ false
   apart = not_so (g == h) parts.0
 
-  one : IsFound state g (λ x. is_level x && is_so state h (λ y. is_level y && same_group x.key y.key))
+  pub one : IsFound state g (λ x. is_level x && is_so state h (λ y. is_level y && same_group x.key y.key))
   one = found-so state g (λ x. is_level x && is_so state h (λ y. is_level y && same_group x.key y.key)) (both_so (is_so state g (λ x. is_level x && is_so state h (λ y. is_level y && same_group x.key y.key))) (queued h state.members == 0) parts.1).0
 
   one_tests : (is_level one.subgroup ≡ true) × (is_so state h (λ y. is_level y && same_group one.subgroup.key y.key) ≡ true)
   one_tests = both_so (is_level one.subgroup) (is_so state h (λ y. is_level y && same_group one.subgroup.key y.key)) one.passes
 
-  other : IsFound state h (λ y. is_level y && same_group one.subgroup.key y.key)
+  pub other : IsFound state h (λ y. is_level y && same_group one.subgroup.key y.key)
   other = found-so state h (λ y. is_level y && same_group one.subgroup.key y.key) one_tests.1
 
   other_tests : (is_level other.subgroup ≡ true) × (same_group one.subgroup.key other.subgroup.key ≡ true)
@@ -105,25 +105,25 @@ module _ (front : List World) (state : System) (deeds_at : ℕ → List (Deed Me
   level_other : IsLevelled other.subgroup
   level_other = levelled other.subgroup other_tests.0
 
-  there_next : (k : ℕ) → (k == h) ≡ false → slice_get next.subgroups k ≡ slice_get state.subgroups k
-  there_next k e = changed-there (λ (o : Option Subgroup). None) h k state.subgroups (λ same. let so = eq-eqb k h same in absurd cc)
+  pub there-next : (k : ℕ) → (k == h) ≡ false → slice_get next.subgroups k ≡ slice_get state.subgroups k
+  there-next k e = changed-there (λ (o : Option Subgroup). None) h k state.subgroups (λ same. let so = eq-eqb k h same in absurd cc)
 
-  one_there : slice_get next.subgroups g ≡ Some (Some one.subgroup)
-  one_there = there_next g apart ∙ one.is
+  pub one-there : slice_get next.subgroups g ≡ Some (Some one.subgroup)
+  one-there = there-next g apart ∙ one.is
 
-  gone_there : (k l : ℕ) (xs : List (Option Subgroup)) (x : Subgroup) → slice_get (change_at (λ (o : Option Subgroup). None) k xs) l ≡ Some (Some x) → slice_get xs l ≡ Some (Some x)
-  gone_there k l [] x e = e
-  gone_there zero zero (y ∷ xs) x e = absurd cc
-  gone_there zero (suc l) (y ∷ xs) x e = e
-  gone_there (suc k) zero (y ∷ xs) x e = e
-  gone_there (suc k) (suc l) (y ∷ xs) x e = gone_there k l xs x e
+  gone-there : (k l : ℕ) (xs : List (Option Subgroup)) (x : Subgroup) → slice_get (change_at (λ (o : Option Subgroup). None) k xs) l ≡ Some (Some x) → slice_get xs l ≡ Some (Some x)
+  gone-there k l [] x e = e
+  gone-there zero zero (y ∷ xs) x e = absurd cc
+  gone-there zero (suc l) (y ∷ xs) x e = e
+  gone-there (suc k) zero (y ∷ xs) x e = e
+  gone-there (suc k) (suc l) (y ∷ xs) x e = gone-there k l xs x e
 
   module _ (p : ℕ) (s : PeerState) (m : Member) (t : Seat) (is : slice_get state.world.peers p ≡ Some s) (sat : IsSat p worlds (deeds_at p) s m state.subgroups (key_in state.world s) t) where
     up : s.up ≡ true
     up = up-of s (not (is_lost_at (counts_of m) s.sessions)) sat.live
 
     stays : (t.sub == h) ≡ false → IsSat p worlds (deeds_at p) s (reseated (moved h g) m) next.subgroups (key_in state.world s) t
-    stays e = record { live = sat.live; subgroup = sat.subgroup; there = there_next t.sub e ∙ sat.there; key_is = sat.key_is; stream = sat.stream; tellable = sat.tellable; fitting = sat.fitting }
+    stays e = record { live = sat.live; subgroup = sat.subgroup; there = there-next t.sub e ∙ sat.there; key_is = sat.key_is; stream = sat.stream; tellable = sat.tellable; fitting = sat.fitting; untold = sat.untold }
 
     module _ (here : (t.sub == h) ≡ true) where
       same_sub : sat.subgroup ≡ other.subgroup
@@ -144,8 +144,8 @@ module _ (front : List World) (state : System) (deeds_at : ℕ → List (Deed Me
       same_tables : (q : Key) → table_in (ends_of s.peer) other.subgroup.out.formatted q ≡ table_in (ends_of s.peer) one.subgroup.out.formatted q
       same_tables q = ap (option_map (told_to (ends_of s.peer))) (rows_other q ∙ ap (λ (rows : Rows). row_at rows q) same_desired ∙ sym (rows_one q))
 
-      change : IsAs (table_in (ends_of s.peer) other.subgroup.out.formatted) (table_in (ends_of s.peer) one.subgroup.out.formatted) (is_forced other.subgroup.out) (is_forced one.subgroup.out) other.subgroup.phase one.subgroup.phase
-      change = record {
+      pub merged-as : IsAs (table_in (ends_of s.peer) other.subgroup.out.formatted) (table_in (ends_of s.peer) one.subgroup.out.formatted) (is_forced other.subgroup.out) (is_forced one.subgroup.out) other.subgroup.phase one.subgroup.phase
+      merged-as = record {
         same = same_tables;
         forces = λ q forced there. let none : is_forced other.subgroup.out q ≡ false = ap (λ (keys : List Key). has key_order keys q) level_other.forced in absurd cc;
         rests = λ e. level_other.phase;
@@ -158,18 +158,19 @@ module _ (front : List World) (state : System) (deeds_at : ℕ → List (Deed Me
       stream_one : IsStream p s.sessions s.peer worlds (table_in (ends_of s.peer) one.subgroup.out.formatted) (is_forced one.subgroup.out) one.subgroup.ending one.subgroup.phase (stream_of s (deeds_at p) t.rest)
       stream_one =
           stream-as p s.sessions s.peer worlds (table_in (ends_of s.peer) other.subgroup.out.formatted) (table_in (ends_of s.peer) one.subgroup.out.formatted) (is_forced other.subgroup.out) (is_forced one.subgroup.out) one.subgroup.ending
-          other.subgroup.phase one.subgroup.phase (stream_of s (deeds_at p) t.rest) change
+          other.subgroup.phase one.subgroup.phase (stream_of s (deeds_at p) t.rest) merged-as
           (subst (λ (b : Bool). IsStream p s.sessions s.peer worlds (table_in (ends_of s.peer) other.subgroup.out.formatted) (is_forced other.subgroup.out) b other.subgroup.phase (stream_of s (deeds_at p) t.rest)) (level_other.ending ∙ sym level_one.ending) stream_other)
 
       moves : IsSat p worlds (deeds_at p) s (reseated (moved h g) m) next.subgroups (key_in state.world s) (record t { sub = g })
       moves = record {
         live = sat.live;
         subgroup = one.subgroup;
-        there = one_there;
+        there = one-there;
         key_is = same_key ∙ key_other;
         stream = stream_one;
         tellable = λ q a e. sat.tellable q a (ap (λ (y : Subgroup). table_in (ends_of s.peer) y.out.formatted q) same_sub ∙ same_tables q ∙ e);
         fitting = sat.fitting;
+        untold = λ e. let due = (system.kept g one.subgroup one.is).due e in let none = level_one.ending in absurd cc;
       }
 
     sat_next : (u : Seat) → moved h g t ≡ u → IsSat p worlds (deeds_at p) s (reseated (moved h g) m) next.subgroups (key_in state.world s) u
@@ -201,7 +202,7 @@ module _ (front : List World) (state : System) (deeds_at : ℕ → List (Deed Me
 
   pub system-merged : IsSystem worlds deeds_at next
   system-merged = record {
-    kept = λ k x is. system.kept k x (gone_there h k state.subgroups x is);
+    kept = λ k x is. system.kept k x (gone-there h k state.subgroups x is);
     placed = λ p.
         subst (λ (u : Option Member). IsPlacedAt p worlds (deeds_at p) state.world next.subgroups (slice_get state.world.peers p) u) (sym (slice_get-map (reseated (moved h g)) state.members p))
         (placed_by p (slice_get state.world.peers p) (slice_get state.members p) refl (system.placed p));

@@ -10,7 +10,7 @@ use Rattle.ug_world.specs.declared.peer_state.PeerState.{PeerState}
 use Rattle.ug_world.specs.World.{World}
 use Rattle.ug_plain_rules.specs.Seats.{change_at}
 use Rattle.ug_plain_rules.proofs.Lawful.{changed-here, changed-there}
-use Rattle.ug_machine.specs.Machine.{Subgroup, Seat, Member, System, sits, sits_in, has_members, with_seat, seated, unless_empty, without_subgroup, leave}
+use Rattle.ug_machine.specs.Machine.{Subgroup, Seat, Member, System, sits, sits_in, has_members, with_seat, seated, without_subgroup, leave}
 use Rattle.ug_machine.proofs.Seated.{IsPlaced}
 
 -- who sits in a subgroup is found there
@@ -25,22 +25,24 @@ has-member g (x ∷ members) (suc p) m t is at sub = by (sits g x) (has-member g
     by true e = refl
     by false e = e
 
--- a change at another place leaves this one
-pub kept-there : {T : Type 0} (change : T → T) (g h : ℕ) (xs : List T) → (h ≡ g → ⊥) → slice_get (change_at change g xs) h ≡ slice_get xs h
-kept-there change g h xs apart = changed-there change g h xs apart
+-- the world stays, and so do the other members
+pub leave-world : (q : ℕ) (o : Option Seat) (state : System) → (leave q o state).world ≡ state.world
+leave-world q None state = refl
+leave-world q (Some u) state = by (has_members u.sub (seated q None state).members)
+  where
+    by : (b : Bool) → (if b then seated q None state else without_subgroup u.sub (seated q None state)).world ≡ state.world
+    by true = refl
+    by false = refl
+
+pub leave-members : (q p : ℕ) → (p ≡ q → ⊥) → (o : Option Seat) (state : System) → slice_get (leave q o state).members p ≡ slice_get state.members p
+leave-members q p apart None state = refl
+leave-members q p apart (Some u) state = by (has_members u.sub (seated q None state).members)
+  where
+    by : (b : Bool) → slice_get (if b then seated q None state else without_subgroup u.sub (seated q None state)).members p ≡ slice_get state.members p
+    by true = changed-there (with_seat None) q p state.members apart
+    by false = changed-there (with_seat None) q p state.members apart
 
 module _ (q p : ℕ) (apart : p ≡ q → ⊥) (state : System) (m : Member) (is : slice_get state.members p ≡ Some m) where
-  unless_members : (g : ℕ) (s : System) → (unless_empty g s).members ≡ s.members
-  unless_members g s = by (has_members g s.members)
-    where
-      by : (b : Bool) → (if b then s else without_subgroup g s).members ≡ s.members
-      by true = refl
-      by false = refl
-
-  pub leave-member : (o : Option Seat) → slice_get (leave q o state).members p ≡ Some m
-  leave-member None = is
-  leave-member (Some u) = ap (λ (ms : List Member). slice_get ms p) (unless_members u.sub (seated q None state)) ∙ changed-there (with_seat None) q p state.members apart ∙ is
-
   pub leave-there : (o : Option Seat) (t : Seat) → m.seat ≡ Some t → slice_get (leave q o state).subgroups t.sub ≡ slice_get state.subgroups t.sub
   leave-there None t at = refl
   leave-there (Some u) t at = by (has_members u.sub (seated q None state).members) refl
@@ -98,6 +100,7 @@ placed-elsewhere p worlds deeds s m xs ys key same placed = record {
     stream = sat.stream;
     tellable = sat.tellable;
     fitting = sat.fitting;
+    untold = sat.untold;
   };
   empty = placed.empty;
 }

@@ -42,7 +42,7 @@ changed-length change (suc k) (x ∷ xs) = ap suc (changed-length change k xs)
 
 -- a subgroup keeps what is so of it where its count alone changes
 pub kept-count : (w : World) (x : Subgroup) (n : ℕ) → IsKept w x → IsKept w (record x { stuck = n })
-kept-count w x n kept = record { exact = kept.exact; desired = kept.desired; nothing = kept.nothing; closed = kept.closed; marked = kept.marked }
+kept-count w x n kept = record { exact = kept.exact; desired = kept.desired; nothing = kept.nothing; closed = kept.closed; due = kept.due; marked = kept.marked }
 
 module _ (worlds : List World) (state : System) (deeds_at : ℕ → List (Deed Message)) (system : IsSystem worlds deeds_at state) (g : ℕ) (x : Subgroup) (there : slice_get state.subgroups g ≡ Some (Some x)) where
   abbrev next : System
@@ -57,17 +57,17 @@ module _ (worlds : List World) (state : System) (deeds_at : ℕ → List (Deed M
   abbrev olds : List (Option Subgroup)
   olds = change_at (option_map unstuck) g state.subgroups
 
-  old_at : (k : ℕ) (b : Bool) → (k == g) ≡ b → slice_get olds k ≡ (if b then Some (Some (unstuck x)) else slice_get state.subgroups k)
-  old_at k b e = at-same (option_map unstuck) g k state.subgroups (Some x) there b e
+  pub old-at : (k : ℕ) (b : Bool) → (k == g) ≡ b → slice_get olds k ≡ (if b then Some (Some (unstuck x)) else slice_get state.subgroups k)
+  old-at k b e = at-same (option_map unstuck) g k state.subgroups (Some x) there b e
 
   old_kept : (k : ℕ) (y : Subgroup) → slice_get olds k ≡ Some (Some y) → IsKept state.world y
   old_kept k y is = by (k == g) refl
     where
       by : (b : Bool) → (k == g) ≡ b → IsKept state.world y
       by true e =
-          let both_are : Some (Some (unstuck x)) ≡ Some (Some y) = sym (old_at k true e) ∙ is in
+          let both_are : Some (Some (unstuck x)) ≡ Some (Some y) = sym (old-at k true e) ∙ is in
           let same : unstuck x ≡ y = cc in subst (λ (z : Subgroup). IsKept state.world z) same (kept-count state.world x 0 (system.kept g x there))
-      by false e = system.kept k y (sym (old_at k false e) ∙ is)
+      by false e = system.kept k y (sym (old-at k false e) ∙ is)
 
   next_kept : (k : ℕ) (y : Subgroup) → slice_get next.subgroups k ≡ Some (Some y) → IsKept state.world y
   next_kept k y is =
@@ -76,8 +76,8 @@ module _ (worlds : List World) (state : System) (deeds_at : ℕ → List (Deed M
         | inr new ↦ let same : unstuck x ≡ y = cc in subst (λ (z : Subgroup). IsKept state.world z) same (kept-count state.world x 0 (system.kept g x there))
       ]
 
-  new_there : slice_get next.subgroups to ≡ Some (Some (unstuck x))
-  new_there = subst (λ (k : ℕ). slice_get next.subgroups k ≡ Some (Some (unstuck x))) (changed-length (option_map unstuck) g state.subgroups) (get-end olds (Some (unstuck x)))
+  pub new-there : slice_get next.subgroups to ≡ Some (Some (unstuck x))
+  new-there = subst (λ (k : ℕ). slice_get next.subgroups k ≡ Some (Some (unstuck x))) (changed-length (option_map unstuck) g state.subgroups) (get-end olds (Some (unstuck x)))
 
   module _ (p : ℕ) (s : PeerState) (m : Member) (t : Seat) (sat : IsSat p worlds (deeds_at p) s m state.subgroups (key_in state.world s) t) where
     abbrev Then : Seat → Type 0
@@ -95,6 +95,7 @@ module _ (worlds : List World) (state : System) (deeds_at : ℕ → List (Deed M
           stream = subst (λ (packets : List Packet). IsStream p s.sessions s.peer worlds (table_in (ends_of s.peer) sat'.subgroup.out.formatted) (is_forced sat'.subgroup.out) sat'.subgroup.ending sat'.subgroup.phase (stream_of s (deeds_at p) packets)) (sym rest) sat'.stream;
           tellable = sat'.tellable;
           fitting = subst (λ (packets : List Packet). AreFitting s packets) (sym rest) sat'.fitting;
+          untold = λ e. ap (stream_of s (deeds_at p)) rest ∙ sat'.untold e;
         }
 
     -- it stays where it is
@@ -102,21 +103,22 @@ module _ (worlds : List World) (state : System) (deeds_at : ℕ → List (Deed M
     elsewhere e = record {
       live = sat.live;
       subgroup = sat.subgroup;
-      there = get-front olds (Some (unstuck x) ∷ []) t.sub (Some sat.subgroup) (old_at t.sub false e ∙ sat.there);
+      there = get-front olds (Some (unstuck x) ∷ []) t.sub (Some sat.subgroup) (old-at t.sub false e ∙ sat.there);
       key_is = sat.key_is;
       stream = sat.stream;
       tellable = sat.tellable;
       fitting = sat.fitting;
+      untold = sat.untold;
     }
 
     same_sub : (t.sub == g) ≡ true → sat.subgroup ≡ x
     same_sub e = let at : t.sub ≡ g = eqb-true t.sub g e in let both_are : Some (Some sat.subgroup) ≡ Some (Some x) = sym sat.there ∙ ap (slice_get state.subgroups) at ∙ there in cc
 
     behind : (t.sub == g) ≡ true → Then t
-    behind e = same_as t x refl (get-front olds (Some (unstuck x) ∷ []) t.sub (Some (unstuck x)) (old_at t.sub true e)) (same_sub e)
+    behind e = same_as t x refl (get-front olds (Some (unstuck x) ∷ []) t.sub (Some (unstuck x)) (old-at t.sub true e)) (same_sub e)
 
     first : (t.sub == g) ≡ true → Then (record t { sub = to })
-    first e = same_as (record t { sub = to }) x refl new_there (same_sub e)
+    first e = same_as (record t { sub = to }) x refl new-there (same_sub e)
 
     sat_next : (u : Seat) → parted g size to t ≡ u → Then u
     sat_next u is = subst Then is (by (t.sub == g) (length t.rest == size) refl)

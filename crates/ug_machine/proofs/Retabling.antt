@@ -20,19 +20,15 @@ use Rattle.ug_machine.specs.Machine.{Subgroup, Member, System, retabled, counted
 use Rattle.ug_machine.proofs.Standing.{IsAs, stream-longer, stream-as}
 use Rattle.ug_machine.proofs.Tables.{row_at, is_forced, desired-forced, desired-exact, wanted-sorted}
 use Rattle.ug_machine.proofs.Owing.{table_in}
-use Rattle.ug_machine.proofs.Going.{IsKept}
+use Rattle.ug_machine.proofs.Going.{IsKept, some-mapped}
 use Rattle.ug_machine.proofs.Seated.{stream_of, IsPlaced}
-
-some_mapped : {A B : Type 0} (f : A → B) (o : Option A) → is_some (option_map f o) ≡ is_some o
-some_mapped f None = refl
-some_mapped f (Some x) = refl
 
 -- other rows that are desired change nothing of the stream
 pub desired-as : (rows : Rows) (out : Out) (ends : _) (phase : Phase) → IsAs (table_in ends out.formatted) (table_in ends (with_all_desired rows out).formatted) (is_forced out) (is_forced (with_all_desired rows out)) phase phase
 desired-as rows out ends phase = record {
   same = λ q. refl;
   forces = λ q forced there.
-      let here : is_some (row_at out.formatted q) ≡ true = sym (some_mapped (told_to ends) (row_at out.formatted q)) ∙ there in
+      let here : is_some (row_at out.formatted q) ≡ true = sym (some-mapped (told_to ends) (row_at out.formatted q)) ∙ there in
       desired-forced rows out q ∙ both (is_some (row_at out.formatted q) || is_some (row_at rows q)) (is_forced out q) (rw here refl) forced;
   rests = λ e. e;
   begun = λ e. e;
@@ -44,6 +40,7 @@ kept-retabled old w x kept = record {
   desired = refl;
   nothing = kept.nothing;
   closed = kept.closed;
+  due = kept.due;
   marked = kept.marked;
 }
 
@@ -75,6 +72,7 @@ placed-retabled p worlds w deeds s m xs key placed = record {
         (stream-longer p s.sessions s.peer worlds (w ∷ []) (table_in (ends_of s.peer) sat.subgroup.out.formatted) (is_forced sat.subgroup.out) sat.subgroup.ending sat.subgroup.phase (stream_of s deeds t.rest) sat.stream);
     tellable = sat.tellable;
     fitting = sat.fitting;
+    untold = sat.untold;
   };
   empty = placed.empty;
 }
@@ -107,6 +105,7 @@ placed-counted p worlds deeds s m state xs key placed = record {
     stream = sat.stream;
     tellable = sat.tellable;
     fitting = sat.fitting;
+    untold = sat.untold;
   };
   empty = placed.empty;
 }

@@ -1,5 +1,5 @@
 -- What is so of each peer and of each subgroup together, and that a formatted packet keeps it.
-use Rattle.std.proofs.Common.{◌≡◌, ℕ, ◌≤◌, ◌⊎◌, inl, inr, Bool, true, false, List, [], ◌++◌, map, slice_get, Option, Some, None, refl, ◌∙◌, ap}
+use Rattle.std.proofs.Common.{◌≡◌, ℕ, ◌≤◌, ◌⊎◌, inl, inr, Bool, true, false, List, [], ◌++◌, map, slice_get, Option, Some, None, refl, ◌∙◌, ap, subst}
 use Rattle.std.specs.Prelude.{◌==◌, ◌&&◌, not, if◌then◌else◌}
 use Rattle.std.specs.Option.{option_map}
 use Rattle.std.proofs.lemmas.Bool.{eqb-true, eq-eqb}
@@ -59,7 +59,7 @@ abbrev pub AreFitting : PeerState → List Packet → Type 0
 AreFitting s packets = Each (λ (packet : Packet). fits (capabilities_of s.peer) (message_to (ends_of s.peer) packet.says) ≡ true) packets
 
 -- A live peer sits in a subgroup of its key. Its stream is right, and leads to what was formatted there; what it has
--- still to take fits its sessions.
+-- still to take fits its sessions. In a fresh subgroup its stream is empty.
 pub record IsSat (p : ℕ) (worlds : List World) (deeds : List (Deed Message)) (s : PeerState) (m : Member) (xs : List (Option Subgroup)) (key : GroupKey) (t : Seat) : Type 0 where
   pub live : is_live s m ≡ true
   pub subgroup : Subgroup
@@ -68,6 +68,7 @@ pub record IsSat (p : ℕ) (worlds : List World) (deeds : List (Deed Message)) (
   pub stream : IsStream p s.sessions s.peer worlds (table_in (ends_of s.peer) subgroup.out.formatted) (is_forced subgroup.out) subgroup.ending subgroup.phase (stream_of s deeds t.rest)
   pub tellable : (q : Key) (a : Attributes) → table_in (ends_of s.peer) subgroup.out.formatted q ≡ Some a → CanBeSent (capabilities_of s.peer) q a
   pub fitting : AreFitting s t.rest
+  pub untold : subgroup.fresh ≡ true → stream_of s deeds t.rest ≡ []
 
 -- A peer's counts are those of what was told, each session was told right, and it sits somewhere exactly where it is live.
 pub record IsPlaced (p : ℕ) (worlds : List World) (deeds : List (Deed Message)) (s : PeerState) (m : Member) (xs : List (Option Subgroup)) (key : GroupKey) : Type 0 where
@@ -85,6 +86,23 @@ IsPlacedAt p worlds deeds w xs None (Some m) = ⊥
 pub record IsSystem (worlds : List World) (deeds_at : ℕ → List (Deed Message)) (state : System) : Type 0 where
   pub kept : (g : ℕ) (x : Subgroup) → slice_get state.subgroups g ≡ Some (Some x) → IsKept state.world x
   pub placed : (p : ℕ) → IsPlacedAt p worlds (deeds_at p) state.world state.subgroups (slice_get state.world.peers p) (slice_get state.members p)
+
+-- so it is of each peer, with its member
+pub placed-of : (p : ℕ) (worlds : List World) (deeds : List (Deed Message)) (state : System) (s : PeerState) (m : Member) → slice_get state.world.peers p ≡ Some s → slice_get state.members p ≡ Some m
+    → IsPlacedAt p worlds deeds state.world state.subgroups (slice_get state.world.peers p) (slice_get state.members p) → IsPlaced p worlds deeds s m state.subgroups (key_in state.world s)
+placed-of p worlds deeds state s m is at placed =
+    subst (λ (u : Option Member). IsPlacedAt p worlds deeds state.world state.subgroups (Some s) u) at
+    (subst (λ (o : Option PeerState). IsPlacedAt p worlds deeds state.world state.subgroups o (slice_get state.members p)) is placed)
+
+pub member-of : (p : ℕ) (worlds : List World) (deeds : List (Deed Message)) (state : System) (s : PeerState) → slice_get state.world.peers p ≡ Some s
+    → IsPlacedAt p worlds deeds state.world state.subgroups (slice_get state.world.peers p) (slice_get state.members p)
+    → (m : Member) × (slice_get state.members p ≡ Some m) × IsPlaced p worlds deeds s m state.subgroups (key_in state.world s)
+member-of p worlds deeds state s is placed = by (slice_get state.members p) refl (subst (λ (o : Option PeerState). IsPlacedAt p worlds deeds state.world state.subgroups o (slice_get state.members p)) is placed)
+  where
+    by : (u : Option Member) → slice_get state.members p ≡ u → IsPlacedAt p worlds deeds state.world state.subgroups (Some s) u
+        → (m : Member) × (slice_get state.members p ≡ Some m) × IsPlaced p worlds deeds s m state.subgroups (key_in state.world s)
+    by None at placed = absurd placed
+    by (Some m) at placed = (m, at, placed)
 
 -- What is so of the routes of a peer in a world: they can be sent, and their attributes are short.
 pub record IsFine (w : World) : Type 0 where
@@ -122,7 +140,7 @@ module _ (w : World) (x : Subgroup) (kept : IsKept w x) where
       by false e = routes_kept (routes_due x.key x.out)
 
   pub kept-formatted : IsKept w (formatted x)
-  kept-formatted = let next = next_kept in record { exact = next.0; desired = next.1; nothing = λ e. absurd cc; closed = λ e f. absurd cc; marked = next.2 }
+  kept-formatted = let next = next_kept in record { exact = next.0; desired = next.1; nothing = λ e. absurd cc; closed = λ e f. absurd cc; due = λ e. absurd cc; marked = next.2 }
 
   -- its key stays
   abbrev HasKey : Says × Subgroup → Type 0

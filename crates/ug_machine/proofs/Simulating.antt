@@ -41,6 +41,7 @@ module _ (opening : World) (h : List GroupEntry) (p : ℕ) (s : PeerState) (cour
           desired = kept.desired;
           table = sat.stream.has;
           fresh = kept.nothing;
+          untold = sat.untold;
           never_back = sat.stream.right.never_back;
           one_end = sat.stream.one;
           whole = sat.stream.right.whole;

@@ -97,9 +97,6 @@ module _ (p n : ℕ) (peer : Peer) (worlds : List World) (table next : Table) (f
   table_now : (key : Key) → (reading_from nothing_read (ms ++ m ∷ [])).table key ≡ (applied r m).table key
   table_now key = ap (λ (x : Reading). x.table key) (reading-append nothing_read ms (m ∷ []))
 
-  stale_now : (key : Key) → (reading_from nothing_read (ms ++ m ∷ [])).stale key ≡ (applied r m).stale key
-  stale_now key = ap (λ (x : Reading). x.stale key) (reading-append nothing_read ms (m ∷ []))
-
   -- the climb of a key whose value stays, or is the newest
   climbs_on : (key : Key) → (applied r m).table key ≡ next key → (next key ≡ table key) ⊎ IsLast (next key) (values_at key (past p n worlds))
       → Climbs (values_at key (past p n worlds)) (values_at key (tables_after (ms ++ m ∷ [])) ++ next key ∷ [])

@@ -34,13 +34,14 @@ sat-as p worlds deeds later s m next xs key t u live sub same fit sat = record {
   stream = subst (λ (ms : List Message). IsStream p s.sessions s.peer worlds (table_in (ends_of s.peer) sat.subgroup.out.formatted) (is_forced sat.subgroup.out) sat.subgroup.ending sat.subgroup.phase ms) (sym same) sat.stream;
   tellable = sat.tellable;
   fitting = fit;
+  untold = λ e. same ∙ sat.untold e;
 }
 
 module _ (p : ℕ) (worlds : List World) (deeds : List (Deed Message)) (s : PeerState) (m : Member) (xs : List (Option Subgroup)) (key : GroupKey) (placed : IsPlaced p worlds deeds s m xs key) where
   -- ---- a session begins
 
-  begins_alike : (n : ℕ) → handed_in n (sessions_of (deeds ++ BeginsDeed (m.begun + 1) ∷ [])) ≡ handed_in n (sessions_of deeds)
-  begins_alike n = ap (λ (found : List (Session Message)). handed_in n found) (sessions_of-append deeds (BeginsDeed (m.begun + 1) ∷ [])) ∙ begins-nothing n (m.begun + 1) (sessions_of deeds)
+  pub begins-alike : (n : ℕ) → handed_in n (sessions_of (deeds ++ BeginsDeed (m.begun + 1) ∷ [])) ≡ handed_in n (sessions_of deeds)
+  begins-alike n = ap (λ (found : List (Session Message)). handed_in n found) (sessions_of-append deeds (BeginsDeed (m.begun + 1) ∷ [])) ∙ begins-nothing n (m.begun + 1) (sessions_of deeds)
 
   begins_live : is_live s (with_session m) ≡ is_live s m
   begins_live = ap (λ (b : Bool). s.up && not b) (begins-lost deeds s (counts_of m) placed.counted s.sessions)
@@ -48,9 +49,9 @@ module _ (p : ℕ) (worlds : List World) (deeds : List (Deed Message)) (s : Peer
   pub placed-begins : m.begun < s.sessions → IsPlaced p worlds (deeds ++ BeginsDeed (m.begun + 1) ∷ []) s (with_session m) xs key
   placed-begins less = record {
     counted = counted-begins deeds s (counts_of m) placed.counted less;
-    told = λ n. subst (λ (ms : List Message). IsToldRight p n s.peer worlds ms) (sym (begins_alike n)) (placed.told n);
+    told = λ n. subst (λ (ms : List Message). IsToldRight p n s.peer worlds ms) (sym (begins-alike n)) (placed.told n);
     sat = λ t at. let sat = placed.sat t at in
-        sat-as p worlds deeds (deeds ++ BeginsDeed (m.begun + 1) ∷ []) s m (with_session m) xs key t t (begins_live ∙ sat.live) refl (ap (λ (ms : List Message). ms ++ told_by s t.rest) (begins_alike s.sessions)) sat.fitting sat;
+        sat-as p worlds deeds (deeds ++ BeginsDeed (m.begun + 1) ∷ []) s m (with_session m) xs key t t (begins_live ∙ sat.live) refl (ap (λ (ms : List Message). ms ++ told_by s t.rest) (begins-alike s.sessions)) sat.fitting sat;
     empty = λ none. begins_live ∙ placed.empty none;
   }
 
@@ -74,8 +75,8 @@ module _ (p : ℕ) (worlds : List World) (deeds : List (Deed Message)) (s : Peer
     handed_elsewhere : (n : ℕ) → (n ≡ s.sessions → ⊥) → handed_in n (sessions_of then_deeds) ≡ handed_in n (sessions_of deeds)
     handed_elsewhere n apart = ap (handed_in n) made ∙ handed-other n m.begun message (sessions_of deeds) (λ e. apart (e ∙ all))
 
-    goes_on : stream_of s then_deeds rest ≡ stream_of s deeds t.rest
-    goes_on =
+    pub goes-on : stream_of s then_deeds rest ≡ stream_of s deeds t.rest
+    goes-on =
         ap (λ (ms : List Message). ms ++ told_by s rest) handed_here
         ∙ append_assoc (handed_in s.sessions (sessions_of deeds)) (message ∷ []) (told_by s rest)
         ∙ ap (λ (packets : List Packet). handed_in s.sessions (sessions_of deeds) ++ told_by s packets) (sym first)
@@ -86,7 +87,7 @@ module _ (p : ℕ) (worlds : List World) (deeds : List (Deed Message)) (s : Peer
     told_here : IsToldRight p s.sessions s.peer worlds (handed_in s.sessions (sessions_of then_deeds))
     told_here =
         right-front p s.sessions s.peer worlds (handed_in s.sessions (sessions_of then_deeds)) (told_by s rest)
-        (subst (λ (ms : List Message). IsToldRight p s.sessions s.peer worlds ms) (sym goes_on) sat_now.stream.right)
+        (subst (λ (ms : List Message). IsToldRight p s.sessions s.peer worlds ms) (sym goes-on) sat_now.stream.right)
 
     told_then : (n : ℕ) → IsToldRight p n s.peer worlds (handed_in n (sessions_of then_deeds))
     told_then n =
@@ -95,17 +96,17 @@ module _ (p : ℕ) (worlds : List World) (deeds : List (Deed Message)) (s : Peer
           | inr apart ↦ subst (λ (ms : List Message). IsToldRight p n s.peer worlds ms) (sym (handed_elsewhere n apart)) (placed.told n)
         ]
 
-    seat_then : (with_handed m).seat ≡ Some (record t { rest = rest })
-    seat_then = ap (option_map (λ (u : Seat). record u { rest = rest_behind u.rest })) at ∙ ap (λ (packets : List Packet). Some (record t { rest = rest_behind packets })) first
+    pub seat-then : (with_handed m).seat ≡ Some (record t { rest = rest })
+    seat-then = ap (option_map (λ (u : Seat). record u { rest = rest_behind u.rest })) at ∙ ap (λ (packets : List Packet). Some (record t { rest = rest_behind packets })) first
 
     pub placed-hands : IsPlaced p worlds then_deeds s (with_handed m) xs key
     placed-hands = record {
       counted = counted-hands deeds s (counts_of m) placed.counted message [] some;
       told = told_then;
       sat = λ u at'.
-          let same : record t { rest = rest } ≡ u = (let both : Some (record t { rest = rest }) ≡ Some u = sym seat_then ∙ at' in cc) in
-          subst (λ (v : Seat). IsSat p worlds then_deeds s (with_handed m) xs key v) same (sat-as p worlds deeds then_deeds s m (with_handed m) xs key t (record t { rest = rest }) sat_now.live refl goes_on (subst (λ (packets : List Packet). AreFitting s packets) first sat_now.fitting).1 sat_now);
-      empty = λ none. let some : Some (record t { rest = rest }) ≡ None = sym seat_then ∙ none in absurd cc;
+          let same : record t { rest = rest } ≡ u = (let both : Some (record t { rest = rest }) ≡ Some u = sym seat-then ∙ at' in cc) in
+          subst (λ (v : Seat). IsSat p worlds then_deeds s (with_handed m) xs key v) same (sat-as p worlds deeds then_deeds s m (with_handed m) xs key t (record t { rest = rest }) sat_now.live refl goes-on (subst (λ (packets : List Packet). AreFitting s packets) first sat_now.fitting).1 sat_now);
+      empty = λ none. let some : Some (record t { rest = rest }) ≡ None = sym seat-then ∙ none in absurd cc;
     }
 
   -- ---- a session is lost

@@ -31,6 +31,7 @@ use Rattle.ug_machine.proofs.Standing.{stream-as, stream-peer, stream-starts, ri
 use Rattle.ug_machine.proofs.Tables.{is_forced}
 use Rattle.ug_machine.proofs.Owing.{table_in}
 use Rattle.ug_machine.proofs.Going.{IsKept}
+use Rattle.ug_machine.proofs.Again.{IsCovered}
 use Rattle.ug_machine.proofs.Seated.{counts_of, is_live, told_by, stream_of, AreFitting, IsSat, IsPlaced}
 use Rattle.ug_machine.proofs.Asking.{IsGood}
 
@@ -64,6 +65,19 @@ pub record IsTurned (w : World) (q : ℕ) (old new : System) : Type 0 where
   pub members : (p : ℕ) → (p ≡ q → ⊥) → slice_get new.members p ≡ slice_get old.members p
   pub others : (p : ℕ) (n : Member) (u : Seat) (z : Subgroup) → (p ≡ q → ⊥) → slice_get old.members p ≡ Some n → n.seat ≡ Some u → slice_get old.subgroups u.sub ≡ Some (Some z) → slice_get new.subgroups u.sub ≡ Some (Some z)
   pub kept : (k : ℕ) (z : Subgroup) → slice_get new.subgroups k ≡ Some (Some z) → IsKept w z
+
+-- A peer that stays in its session has the same to take, in a subgroup as good as the old one; and where it asks for all
+-- routes, they are coming.
+pub record IsCarried (asks : Bool) (ends : PeerEnds) (old new : System) (m : Member) (u : Seat) : Type 0 where
+  pub seat : Seat
+  pub sits : m.seat ≡ Some seat
+  pub rest : u.rest ≡ seat.rest
+  pub before : Subgroup
+  pub after : Subgroup
+  pub was : slice_get old.subgroups seat.sub ≡ Some (Some before)
+  pub is : slice_get new.subgroups u.sub ≡ Some (Some after)
+  pub good : IsGood ends old.world before after
+  pub covered : asks ≡ true → IsCovered after
 
 -- ---- the peer
 
@@ -106,6 +120,7 @@ module _ (q : ℕ) (worlds : List World) (deeds : List (Deed Message)) (s s' : P
           (stream-starts q s'.sessions s'.peer worlds (table_in (ends_of s'.peer) x.out.formatted) (is_forced x.out) x.phase none_told (kept.1.closed fresh)));
       tellable = λ k a e. let none = none_told k in absurd cc;
       fitting = tt;
+      untold = λ e. none_handed;
     }
 
     pub placed-starts : IsPlaced q worlds deeds s' (with_seat (at_end g) m) ys key'
@@ -161,6 +176,7 @@ module _ (q : ℕ) (worlds : List World) (deeds : List (Deed Message)) (s s' : P
             let was = sat_old.tellable k a (good.change.same k ∙ ap (λ (l : PeerEnds). table_in l y.out.formatted k) (sym ends) ∙ e) in
             subst (λ (c : Capabilities). CanBeSent c k a) (sym next.capabilities) was;
         fitting = fitting_now;
+        untold = λ e. streams_same ∙ sat_old.untold (sym good.fresh ∙ e);
       }
 
       pub placed-stays : IsPlaced q worlds deeds s' (with_seat (Some u) m) ys key'

@@ -3,3 +3,4 @@ pub mod Machine
 pub mod Evaluations
 pub mod Rules
 pub mod Simulates
+pub mod PeerKeys

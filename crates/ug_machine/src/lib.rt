@@ -2,8 +2,10 @@
 //! subgroups, with one Adj-RIB-Out and one queue of packets each.
 #![tactic(auto)]
 
+mod evaluations;
 mod laws;
 mod phase;
 
+pub use evaluations::group_evaluations;
 pub use laws::{group_courses, group_laws, group_order, group_simulation};
 pub use phase::Phase;

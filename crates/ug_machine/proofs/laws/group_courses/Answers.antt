@@ -1,5 +1,6 @@
 use Rattle.ug_machine.proofs.Courses.{world-led, told-right, begun-at_most, begun-all, all-told, text-told, losses-told}
 use Rattle.ug_machine.proofs.Marks.{marks-told}
+use Rattle.ug_machine.proofs.Speaks.{told-again}
 use Rattle.ug_machine.proofs.laws.group_courses.Goals as goal
 
 pub returns-clause-world : goal.returns-clause-world
@@ -25,3 +26,6 @@ returns-clause-losses c = λ opening h p n course. losses-told opening h course 
 
 pub returns-clause-marks : goal.returns-clause-marks
 returns-clause-marks c = λ opening h pass job course legal. marks-told opening h pass job course legal
+
+pub returns-clause-told_again : goal.returns-clause-told_again
+returns-clause-told_again c = λ opening before later pass job e p asker s takes asks is about live legal course is' same drained live'. told-again opening before later pass job e p asker s takes asks is about course is' same drained live'
