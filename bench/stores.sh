@@ -1,5 +1,5 @@
 #!/bin/bash
-# Runs 100,000 and 1,000,000 keys, no two alike, through an Adj-RIB-Out: each is set, announced once in packets as
+# Runs 100,000 and 1,000,000 IPv4 keys, no two alike, through an Adj-RIB-Out: each is set, announced once in packets as
 # first_alike gives them, cleared, and withdrawn once. Ten keys have a value, or one, or all the same; they come in sorted
 # and in random order. Prints for each the processor's time a key, of RUNS runs (5) the least, how that run's time fell on the
 # four parts, and the peak memory a key; then how the processor's time grows from 100,000 to 1,000,000. The program,
@@ -23,11 +23,12 @@ if [ -z "$program" ]; then
     program=$work/copy/crates/adjout/out/adjout
 fi
 
-# run KEYS SHARE SCATTER: of the runs the one that took least: its processor's seconds, its peak memory in KiB, its line.
+# run KEYS SHARE SCATTER: of the runs the one that took least: its processor's seconds (its own and the system's), its peak
+# memory in KiB, its line.
 run() {
     for _ in $(seq "${RUNS:-5}"); do
-        /usr/bin/time -f '%U %M' -o "$work/said" "$program" "$@" > "$work/report"
-        echo "$(cat "$work/said") $(cat "$work/report")"
+        /usr/bin/time -f '%U %S %M' -o "$work/said" "$program" "$@" > "$work/report"
+        echo "$(awk '{ print $1 + $2, $3 }' "$work/said") $(cat "$work/report")"
     done | sort -n | head -n 1
 }
 

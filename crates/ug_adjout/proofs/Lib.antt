@@ -5,6 +5,10 @@ pub mod Runs
 pub mod Rest
 pub mod Forced
 pub mod Slots
+pub mod ByPlace
+pub mod ByValue
+pub mod FirstFrom
 pub mod Values
 pub mod Counts
 pub mod Numbers
+pub mod Narrow

@@ -1,8 +1,6 @@
 -- Places that are numbered anew: who waits first from a place on comes to that place, and the order stays.
 use Rattle.std.proofs.Common.{◌≡◌, ◌⊎◌, inl, inr, ℕ, suc, ◌+◌, ◌<◌, ◌≤◌, Bool, true, false, cond, List, [], ◌∷◌, length, slice_get, Option, Some, None, refl, sym, ap, subst, ◌∙◌, arith, add-one}
 use Rattle.std.specs.Prelude.{nat_eq, nat_le, nat_lt, ◌&&◌}
-use Rattle.std.specs.BTreeMap.Range.{entries_between}
-use Rattle.std.specs.declared.ops.Bound.TheVariants.{Included, Unbounded}
 use Rattle.std.specs.List.{AllByRecursion}
 use Rattle.std.specs.List.Sorted.{IsStrictlySortedBy}
 use Rattle.std.specs.Ordering.{nat_cmp, is_eq, is_le, match_ordering}
@@ -28,25 +26,25 @@ use Rattle.ug_adjout.proofs.Views.{formatted_at, desired_at, waiting_desired}
 
 -- ---- numbers
 
-le_yes : (n p : ℕ) → n ≤ p → nat_le n p ≡ true
+pub le_yes : (n p : ℕ) → n ≤ p → nat_le n p ≡ true
 le_yes n p le = grind (arith, nat_tests)
 
 le_no : (n p : ℕ) → p < n → nat_le n p ≡ false
 le_no n p lt = grind (arith, nat_tests)
 
-from_yes : (n p : ℕ) → nat_le n p ≡ true → n ≤ p
+pub from_yes : (n p : ℕ) → nat_le n p ≡ true → n ≤ p
 from_yes n p e = grind (arith, nat_tests)
 
-from_no : (n p : ℕ) → nat_le n p ≡ false → p < n
+pub from_no : (n p : ℕ) → nat_le n p ≡ false → p < n
 from_no n p e = grind (arith, nat_tests)
 
-less : (n p : ℕ) → n < p → nat_cmp n p ≡ Less
+pub less : (n p : ℕ) → n < p → nat_cmp n p ≡ Less
 less n p lt = sym (nat_cmp_is n p Less lt)
 
-greater : (n p : ℕ) → p < n → nat_cmp n p ≡ Greater
+pub greater : (n p : ℕ) → p < n → nat_cmp n p ≡ Greater
 greater n p lt = sym (nat_cmp_is n p Greater lt)
 
-from_less : (n p : ℕ) → nat_cmp n p ≡ Less → n < p
+pub from_less : (n p : ℕ) → nat_cmp n p ≡ Less → n < p
 from_less n p e = by (nat_le p n) refl
   where
     other : p ≤ n → n ≡ p ⊎ (p < n)
@@ -55,16 +53,6 @@ from_less n p e = by (nat_le p n) refl
     by : (b : Bool) → nat_le p n ≡ b → n < p
     by true f = elim (other (from_yes p n f)) [ inl same ↦ absurd (let z = sym e ∙ sym (nat_cmp_is n p Equal same) in cc) | inr lt ↦ absurd (let z = sym e ∙ greater n p lt in cc) ]
     by false f = from_no p n f
-
-pub le_is : (n p : ℕ) → is_le (nat_cmp n p) ≡ nat_le n p
-le_is n p = by (nat_le n p) refl
-  where
-    case : n ≤ p → n < p ⊎ (n ≡ p)
-    case le = grind (arith, nat_tests)
-
-    by : (b : Bool) → nat_le n p ≡ b → is_le (nat_cmp n p) ≡ nat_le n p
-    by true f = elim (case (from_yes n p f)) [ inl lt ↦ ap is_le (less n p lt) ∙ sym f | inr same ↦ ap is_le (sym (nat_cmp_is n p Equal same)) ∙ sym f ]
-    by false f = ap is_le (greater n p (from_no n p f)) ∙ sym f
 
 -- ---- the list
 
@@ -193,16 +181,6 @@ module _ {K : Type 0} where
       by false at more =
           here (is_at (nat_cmp p) x.0) refl (from_no n x.0 at) (more (sym (ap length (cond-false (nat_le n x.0) (x ∷ from_place n es) (from_place n es) at)) ∙ none) p w)
 
-  pub range_from : (n : ℕ) (es : List (ℕ × Waiting K)) → entries_between nat_cmp (Included n) Unbounded es ≡ from_place n es
-  range_from n [] = refl
-  range_from n (x ∷ es) =
-      ap (λ b. cond b (x ∷ entries_between nat_cmp (Included n) Unbounded es) (entries_between nat_cmp (Included n) Unbounded es)) (with_true (is_le (nat_cmp n x.0)) ∙ le_is n x.0)
-      ∙ ap (λ l. cond (nat_le n x.0) (x ∷ l) l) (range_from n es)
-    where
-      with_true : (b : Bool) → (b && true) ≡ b
-      with_true true = refl
-      with_true false = refl
-
 -- ---- tables that agree
 
 module _ {K V : Type 0} {cmp : K → K → Ordering} (total : IsTotalOrder cmp) (exact : IsAntisymmetric cmp) where
@@ -325,11 +303,6 @@ module _ {K : Type 0} {cmp : K → K → Ordering} (total : IsTotalOrder cmp) (e
 
   pub passed_same : e.0 ≡ n → 0 < length (from_place n waiting) → length (from_place (n + 1) waiting) + 1 ≡ length (from_place n waiting)
   passed_same same some = sym (ap (λ l. length (from_place (n + 1) l) + 1) (brought_same n waiting e first same)) ∙ brought_passed n waiting s.in_line some
-
--- where something waits behind a place there is a first
-pub some_first : {K : Type 0} (l : List (ℕ × Waiting K)) → 0 < length l → slice_get l 0 ≡ None → ⊥
-some_first [] some none = omega (arith, some)
-some_first (x ∷ l) some none = cc
 
 -- the number of the next place, where all stand before it
 pub stored_below : {K : Type 0} {cmp : K → K → Ordering} (rows : List (K × Row)) (waiting : List (ℕ × Waiting K)) (next n : ℕ) → IsStored cmp rows waiting next → length (from_place n waiting) ≡ 0 → IsStored cmp rows waiting n

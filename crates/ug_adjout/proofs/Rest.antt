@@ -1,12 +1,10 @@
--- Rows behind a key, and maps and sets that are made again.
+-- Rows behind a key, and maps that are made again.
 use Rattle.std.proofs.Common.{◌≡◌, ℕ, ◌+◌, ◌<◌, Bool, true, false, cond, ◌&&◌, ◌||◌, List, [], ◌∷◌, ◌++◌, length, slice_get, Option, Some, None, refl, sym, ap, subst, ◌∙◌, arith}
 use Rattle.std.specs.Prelude.{is_some, if◌then◌else◌, IsTrue, ◌↔◌}
 use Rattle.std.specs.List.{filter, AllByRecursion, list_any}
 use Rattle.std.specs.Ordering.{is_lt, match_ordering, ordering_reverse}
 use Rattle.std.specs.Map.{keys_of, values_of}
 use Rattle.std.specs.BTreeMap.{insert_entry}
-use Rattle.std.specs.BTreeSet.{insert_key}
-use Rattle.std.specs.List.Sorted.{IsStrictlySortedBy}
 use Rattle.std.specs.BTreeMap.Range.{entries_between}
 use Rattle.std.specs.Cmp.{IsTotalOrder}
 use Rattle.std.specs.declared.ops.Bound.TheVariants.{Unbounded}
@@ -80,22 +78,3 @@ module _ {K X : Type 0} {cmp : K → K → Ordering} (total : IsTotalOrder cmp) 
   one_more done left rest whole e now so s step put =
       let all : done ++ e ∷ rest ≡ whole = ap (λ l. done ++ l) (sym step) ∙ so in
       ap (λ l. l ++ rest) (put ∙ put_end done e rest (subst (IsTable cmp) (sym all) s)) ∙ append_assoc done (e ∷ []) rest ∙ all
-
--- ---- a set that is made again
-
-module _ {K : Type 0} {cmp : K → K → Ordering} (total : IsTotalOrder cmp) where
-  last_in : (P : K → Type 0) (ks : List K) (k : K) (rest : List K) → AllByRecursion P (ks ++ k ∷ rest) → P k
-  last_in P [] k rest h = h.0
-  last_in P (x ∷ ks) k rest h = last_in P ks k rest h.1
-
-  put_last_key : (ks : List K) (k : K) (rest : List K) → IsStrictlySortedBy cmp (ks ++ k ∷ rest) → insert_key cmp ks k ≡ ks ++ k ∷ []
-  unfolding IsStrictlySortedBy
-  put_last_key [] k rest s = refl
-  put_last_key (x ∷ ks) k rest s =
-      ap (λ r. match_ordering r (k ∷ x ∷ ks) (x ∷ ks) (x ∷ insert_key cmp ks k)) (total.antisymm k x ∙ ap ordering_reverse (last_in (λ y. cmp x y ≡ Less) ks k rest s.0))
-      ∙ ap (λ l. x ∷ l) (put_last_key ks k rest s.1)
-
-  pub one_key_more : (done left rest whole : List K) (k : K) (now : List K) → done ++ left ≡ whole → IsStrictlySortedBy cmp whole → left ≡ k ∷ rest → now ≡ insert_key cmp done k → now ++ rest ≡ whole
-  one_key_more done left rest whole k now so s step put =
-      let all : done ++ k ∷ rest ≡ whole = ap (λ l. done ++ l) (sym step) ∙ so in
-      ap (λ l. l ++ rest) (put ∙ put_last_key done k rest (subst (IsStrictlySortedBy cmp) (sym all) s)) ∙ append_assoc done (k ∷ []) rest ∙ all

@@ -160,18 +160,19 @@ module _ {K : Type 0} {cmp : K → K → Ordering} (rows : List (K × Row)) (wai
       by None e h i = absurd cc
       by (Some row) e h i = subst (Agree key change.place (Some row)) (sym (s.listed key row change e i)) (refl, i)
 
--- what is put in and taken out again leaves the list as it was
-put_back_step : (r : Ordering) {X : Type 0} (p : ℕ) (w : X) (e : ℕ × X) (es rest : List (ℕ × X)) → nat_cmp p e.0 ≡ r → lookup (is_at (nat_cmp p)) (e ∷ es) ≡ None
-    → (lookup (is_at (nat_cmp p)) es ≡ None → remove_entry (is_at (nat_cmp p)) rest ≡ es)
-    → remove_entry (is_at (nat_cmp p)) (match_ordering r ((p, w) ∷ e ∷ es) ((e.0, w) ∷ es) (e ∷ rest)) ≡ e ∷ es
-put_back_step Less p w e es rest at none h = cond-true _ (e ∷ es) _ (at_itself nat_cmp_total nat_cmp-IsAntisymmetric p)
-put_back_step Equal p w e es rest at none h = absurd (let z = sym (cond-true _ (Some e.1) (lookup (is_at (nat_cmp p)) es) (ap is_eq at)) ∙ none in cc)
-put_back_step Greater p w e es rest at none h =
-    cond-false _ rest _ (ap is_eq at) ∙ ap (λ l. e ∷ l) (h (sym (cond-false _ (Some e.1) (lookup (is_at (nat_cmp p)) es) (ap is_eq at)) ∙ none))
+-- what is put in and taken out again leaves the rows as they were
+module _ {K X : Type 0} {cmp : K → K → Ordering} (total : IsTotalOrder cmp) (exact : IsAntisymmetric cmp) where
+  put_back_step : (r : Ordering) (p : K) (w : X) (e : K × X) (es rest : List (K × X)) → cmp p e.0 ≡ r → lookup (is_at (cmp p)) (e ∷ es) ≡ None
+      → (lookup (is_at (cmp p)) es ≡ None → remove_entry (is_at (cmp p)) rest ≡ es)
+      → remove_entry (is_at (cmp p)) (match_ordering r ((p, w) ∷ e ∷ es) ((e.0, w) ∷ es) (e ∷ rest)) ≡ e ∷ es
+  put_back_step Less p w e es rest at none h = cond-true _ (e ∷ es) _ (at_itself total exact p)
+  put_back_step Equal p w e es rest at none h = absurd (let z = sym (cond-true _ (Some e.1) (lookup (is_at (cmp p)) es) (ap is_eq at)) ∙ none in cc)
+  put_back_step Greater p w e es rest at none h =
+      cond-false _ rest _ (ap is_eq at) ∙ ap (λ l. e ∷ l) (h (sym (cond-false _ (Some e.1) (lookup (is_at (cmp p)) es) (ap is_eq at)) ∙ none))
 
-pub put_back : {X : Type 0} (p : ℕ) (w : X) (es : List (ℕ × X)) → lookup (is_at (nat_cmp p)) es ≡ None → remove_entry (is_at (nat_cmp p)) (insert_entry nat_cmp es p w) ≡ es
-put_back p w [] none = cond-true _ [] _ (at_itself nat_cmp_total nat_cmp-IsAntisymmetric p)
-put_back p w (e ∷ es) none = put_back_step (nat_cmp p e.0) p w e es (insert_entry nat_cmp es p w) refl none (put_back p w es)
+  pub put_back : (p : K) (w : X) (es : List (K × X)) → lookup (is_at (cmp p)) es ≡ None → remove_entry (is_at (cmp p)) (insert_entry cmp es p w) ≡ es
+  put_back p w [] none = cond-true _ [] _ (at_itself total exact p)
+  put_back p w (e ∷ es) none = put_back_step (cmp p e.0) p w e es (insert_entry cmp es p w) refl none (put_back p w es)
 
 module _ {K : Type 0} {cmp : K → K → Ordering} (rows : List (K × Row)) (waiting : List (ℕ × Waiting K)) (next : ℕ) (s : IsStored cmp rows waiting next) (key : K) where
   pub place_before : (change : Change) → IsSome (value_at cmp rows key) → IfSome (value_at cmp rows key) (λ row. row.change ≡ Some change) → change.place < next

@@ -3,18 +3,18 @@ use Rattle.std.proofs.Common.{◌≡◌, ℕ, ◌<◌, List, [], ◌∷◌, leng
 use Rattle.std.specs.Prelude.{IsSome, ◌↔◌}
 use Rattle.std.specs.Option.{option_map}
 use Rattle.std.specs.Ordering.{nat_cmp}
-use Rattle.std.specs.Map.{remove_entry}
 use Rattle.std.specs.BTreeMap.{is_at}
 use Rattle.std.specs.Cmp.{nat_cmp_total}
 use Rattle.std.specs.FinMap.{nat_cmp-IsAntisymmetric}
 use Rattle.ug_pending.specs.Tables.{value_at, with_value}
-use Rattle.ug_pending.specs.TableLaws.{removed_nothing, with_value-sorted}
+use Rattle.ug_pending.specs.TableLaws.{removed_nothing}
+use Rattle.ug_adjout.specs.declared.slot.Slot.{Slot}
 use Rattle.ug_adjout.specs.declared.waiting.Waiting.{Waiting}
 use Rattle.ug_adjout.specs.Waits.{first_announced, value_or}
 use Rattle.ug_adjout.specs.Stored.{projected, projected_with, of_row}
-use Rattle.ug_adjout.specs.Places.{value_of, IsPlaces}
+use Rattle.ug_adjout.specs.Places.{value_of, by_place, IsIndexed, IsLine}
 use Rattle.ug_adjout.proofs.Lists.{value_at-projected, projected-with_value}
-use Rattle.ug_adjout.proofs.Steps.{put_back}
+use Rattle.ug_adjout.proofs.ByPlace.{placed_is, indexed_itself}
 
 first_step : {K V : Type 0} (f : V → Option ℕ) (p : K) (o : Option ℕ) (es : List (K × ℕ)) (rest : Option ℕ) → option_map (λ (e : K × ℕ). e.1) (slice_get es 0) ≡ rest
     → option_map (λ (e : K × ℕ). e.1) (slice_get (projected_with f p o es) 0) ≡ value_or o rest
@@ -26,35 +26,31 @@ module _ {K : Type 0} where
   first_is [] = refl
   first_is (e ∷ es) = first_step (value_of {K = K}) e.0 e.1.value (projected (value_of {K = K}) es) (first_announced es) (first_is es)
 
-  module _ (waiting : List (ℕ × Waiting K)) (announced : List (ℕ × ℕ)) (s : IsPlaces waiting announced) where
-    first_by : (o : Option (ℕ × ℕ)) → slice_get announced 0 ≡ o → option_map (λ (e : ℕ × ℕ). e.1) o ≡ first_announced waiting
-    first_by o e = ap (λ z. option_map (λ (x : ℕ × ℕ). x.1) z) (sym e) ∙ ap (λ l. option_map (λ (x : ℕ × ℕ). x.1) (slice_get l 0)) s.values ∙ first_is waiting
+  module _ (keys : List (Slot × K)) (announced : List (ℕ × ℕ)) (s : IsLine keys announced) where
+    first_by : (o : Option (ℕ × ℕ)) → slice_get announced 0 ≡ o → option_map (λ (e : ℕ × ℕ). e.1) o ≡ first_announced (by_place keys)
+    first_by o e = ap (λ z. option_map (λ (x : ℕ × ℕ). x.1) z) (sym e) ∙ ap (λ l. option_map (λ (x : ℕ × ℕ). x.1) (slice_get l 0)) s.values ∙ first_is (by_place keys)
 
-    pub first_some : (p v : ℕ) → slice_get announced 0 ≡ Some (p, v) → Some v ≡ first_announced waiting
+    pub first_some : (p v : ℕ) → slice_get announced 0 ≡ Some (p, v) → Some v ≡ first_announced (by_place keys)
     first_some p v e = first_by (Some (p, v)) e
 
-    pub first_none : (0 < length announced → ⊥) → None ≡ first_announced waiting
+    pub first_none : (0 < length announced → ⊥) → None ≡ first_announced (by_place keys)
     first_none none = first_by None (by announced none)
       where
         by : (es : List (ℕ × ℕ)) → (0 < length es → ⊥) → slice_get es 0 ≡ None
         by [] h = refl
         by (e ∷ es) h = absurd (h (omega arith))
 
-    pub placed : (place : ℕ) (w : Option (Waiting K)) (now : List (ℕ × ℕ)) → now ≡ with_value nat_cmp announced place (of_row value_of w) → IsPlaces (with_value nat_cmp waiting place w) now
-    placed place w now e = record {
-      in_line = with_value-sorted nat_cmp_total nat_cmp-IsAntisymmetric waiting place w s.in_line;
-      values = e ∙ ap (λ l. with_value nat_cmp l place (of_row value_of w)) s.values ∙ sym (projected-with_value nat_cmp_total nat_cmp-IsAntisymmetric value_of waiting place w s.in_line);
+    -- keys and announcements that change at one place
+    pub line : (place : ℕ) (w : Option (Waiting K)) (later : List (Slot × K)) (now : List (ℕ × ℕ)) → IsIndexed later (with_value nat_cmp (by_place keys) place w) → now ≡ with_value nat_cmp announced place (of_row value_of w) → IsLine later now
+    line place w later now i e = record {
+      indexed = indexed_itself later _ i;
+      values =
+          e ∙ ap (λ l. with_value nat_cmp l place (of_row value_of w)) s.values ∙ sym (projected-with_value nat_cmp_total nat_cmp-IsAntisymmetric value_of (by_place keys) place w s.indexed.in_line)
+          ∙ ap (projected value_of) (sym (placed_is later _ i));
     }
 
-    -- what came to a free place is taken away again
-    pub undone : (place : ℕ) (v : Option ℕ) → value_at nat_cmp waiting place ≡ None → remove_entry (is_at (nat_cmp place)) (with_value nat_cmp announced place v) ≡ announced
-    undone place v none = by v
-      where
-        free : value_at nat_cmp announced place ≡ None
-        free = ap (λ l. value_at nat_cmp l place) s.values ∙ value_at-projected nat_cmp_total nat_cmp-IsAntisymmetric value_of waiting place s.in_line ∙ ap (of_row value_of) none
-
-        by : (o : Option ℕ) → remove_entry (is_at (nat_cmp place)) (with_value nat_cmp announced place o) ≡ announced
-        by None =
-            let once = removed_nothing nat_cmp_total nat_cmp-IsAntisymmetric (is_at (nat_cmp place)) announced free in
-            ap (λ l. remove_entry (is_at (nat_cmp place)) l) once ∙ once
-        by (Some x) = put_back place x announced free
+    -- where no announcement waits at a place none has to go
+    pub none_there : (place : ℕ) (o : Option (Waiting K)) → value_at nat_cmp (by_place keys) place ≡ o → of_row value_of o ≡ None → announced ≡ with_value nat_cmp announced place None
+    none_there place o is none =
+        sym (removed_nothing nat_cmp_total nat_cmp-IsAntisymmetric (is_at (nat_cmp place)) announced
+        (ap (λ l. value_at nat_cmp l place) s.values ∙ value_at-projected nat_cmp_total nat_cmp-IsAntisymmetric value_of (by_place keys) place s.indexed.in_line ∙ ap (of_row value_of) is ∙ none))

@@ -1,5 +1,7 @@
 pub mod Keys
+pub mod Narrow
 pub mod Waits
 pub mod Stored
 pub mod Places
 pub mod Counted
+pub mod Kept

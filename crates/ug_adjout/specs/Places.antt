@@ -1,10 +1,10 @@
--- How the list of waiting keys is stored: by place, the announcements among them by place, and the places by value.
-use Rattle.std.specs.Prelude.{◌≡◌, ℕ, nat_eq, Bool, false, cond, List, [], ◌∷◌, Option, Some, None}
+-- How the list of waiting keys is stored: the keys by what they wait for and then by place, and the announcements by place.
+use Rattle.std.specs.Prelude.{◌≡◌, ℕ, ◌≤◌, nat_eq, Bool, true, false, not, is_some, cond, List, [], ◌∷◌, Option, Some, None}
 use Rattle.std.specs.Option.{option_eq}
-use Rattle.std.specs.List.Sorted.{IsStrictlySortedBy}
 use Rattle.std.specs.Ordering.{nat_cmp}
+use Rattle.std.specs.BTreeMap.{insert_entry}
 use Rattle.std.specs.declared.cmp.Ordering.{Ordering}
-use Rattle.ug_pending.specs.Tables.{has, value_at, IsTable}
+use Rattle.ug_pending.specs.Tables.{value_at, IsTable}
 use Rattle.ug_adjout.specs.declared.slot.Slot.{Slot}
 use Rattle.ug_adjout.specs.declared.waiting.Waiting.{Waiting}
 use Rattle.ug_adjout.specs.contracts.slot.SlotOrd.TheImpl as slot_ord
@@ -15,34 +15,42 @@ abbrev pub slot_cmp : Slot → Slot → Ordering
 slot_cmp = slot_ord.ghosts.cmp
 
 module _ {K : Type 0} where
-  abbrev pub waits_for : Option ℕ → Option (Waiting K) → Bool
-  waits_for value None = false
-  waits_for value (Some w) = option_eq nat_eq w.value value
-
   abbrev pub value_of : Waiting K → Option ℕ
   value_of w = w.value
 
-  -- the values of the announcements, by place
-  pub record IsPlaces (waiting : List (ℕ × Waiting K)) (announced : List (ℕ × ℕ)) : Type 0 where
+  -- the key that waits, where it waits for this value
+  abbrev pub key_for : Option ℕ → Option (Waiting K) → Option K
+  key_for value None = None
+  key_for value (Some w) = cond (option_eq nat_eq w.value value) (Some w.key) None
+
+  -- what waits, by place
+  abbrev pub by_place : List (Slot × K) → List (ℕ × Waiting K)
+  by_place [] = []
+  by_place (e ∷ keys) = insert_entry nat_cmp (by_place keys) e.0.place (record { key = e.1; value = e.0.value })
+
+  -- each key stands at the slot of what it waits for and of its place, and at no other
+  pub record IsIndexed (keys : List (Slot × K)) (waiting : List (ℕ × Waiting K)) : Type 0 where
     pub in_line : IsTable nat_cmp waiting
-    pub values : announced ≡ projected value_of waiting
+    pub in_order : IsTable slot_cmp keys
+    pub listed : (value : Option ℕ) (place : ℕ) → value_at slot_cmp keys (record { value = value; place = place }) ≡ key_for value (value_at nat_cmp waiting place)
 
-  -- each slot is that of a key that waits there for that value, and each such key has its slot
-  pub record IsIndexed (slots : List Slot) (waiting : List (ℕ × Waiting K)) : Type 0 where
-    pub in_line : IsTable nat_cmp waiting
-    pub in_order : IsStrictlySortedBy slot_cmp slots
-    pub listed : (value : Option ℕ) (place : ℕ) → has slot_cmp slots (record { value = value; place = place }) ≡ waits_for value (value_at nat_cmp waiting place)
+  pub record IsLine (keys : List (Slot × K)) (announced : List (ℕ × ℕ)) : Type 0 where
+    pub indexed : IsIndexed keys (by_place keys)
+    pub values : announced ≡ projected value_of (by_place keys)
 
-  -- the keys that wait in these slots
-  abbrev pub with_key : Option (Waiting K) → List K → List K
-  with_key None keys = keys
-  with_key (Some w) keys = w.key ∷ keys
+  -- the keys up to the first of another value
+  abbrev pub of_value : Option ℕ → List (Slot × K) → List (Slot × K)
+  of_value value [] = []
+  of_value value (e ∷ keys) = cond (option_eq nat_eq e.0.value value) (e ∷ of_value value keys) []
 
-  abbrev pub keys_in : List (ℕ × Waiting K) → List Slot → List K
-  keys_in waiting [] = []
-  keys_in waiting (s ∷ slots) = with_key (value_at nat_cmp waiting s.place) (keys_in waiting slots)
+  -- the first from the place on of those that wait for such a value
+  abbrev pub IsFirstFrom : (Option ℕ → Bool) → ℕ → List (ℕ × Waiting K) → Option (ℕ × Waiting K) → Type 0
+  IsFirstFrom test place waiting None = (p : ℕ) (w : Waiting K) → value_at nat_cmp waiting p ≡ Some w → place ≤ p → test w.value ≡ false
+  IsFirstFrom test place waiting (Some e) =
+      (place ≤ e.0) × (value_at nat_cmp waiting e.0 ≡ Some e.1) × ((p : ℕ) (w : Waiting K) → value_at nat_cmp waiting p ≡ Some w → place ≤ p → test w.value ≡ true → e.0 ≤ p)
 
--- the slots up to the first of another value
-abbrev pub of_value : Option ℕ → List Slot → List Slot
-of_value value [] = []
-of_value value (s ∷ slots) = cond (option_eq nat_eq s.value value) (s ∷ of_value value slots) []
+abbrev pub withdraws : Option ℕ → Bool
+withdraws value = not (is_some value)
+
+abbrev pub announces : Option ℕ → Bool
+announces value = is_some value

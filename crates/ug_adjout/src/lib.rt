@@ -5,20 +5,23 @@ mod adj_out;
 mod after;
 mod copied;
 mod desired;
+mod first;
+mod kept;
 mod line;
 mod marked;
 mod out_key;
-mod places;
 mod row;
 mod rows;
 mod slot;
 mod table;
+mod v4_key;
 mod waiting;
 
 pub use adj_out::AdjOut;
 pub use desired::Desired;
 pub use marked::Marked;
 pub use out_key::OutKey;
+pub use v4_key::V4Key;
 
 #[cfg(test)]
 mod tests;

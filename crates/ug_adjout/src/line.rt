@@ -3,37 +3,41 @@ ghost use Rattle.std.specs.Prelude.{◌≡◌, ◌<◌, ◌^◌, [], length, OnO
 ghost use Rattle.std.specs.Map.{remove_entry};
 ghost use Rattle.std.specs.Ordering.{nat_cmp};
 ghost use Rattle.std.specs.BTreeMap.{insert_entry, is_at};
+ghost use Rattle.ug_pending.specs.Tables.{value_at, with_value};
 ghost use Rattle.ug_pending.specs.Formatting.{fitting};
 ghost use Rattle.ug_adjout.specs.Waits.{keys_for, first_announced, from_place};
+ghost use Rattle.ug_adjout.specs.Places.{IsFirstFrom, withdraws, announces};
 
+use crate::copied::copied;
+use crate::first::first_from;
 use crate::out_key::OutKey;
-use crate::places::Places;
 use crate::slot::Slot;
 use crate::waiting::Waiting;
 use std::alloc::Global;
-use std::collections::BTreeSet;
+use std::collections::BTreeMap;
 use std::marker::Model;
 use std::ops::Bound;
 use ug_intern::AttrId;
 use ug_types::{KeyList, NoMemory, Sequence};
 
-/// The waiting keys by their places, and their places by what they wait for.
+/// The waiting keys by what they wait for and then by their places, and beside them the values of those that wait for an
+/// announcement, by place, so that the first of these is found at once. Contracts see what waits, by place.
 #[derive(Drop)]
 pub struct Line<K> {
-    places: Places<K>,
-    slots: BTreeSet<Slot>,
+    keys: BTreeMap<Slot, K>,
+    announced: BTreeMap<u32, AttrId>,
 }
 
 impl<K> Model for Line<K> {
     ghost use Rattle.std.specs.Prelude.{List, ℕ};
     ghost use Rattle.ug_adjout.specs.declared.waiting.Waiting.{Waiting as Waits};
-    ghost use Rattle.ug_adjout.specs.Places.{IsIndexed};
+    ghost use Rattle.ug_adjout.specs.Places.{by_place, IsLine};
 
     ghost Value = { List (ℕ × Waits K) };
 
-    ghost view = { λ l. l.places };
+    ghost view = { λ l. by_place l.keys.entries };
 
-    ghost invariant = { λ l. IsIndexed l.slots.keys l.places };
+    ghost invariant = { λ l. IsLine l.keys.entries l.announced.entries };
 }
 
 impl<K: OutKey> Line<K> {
@@ -41,8 +45,8 @@ impl<K: OutKey> Line<K> {
         ensures { result ≡ [] }
     {
         Line {
-            places: Places::new(alloc),
-            slots: BTreeSet::new(alloc),
+            keys: BTreeMap::new(alloc),
+            announced: BTreeMap::new(alloc),
         }
     }
 
@@ -50,13 +54,9 @@ impl<K: OutKey> Line<K> {
     pub fn copy(&self, alloc: Global) -> Result<Line<K>, NoMemory>
         ensures { IfOk result (λ copy. copy ≡ self.now) }
     {
-        let mut slots = BTreeSet::new(alloc);
-        for slot in self.slots.iter() {
-            slots.insert(*slot)?;
-        }
         Ok(Line {
-            places: self.places.copy(alloc)?,
-            slots,
+            keys: copied(alloc, &self.keys)?,
+            announced: copied(alloc, &self.announced)?,
         })
     }
 
@@ -65,58 +65,70 @@ impl<K: OutKey> Line<K> {
         ensures len { result ≡ length self.now }
         ensures small { result < 2 ^ 63 }
     {
-        self.places.len()
+        self.keys.len()
     }
 
-    /// The first place from this one on at which something waits, and what waits there.
-    pub fn first_from(&self, place: u64) -> Option<(u64, Waiting<K>)>
-        ensures { result ≡ slice_get (from_place place self.now) 0 }
-    {
-        self.places.first_from(place)
-    }
-
-    /// This waits at the place now. Want of memory changes nothing.
-    pub fn put(&mut self, place: u64, waiting: Waiting<K>) -> Result<(), NoMemory>
+    /// This waits at the place from now on, where nothing does. Want of memory changes nothing.
+    pub fn add(&mut self, place: u32, waiting: Waiting<K>) -> Result<(), NoMemory>
+        requires { value_at nat_cmp self.old place ≡ None }
         ensures ok { OnOk result (self.new ≡ insert_entry nat_cmp self.old place waiting) }
         ensures err { OnErr result (self.new ≡ self.old) }
     {
-        let was = self.places.at(place);
         let slot = Slot {
             value: waiting.value,
             place,
         };
-        let added = self.slots.insert(slot)?;
-        let Ok(()) = self.places.put(place, waiting) else {
-            if added {
-                self.slots.remove(&slot);
-            }
+        self.keys.insert(slot, waiting.key)?;
+        let Some(id) = waiting.value else {
+            return Ok(());
+        };
+        let Ok(_) = self.announced.insert(place, id) else {
+            self.keys.remove(&slot);
             return Err(NoMemory);
         };
-        let Some(was) = was else {
-            return Ok(());
-        };
-        if was.value == waiting.value {
+        Ok(())
+    }
+
+    /// What waits at the place waits for this value now. Want of memory changes nothing.
+    pub fn change(
+        &mut self,
+        place: u32,
+        was: Waiting<K>,
+        value: Option<AttrId>,
+    ) -> Result<(), NoMemory>
+        requires { value_at nat_cmp self.old place ≡ Some was }
+        ensures ok { OnOk result (self.new ≡ insert_entry nat_cmp self.old place (record { key = was.key; value = value })) }
+        ensures err { OnErr result (self.new ≡ self.old) }
+    {
+        let _len = self.keys.len();
+        if was.value == value {
             return Ok(());
         }
-        self.slots.remove(&Slot {
+        let slot = Slot { value, place };
+        self.keys.insert(slot, was.key)?;
+        let Ok(()) = announce(&mut self.announced, place, value) else {
+            self.keys.remove(&slot);
+            return Err(NoMemory);
+        };
+        self.keys.remove(&Slot {
             value: was.value,
             place,
         });
         Ok(())
     }
 
-    /// Nothing waits at the place now.
-    pub fn remove(&mut self, place: u64)
+    /// What waits at the place waits no more.
+    pub fn remove(&mut self, place: u32, was: Waiting<K>)
+        requires { value_at nat_cmp self.old place ≡ Some was }
         ensures { self.new ≡ remove_entry (is_at (nat_cmp place)) self.old }
     {
-        let Some(was) = self.places.at(place) else {
-            return;
-        };
-        self.places.remove(place);
-        self.slots.remove(&Slot {
+        self.keys.remove(&Slot {
             value: was.value,
             place,
         });
+        if was.value.is_some() {
+            self.announced.remove(&place);
+        }
     }
 
     /// The first keys that wait for this value, or for their withdrawal, as many as have room.
@@ -131,19 +143,16 @@ impl<K: OutKey> Line<K> {
         let mut keys = Sequence::new(alloc);
         let mut left = room;
         let start = Slot { value, place: 0 };
-        for slot in self.slots.range((Bound::Included(start), Bound::Unbounded)) {
+        for (slot, key) in self.keys.range((Bound::Included(start), Bound::Unbounded)) {
             if slot.value != value {
                 break;
             }
-            let Some(waiting) = self.places.at(slot.place) else {
-                continue;
-            };
-            let weight = waiting.key.weight();
+            let weight = key.weight();
             if weight > left {
                 break;
             }
             left -= weight;
-            let Ok(()) = keys.push(waiting.key) else {
+            let Ok(()) = keys.push(*key) else {
                 return Err(NoMemory);
             };
         }
@@ -155,21 +164,99 @@ impl<K: OutKey> Line<K> {
         ensures { result ≡ slice_get (keys_for value self.now) 0 }
     {
         let start = Slot { value, place: 0 };
-        for slot in self.slots.range((Bound::Included(start), Bound::Unbounded)) {
-            if value != slot.value {
-                return None;
-            }
-            if let Some(waiting) = self.places.at(slot.place) {
-                return Some(waiting.key);
-            }
+        let bounds = (Bound::Included(start), Bound::Unbounded);
+        let Some((slot, key)) = self.keys.range(bounds).next() else {
+            return None;
+        };
+        if slot.value != value {
+            return None;
         }
-        None
+        Some(*key)
     }
 
     /// The value of the first announcement that waits.
     pub fn first_value(&self) -> Option<AttrId>
         ensures { result ≡ first_announced self.now }
     {
-        self.places.first_value()
+        match self.announced.first_key_value() {
+            Some((_, id)) => Some(*id),
+            None => None,
+        }
     }
+
+    /// The first withdrawal that waits from this place on.
+    fn withdrawal_from(&self, place: u32) -> Option<(u32, Waiting<K>)>
+        ensures { IsFirstFrom withdraws place self.now result }
+    {
+        let start = Slot { value: None, place };
+        let Some((slot, key)) = first_from(&self.keys, start) else {
+            return None;
+        };
+        if slot.value.is_some() {
+            return None;
+        }
+        let waiting = Waiting {
+            key: *key,
+            value: None,
+        };
+        Some((slot.place, waiting))
+    }
+
+    /// The first announcement that waits from this place on.
+    fn announcement_from(&self, place: u32) -> Option<(u32, Waiting<K>)>
+        ensures { IsFirstFrom announces place self.now result }
+    {
+        let Some((at, id)) = first_from(&self.announced, place) else {
+            return None;
+        };
+        let slot = Slot {
+            value: Some(*id),
+            place: *at,
+        };
+        let Some(key) = self.keys.get(&slot) else {
+            unreachable!()
+        };
+        let waiting = Waiting {
+            key: *key,
+            value: Some(*id),
+        };
+        Some((*at, waiting))
+    }
+
+    /// The first place from this one on at which something waits, and what waits there.
+    pub fn first_from(&self, place: u32) -> Option<(u32, Waiting<K>)>
+        ensures { result ≡ slice_get (from_place place self.now) 0 }
+    {
+        let _len = self.keys.len();
+        let Some(withdrawal) = self.withdrawal_from(place) else {
+            return self.announcement_from(place);
+        };
+        let Some(announcement) = self.announcement_from(place) else {
+            return Some(withdrawal);
+        };
+        if withdrawal.0 < announcement.0 {
+            return Some(withdrawal);
+        }
+        Some(announcement)
+    }
+}
+
+/// This value, or none, stands at the place now. Want of memory changes nothing.
+fn announce(
+    values: &mut BTreeMap<u32, AttrId>,
+    place: u32,
+    value: Option<AttrId>,
+) -> Result<(), NoMemory>
+    ensures ok { OnOk result (values.new.entries ≡ with_value nat_cmp values.old.entries place value) }
+    ensures err { OnErr result (values.new.entries ≡ values.old.entries) }
+{
+    match value {
+        Some(id) => {
+            values.insert(place, id)?;
+        }
+        None => {
+            values.remove(&place);
+        }
+    }
+    Ok(())
 }

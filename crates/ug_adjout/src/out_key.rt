@@ -2,6 +2,7 @@ ghost use Rattle.std.specs.Prelude.{◌≡◌};
 ghost use Rattle.std.specs.declared.cmp.Ordering.TheVariants.{Equal};
 ghost use Rattle.ug_adjout.specs.Keys.{same_keys};
 
+use crate::v4_key::V4Key;
 use ug_types::{Key, Weighed};
 
 /// A key of routes: keys that are equal in their order are the same.
@@ -10,5 +11,9 @@ pub trait OutKey: Copy + Ord + Weighed + Drop {
 }
 
 impl OutKey for Key {
+    ghost exact = { same_keys };
+}
+
+impl OutKey for V4Key {
     ghost exact = { same_keys };
 }

@@ -6,7 +6,7 @@ use ug_intern::AttrId;
 /// That a packet is owed for a key: its place in the list, and the value that it shall have, or that it is to be withdrawn.
 #[derive(Clone, Copy, Drop)]
 pub struct Change {
-    pub place: u64,
+    pub place: u32,
     pub desired: Option<AttrId>,
 }
 

@@ -6,6 +6,7 @@ ghost use Rattle.ug_pending.specs.Tables.{value_at, IsTable};
 ghost use Rattle.ug_adjout.specs.Stored.{projected, formatted_of, mark_of, of_row};
 
 use crate::copied::copied;
+use crate::kept::Kept;
 use crate::row::Row;
 use std::alloc::Global;
 use std::collections::BTreeMap;
@@ -15,7 +16,7 @@ use ug_types::{KeyList, NoMemory, Sequence};
 /// The rows by key, and how many of them are of formatted and how many of forced keys.
 #[derive(Drop)]
 pub struct Rows<K: Ord> {
-    rows: BTreeMap<K, Row>,
+    rows: BTreeMap<K, Kept>,
     formatted: usize,
     forced: usize,
 }
@@ -55,7 +56,7 @@ impl<K: Ord + Copy + Drop> Rows<K> {
     }
 
     /// The rows as a map.
-    pub fn as_map(&self) -> &BTreeMap<K, Row>
+    pub fn as_map(&self) -> &BTreeMap<K, Kept>
         ensures { result.now.entries ≡ self.now }
     {
         &self.rows
@@ -79,7 +80,7 @@ impl<K: Ord + Copy + Drop> Rows<K> {
         ensures { result ≡ value_at K.cmp self.now key.now }
     {
         match self.rows.get(key) {
-            Some(row) => Some(*row),
+            Some(kept) => Some(kept.row()),
             None => None,
         }
     }
@@ -105,9 +106,9 @@ impl<K: Ord + Copy + Drop> Rows<K> {
         ensures err { OnErr result (self.new ≡ self.old) }
     {
         let _len = self.rows.len();
-        let old = self.rows.insert(key, row)?;
-        self.formatted = recounted(self.formatted, is_formatted(old), row.formatted.is_some());
-        self.forced = recounted(self.forced, is_forced(old), row.forced);
+        let old = self.rows.insert(key, Kept::of(row))?;
+        self.formatted = recounted(self.formatted, is_formatted(&old), row.formatted.is_some());
+        self.forced = recounted(self.forced, is_forced(&old), row.forced);
         Ok(())
     }
 
@@ -117,8 +118,8 @@ impl<K: Ord + Copy + Drop> Rows<K> {
     {
         let _len = self.rows.len();
         let old = self.rows.remove(key);
-        self.formatted = recounted(self.formatted, is_formatted(old), false);
-        self.forced = recounted(self.forced, is_forced(old), false);
+        self.formatted = recounted(self.formatted, is_formatted(&old), false);
+        self.forced = recounted(self.forced, is_forced(&old), false);
     }
 }
 
@@ -135,21 +136,21 @@ fn recounted(count: usize, old: bool, new: bool) -> usize
 }
 
 /// Whether there is a row of a formatted key.
-fn is_formatted(row: Option<Row>) -> bool
-    ensures { result ≡ is_some (of_row formatted_of row) }
+fn is_formatted(kept: &Option<Kept>) -> bool
+    ensures { result ≡ is_some (of_row formatted_of kept.now) }
 {
-    match row {
-        Some(row) => row.formatted.is_some(),
+    match kept {
+        Some(kept) => kept.row().formatted.is_some(),
         None => false,
     }
 }
 
 /// Whether there is a row of a forced key.
-fn is_forced(row: Option<Row>) -> bool
-    ensures { result ≡ is_some (of_row mark_of row) }
+fn is_forced(kept: &Option<Kept>) -> bool
+    ensures { result ≡ is_some (of_row mark_of kept.now) }
 {
-    match row {
-        Some(row) => row.forced,
+    match kept {
+        Some(kept) => kept.row().forced,
         None => false,
     }
 }

@@ -5,5 +5,5 @@ use ug_intern::AttrId;
 #[derive(Clone, Copy, Debug, PartialEq, Eq, PartialOrd, Ord)]
 pub struct Slot {
     pub value: Option<AttrId>,
-    pub place: u64,
+    pub place: u32,
 }

@@ -29,7 +29,7 @@ use ug_types::{KeyList, NoMemory, Sequence};
 pub struct Table<K: OutKey> {
     rows: Rows<K>,
     line: Line<K>,
-    next: u64,
+    next: u32,
 }
 
 impl<K: OutKey> Model for Table<K> {
@@ -72,26 +72,24 @@ impl<K: OutKey> Table<K> {
     fn begin(&mut self, key: K, row: Row, desired: Option<AttrId>) -> Result<(), NoMemory>
         requires free { IsFree (value_at K.cmp self.old.rows key) }
         requires owed { is_owed row.formatted desired row.forced ≡ true }
-        requires numbered { self.old.next + 1 < 2 ^ 64 }
+        requires numbered { self.old.next + 1 < 2 ^ 32 }
         ensures rows { OnOk result (self.new.rows ≡ insert_entry K.cmp self.old.rows key (with_change row self.old.next desired)) }
         ensures waiting { OnOk result (self.new.waiting ≡ insert_entry nat_cmp self.old.waiting self.old.next (record { key = key; value = desired })) }
         ensures err { OnErr result (self.new ≡ self.old) }
     {
         let place = self.next;
-        self.line.put(
-            place,
-            Waiting {
-                key,
-                value: desired,
-            },
-        )?;
+        let waiting = Waiting {
+            key,
+            value: desired,
+        };
+        self.line.add(place, waiting)?;
         let row = Row {
             formatted: row.formatted,
             forced: row.forced,
             change: Some(Change { place, desired }),
         };
         let Ok(_) = self.rows.insert(key, row) else {
-            self.line.remove(place);
+            self.line.remove(place, waiting);
             return Err(NoMemory);
         };
         self.next += 1;
@@ -113,13 +111,11 @@ impl<K: OutKey> Table<K> {
         ensures waiting { OnOk result (self.new.waiting ≡ insert_entry nat_cmp self.old.waiting change.place (record { key = key; value = desired })) }
         ensures err { OnErr result (self.new ≡ self.old) }
     {
-        self.line.put(
-            change.place,
-            Waiting {
-                key,
-                value: desired,
-            },
-        )?;
+        let was = Waiting {
+            key,
+            value: change.desired,
+        };
+        self.line.change(change.place, was, desired)?;
         let row = Row {
             formatted: row.formatted,
             forced: row.forced,
@@ -141,7 +137,11 @@ impl<K: OutKey> Table<K> {
         ensures rows { self.new.rows ≡ with_value K.cmp self.old.rows key (quiet formatted) }
         ensures waiting { self.new.waiting ≡ remove_entry (is_at (nat_cmp change.place)) self.old.waiting }
     {
-        self.line.remove(change.place);
+        let was = Waiting {
+            key,
+            value: change.desired,
+        };
+        self.line.remove(change.place, was);
         if formatted.is_none() {
             self.rows.remove(&key);
             return;
@@ -158,7 +158,7 @@ impl<K: OutKey> Table<K> {
 
     /// The first of those that wait from this place on waits at the place now. Its key and its order stay. Want of memory
     /// changes nothing.
-    fn bring(&mut self, place: u64) -> Result<(), NoMemory>
+    fn bring(&mut self, place: u32) -> Result<(), NoMemory>
         requires { 0 < length (from_place place self.old.waiting) }
         ensures same { adj_of self.new.rows self.new.waiting ≡ adj_of self.old.rows self.old.waiting }
         ensures passed { OnOk result (length (from_place (place + 1) self.new.waiting) + 1 ≡ length (from_place place self.old.waiting)) }
@@ -173,7 +173,7 @@ impl<K: OutKey> Table<K> {
         let Some(row) = self.rows.row(&waiting.key) else {
             unreachable!()
         };
-        self.line.put(place, waiting)?;
+        self.line.add(place, waiting)?;
         let moved = Row {
             formatted: row.formatted,
             forced: row.forced,
@@ -185,17 +185,21 @@ impl<K: OutKey> Table<K> {
         let Ok(_) = self.rows.insert(waiting.key, moved) else {
             unreachable!()
         };
-        self.line.remove(was);
+        self.line.remove(was, waiting);
         Ok(())
     }
 
     /// All that wait are numbered anew from 0, in their order. After want of memory some are.
     fn renumber(&mut self) -> Result<(), NoMemory>
         ensures same { adj_of self.new.rows self.new.waiting ≡ adj_of self.old.rows self.old.waiting }
-        ensures room { OnOk result (self.new.next + 1 < 2 ^ 64) }
+        ensures room { OnOk result (self.new.next + 1 < 2 ^ 32) }
     {
         let _next = self.next;
-        let waiting = self.line.len() as u64;
+        let waiting = self.line.len();
+        if waiting >= u32::MAX as usize {
+            return Err(NoMemory);
+        }
+        let waiting = waiting as u32;
         for place in 0..waiting {
             self.bring(place)?;
         }
@@ -206,10 +210,10 @@ impl<K: OutKey> Table<K> {
     /// There is a place behind all others now: where their numbers have come to the end, they are numbered anew.
     fn make_room(&mut self) -> Result<(), NoMemory>
         ensures same { adj_of self.new.rows self.new.waiting ≡ adj_of self.old.rows self.old.waiting }
-        ensures room { OnOk result (self.new.next + 1 < 2 ^ 64) }
+        ensures room { OnOk result (self.new.next + 1 < 2 ^ 32) }
     {
         let next = self.next;
-        if next == u64::MAX {
+        if next == u32::MAX {
             self.renumber()?;
         }
         Ok(())
@@ -227,7 +231,7 @@ impl<K: OutKey> Table<K> {
 
     /// The same where there is a place for the key.
     fn want_numbered(&mut self, key: K, desired: Option<AttrId>) -> Result<Option<AttrId>, NoMemory>
-        requires { self.old.next + 1 < 2 ^ 64 }
+        requires { self.old.next + 1 < 2 ^ 32 }
         ensures was { IfOk result (λ was. was ≡ value_at K.cmp (adj_of self.old.rows self.old.waiting).desired key) }
         ensures ok { OnOk result (adj_of self.new.rows self.new.waiting ≡ with_desired K.cmp nat_eq (adj_of self.old.rows self.old.waiting) key desired) }
         ensures err { OnErr result (self.new ≡ self.old) }
@@ -254,7 +258,7 @@ impl<K: OutKey> Table<K> {
     /// The same of a key without a row.
     fn want_first(&mut self, key: K, desired: Option<AttrId>) -> Result<(), NoMemory>
         requires absent { value_at K.cmp self.old.rows key ≡ None }
-        requires numbered { self.old.next + 1 < 2 ^ 64 }
+        requires numbered { self.old.next + 1 < 2 ^ 32 }
         ensures ok { OnOk result (adj_of self.new.rows self.new.waiting ≡ with_desired K.cmp nat_eq (adj_of self.old.rows self.old.waiting) key desired) }
         ensures err { OnErr result (self.new ≡ self.old) }
     {
@@ -277,7 +281,7 @@ impl<K: OutKey> Table<K> {
     fn want_idle(&mut self, key: K, row: Row, desired: Option<AttrId>) -> Result<(), NoMemory>
         requires row { value_at K.cmp self.old.rows key ≡ Some row }
         requires idle { row.change ≡ None }
-        requires numbered { self.old.next + 1 < 2 ^ 64 }
+        requires numbered { self.old.next + 1 < 2 ^ 32 }
         ensures ok { OnOk result (adj_of self.new.rows self.new.waiting ≡ with_desired K.cmp nat_eq (adj_of self.old.rows self.old.waiting) key desired) }
         ensures err { OnErr result (self.new ≡ self.old) }
     {
@@ -365,7 +369,7 @@ impl<K: OutKey> Table<K> {
     /// The key is forced, which has a row. Want of memory changes nothing.
     fn force(&mut self, key: K) -> Result<(), NoMemory>
         requires shown { IsShown K.cmp (adj_of self.old.rows self.old.waiting) key }
-        requires numbered { self.old.next + 1 < 2 ^ 64 }
+        requires numbered { self.old.next + 1 < 2 ^ 32 }
         ensures ok { OnOk result (adj_of self.new.rows self.new.waiting ≡ with_one_forced K.cmp (adj_of self.old.rows self.old.waiting) key) }
     {
         let _next = self.next;

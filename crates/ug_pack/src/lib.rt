@@ -6,12 +6,14 @@ mod built;
 mod laws;
 mod next;
 mod rooms;
+mod routes;
 mod texts;
 mod whole;
 
 pub use built::Built;
 pub use laws::ready_laws;
 pub use next::build;
+pub use routes::Routes;
 pub use whole::{build_eor, build_mark};
 
 #[cfg(test)]

@@ -10,10 +10,10 @@ ghost use Rattle.ug_pack.specs.Packets.{IsWithdrawal, IsAnnouncement, next_due, 
 
 use crate::built::Built;
 use crate::rooms::{room, room_beside};
+use crate::routes::Routes;
 use crate::texts::{announcement, withdrawal};
 use crate::whole::plain;
 use std::alloc::Global;
-use ug_adjout::AdjOut;
 use ug_intern::Pool;
 use ug_rewrite::Packet;
 use ug_types::{Family, Key, NoMemory, OutAttrs};
@@ -21,17 +21,17 @@ use ug_types::{Family, Key, NoMemory, OutAttrs};
 /// The packet that is owed next, in messages of so many bytes, and its keys; None exactly where nothing is pending.
 /// Withdrawals come first, as many as fit, in the order in which they wait. Else it is the first pending key and those
 /// after it of equal attributes, until one doesn't fit.
-pub fn build(
+pub fn build<R: Routes>(
     alloc: Global,
-    adj: &AdjOut<Key>,
+    adj: &R,
     pool: &Pool<OutAttrs>,
     limit: usize,
 ) -> Result<Option<Built>, NoMemory>
     requires least { 4096 ≤ limit }
     requires most { limit ≤ 65535 }
-    requires ready { (family : families.Family) × (add_path : Bool) × IsReady family add_path pool.now adj.now }
-    ensures built { IfOk result (λ built. (family : families.Family) (add_path : Bool) → IsReady family add_path pool.now adj.now →
-        IsBuilt pool.now limit family (next_due pool.now limit family adj.now) built) }
+    requires ready { (family : families.Family) × (add_path : Bool) × IsReady family add_path pool.now (R.adj adj.now) }
+    ensures built { IfOk result (λ built. (family : families.Family) (add_path : Bool) → IsReady family add_path pool.now (R.adj adj.now) →
+        IsBuilt pool.now limit family (next_due pool.now limit family (R.adj adj.now)) built) }
 {
     match adj.first_withdrawal() {
         Some(first) => {
@@ -43,18 +43,18 @@ pub fn build(
 }
 
 /// The same where no withdrawal is pending.
-fn next_announcement(
+fn next_announcement<R: Routes>(
     alloc: Global,
-    adj: &AdjOut<Key>,
+    adj: &R,
     pool: &Pool<OutAttrs>,
     limit: usize,
 ) -> Result<Option<Built>, NoMemory>
     requires least { 4096 ≤ limit }
     requires most { limit ≤ 65535 }
-    requires ready { (family : families.Family) × (add_path : Bool) × IsReady family add_path pool.now adj.now }
-    requires none { slice_get (withdrawals key_order adj.now) 0 ≡ None }
-    ensures built { IfOk result (λ built. (family : families.Family) (add_path : Bool) → IsReady family add_path pool.now adj.now →
-        IsBuilt pool.now limit family (next_due pool.now limit family adj.now) built) }
+    requires ready { (family : families.Family) × (add_path : Bool) × IsReady family add_path pool.now (R.adj adj.now) }
+    requires none { slice_get (withdrawals key_order (R.adj adj.now)) 0 ≡ None }
+    ensures built { IfOk result (λ built. (family : families.Family) (add_path : Bool) → IsReady family add_path pool.now (R.adj adj.now) →
+        IsBuilt pool.now limit family (next_due pool.now limit family (R.adj adj.now)) built) }
 {
     let Some((first, id)) = adj.first_announcement() else {
         return Ok(None);
@@ -65,46 +65,46 @@ fn next_announcement(
 }
 
 /// The packet that withdraws the first pending keys that are to be withdrawn.
-fn withdrawing(
+fn withdrawing<R: Routes>(
     alloc: Global,
-    adj: &AdjOut<Key>,
+    adj: &R,
     limit: usize,
     first: &Key,
 ) -> Result<Built, NoMemory>
     requires least { 4096 ≤ limit }
     requires most { limit ≤ 65535 }
-    requires first { slice_get (withdrawals key_order adj.now) 0 ≡ Some first.now }
-    requires keys { (add_path : Bool) × ((q : keys.Key) → has key_order adj.now.pending q ≡ true → IsKeyOf first.now.prefix.family add_path q) }
-    ensures keys { IfOk result (λ b. b.keys.items ≡ fitting weight_of (room first.now.prefix.family limit) (withdrawals key_order adj.now)) }
+    requires first { slice_get (withdrawals key_order (R.adj adj.now)) 0 ≡ Some first.now }
+    requires keys { (add_path : Bool) × ((q : keys.Key) → has key_order (R.adj adj.now).pending q ≡ true → IsKeyOf first.now.prefix.family add_path q) }
+    ensures keys { IfOk result (λ b. b.keys.items ≡ fitting weight_of (room first.now.prefix.family limit) (withdrawals key_order (R.adj adj.now))) }
     ensures packet { IfOk result (λ b. IsWithdrawal first.now.prefix.family limit b.keys.items b.packet) }
 {
     let family = family_of(first);
     know_weight(first);
-    let keys = adj.first_withdrawals(room(family, limit))?;
+    let keys = adj.first_withdrawals(alloc, room(family, limit))?;
     let bytes = withdrawal(alloc, family, limit, keys.as_slice())?;
     let packet = plain(alloc, family, bytes);
     Ok(Built { packet, keys })
 }
 
 /// The packet that announces the first pending key that is to be announced, and those of its attributes.
-fn announcing(
+fn announcing<R: Routes>(
     alloc: Global,
-    adj: &AdjOut<Key>,
+    adj: &R,
     limit: usize,
     first: &Key,
     out: &OutAttrs,
 ) -> Result<Built, NoMemory>
     requires least { 4096 ≤ limit }
     requires most { limit ≤ 65535 }
-    requires first { slice_get (alike key_order nat_eq adj.now) 0 ≡ Some first.now }
-    requires keys { (add_path : Bool) × ((q : keys.Key) → has key_order adj.now.pending q ≡ true → IsKeyOf first.now.prefix.family add_path q) }
+    requires first { slice_get (alike key_order nat_eq (R.adj adj.now)) 0 ≡ Some first.now }
+    requires keys { (add_path : Bool) × ((q : keys.Key) → has key_order (R.adj adj.now).pending q ≡ true → IsKeyOf first.now.prefix.family add_path q) }
     requires sendable { IsSendable first.now.prefix.family out.now.attrs }
-    ensures keys { IfOk result (λ b. b.keys.items ≡ fitting weight_of (room_beside first.now.prefix.family limit out.now.attrs) (alike key_order nat_eq adj.now)) }
+    ensures keys { IfOk result (λ b. b.keys.items ≡ fitting weight_of (room_beside first.now.prefix.family limit out.now.attrs) (alike key_order nat_eq (R.adj adj.now))) }
     ensures packet { IfOk result (λ b. IsAnnouncement first.now.prefix.family limit b.keys.items out.now b.packet) }
 {
     let family = family_of(first);
     know_weight(first);
-    let keys = adj.first_alike(room_beside(family, limit, &out.attrs))?;
+    let keys = adj.first_alike(alloc, room_beside(family, limit, &out.attrs))?;
     let written = announcement(alloc, family, limit, &out.attrs, keys.as_slice())?;
     let packet = Packet {
         alloc,

@@ -12,26 +12,26 @@ use Rattle.ug_pack.proofs.Owed.{alike_all}
 use Rattle.ug_pack.proofs.Runs.{IsRun, run}
 use Rattle.ug_pack.proofs.next.announcing.Goals as goal
 
-the_run : (c : goal.After-as_slice) → IsRun c.args.first.now.prefix.family (room_beside c.args.first.now.prefix.family c.args.limit c.args.out.now.attrs) c.as_slice.result.now
-the_run c =
+the_run : (g : _) (c : goal.After-as_slice g) → IsRun c.args.first.now.prefix.family (room_beside c.args.first.now.prefix.family c.args.limit c.args.out.now.attrs) c.as_slice.result.now
+the_run g c =
     let first = c.args.first.now in
     let attrs = c.args.out.now.attrs in
-    let keys = alike key_order nat_eq c.args.adj.now in
+    let keys = alike key_order nat_eq (g.R.Routes.adj c.args.adj.now) in
     run first.prefix.family c.requires.keys.0 keys c.as_slice.result.now (room_beside first.prefix.family c.args.limit attrs) first
     (c.as_slice.ensures ∙ c.in_ok-keys.ensures ∙ ap (λ (n : ℕ). fitting weight_of n keys) (c.room_beside.ensures ∙ ap (λ (f : Family). room_beside f c.args.limit attrs) c.family_of-family.ensures))
     c.requires.first c.know_weight.ensures (beside_least first.prefix.family c.args.limit attrs c.requires.least c.requires.sendable.short)
-    (alike_all key_total key_exact c.args.adj.now (IsKeyOf first.prefix.family c.requires.keys.0) c.requires.keys.1)
+    (alike_all key_total key_exact (g.R.Routes.adj c.args.adj.now) (IsKeyOf first.prefix.family c.requires.keys.0) c.requires.keys.1)
 
 pub announcement-requires-clause-some : goal.announcement-requires-clause-some
-announcement-requires-clause-some c = (the_run c).some
+announcement-requires-clause-some g c = (the_run g c).some
 
 pub announcement-requires-clause-alike : goal.announcement-requires-clause-alike
-announcement-requires-clause-alike c = (the_run c).alike
+announcement-requires-clause-alike g c = (the_run g c).alike
 
 pub announcement-requires-clause-family : goal.announcement-requires-clause-family
-announcement-requires-clause-family c = ap (λ (f : Family). are_of_family f c.as_slice.result.now) c.family_of-family.ensures ∙ (the_run c).of_family
+announcement-requires-clause-family g c = ap (λ (f : Family). are_of_family f c.as_slice.result.now) c.family_of-family.ensures ∙ (the_run g c).of_family
 
 pub announcement-requires-clause-short : goal.announcement-requires-clause-short
-announcement-requires-clause-short c =
+announcement-requires-clause-short g c =
     subst (λ (f : Family). announcement_bytes f c.args.out.now.attrs (weight_of_all c.as_slice.result.now) ≤ c.args.limit) (sym c.family_of-family.ensures)
-    (beside_fits c.args.first.now.prefix.family c.args.limit c.args.out.now.attrs (weight_of_all c.as_slice.result.now) c.requires.least c.requires.sendable.short (the_run c).fits)
+    (beside_fits c.args.first.now.prefix.family c.args.limit c.args.out.now.attrs (weight_of_all c.as_slice.result.now) c.requires.least c.requires.sendable.short (the_run g c).fits)

@@ -12,15 +12,15 @@ use Rattle.ug_pack.proofs.Owed.{withdrawn_first, withdraws}
 use Rattle.ug_pack.proofs.next.build.Goals as goal
 
 pub withdrawing-requires-clause-keys : goal.withdrawing-requires-clause-keys
-withdrawing-requires-clause-keys c =
+withdrawing-requires-clause-keys g c =
     let ready = c.requires.ready.2 in
-    let first = withdrawn_first key_total key_exact c.args.adj.now (IsKeyOf c.requires.ready.0 c.requires.ready.1) ready.keys c.in-Some.first (sym c.in-Some.ensures) in
+    let first = withdrawn_first key_total key_exact (g.R.Routes.adj c.args.adj.now) (IsKeyOf c.requires.ready.0 c.requires.ready.1) ready.keys c.in-Some.first (sym c.in-Some.ensures) in
     (c.requires.ready.1, λ q h. subst (λ (f : Family). IsKeyOf f c.requires.ready.1 q) (sym first.family_is) (ready.keys q h))
 
 pub returns-in_ok-built-in-Some : goal.returns-in_ok-built-in-Some
-returns-in_ok-built-in-Some c = record {
+returns-in_ok-built-in-Some g c = record {
   built = λ family add_path ready.
-      let adj = c.args.adj.now in
+      let adj = (g.R.Routes.adj c.args.adj.now) in
       let limit = c.args.limit in
       let built = c.in_ok-built-in-Some.built in
       let keys = withdrawals key_order adj in

@@ -32,27 +32,27 @@ sent : (family : Family) (h : Option (Held OutAttrs)) (out : OutAttrs) → IsLiv
 sent family h out is value = subst (λ (o : OutAttrs). IsSendable family o.attrs) (same is.value.value out (sym (ap value_of is.is) ∙ value)) is.sendable
 
 pub get-out-requires : goal.get-out-requires
-get-out-requires c =
-    ap is_some (live c.requires.ready.0 c.requires.ready.1 c.args.pool.now c.args.adj.now c.in-Some.first c.in-Some.id c.requires.ready.2 c.in-Some.ensures.key c.in-Some.ensures.value).is
+get-out-requires g c =
+    ap is_some (live c.requires.ready.0 c.requires.ready.1 c.args.pool.now (g.R.Routes.adj c.args.adj.now) c.in-Some.first c.in-Some.id c.requires.ready.2 c.in-Some.ensures.key c.in-Some.ensures.value).is
 
 pub announcing-requires-clause-keys : goal.announcing-requires-clause-keys
-announcing-requires-clause-keys c =
+announcing-requires-clause-keys g c =
     let ready = c.requires.ready.2 in
-    let is = family_of c.requires.ready.0 c.requires.ready.1 c.args.pool.now c.args.adj.now c.in-Some.first ready c.in-Some.ensures.key in
+    let is = family_of c.requires.ready.0 c.requires.ready.1 c.args.pool.now (g.R.Routes.adj c.args.adj.now) c.in-Some.first ready c.in-Some.ensures.key in
     (c.requires.ready.1, λ q h. subst (λ (f : Family). IsKeyOf f c.requires.ready.1 q) (sym is) (ready.keys q h))
 
 pub announcing-requires-clause-sendable : goal.announcing-requires-clause-sendable
-announcing-requires-clause-sendable c =
+announcing-requires-clause-sendable g c =
     let family = c.requires.ready.0 in
     let ready = c.requires.ready.2 in
-    let is = family_of family c.requires.ready.1 c.args.pool.now c.args.adj.now c.in-Some.first ready c.in-Some.ensures.key in
-    let value = live family c.requires.ready.1 c.args.pool.now c.args.adj.now c.in-Some.first c.in-Some.id ready c.in-Some.ensures.key c.in-Some.ensures.value in
+    let is = family_of family c.requires.ready.1 c.args.pool.now (g.R.Routes.adj c.args.adj.now) c.in-Some.first ready c.in-Some.ensures.key in
+    let value = live family c.requires.ready.1 c.args.pool.now (g.R.Routes.adj c.args.adj.now) c.in-Some.first c.in-Some.id ready c.in-Some.ensures.key c.in-Some.ensures.value in
     subst (λ (f : Family). IsSendable f c.get-out.result.now.attrs) (sym is) (sent family (held c.args.pool.now c.in-Some.id) c.get-out.result.now value c.get-out.ensures)
 
 pub returns : goal.returns
-returns c = record {
+returns g c = record {
   built = λ family add_path ready.
-      let adj = c.args.adj.now in
+      let adj = (g.R.Routes.adj c.args.adj.now) in
       let pool = c.args.pool.now in
       let limit = c.args.limit in
       let id = c.in-Some.id in

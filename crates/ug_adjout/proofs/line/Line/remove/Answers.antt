@@ -1,16 +1,33 @@
-use Rattle.std.proofs.Common.{sym, ◌∙◌}
-use Rattle.std.specs.Ordering.{nat_cmp}
-use Rattle.std.specs.BTreeMap.{is_at}
-use Rattle.std.specs.Cmp.{nat_cmp_total}
-use Rattle.std.specs.FinMap.{nat_cmp-IsAntisymmetric}
-use Rattle.ug_pending.specs.TableLaws.{removed_nothing}
+use Rattle.std.proofs.Common.{◌≡◌, ℕ, Option, None, Some, true, false, refl, sym, ap, ◌∙◌}
+use Rattle.std.specs.Prelude.{is_some}
 use Rattle.ug_adjout.proofs.Slots.{indexed_gone}
+use Rattle.ug_adjout.proofs.ByPlace.{placed_is}
+use Rattle.ug_adjout.proofs.Values.{line, none_there}
 use Rattle.ug_adjout.proofs.line.Line.remove.Goals as goal
 
-pub returns-in_default : goal.returns-in_default
-returns-in_default g c =
-    rw (← c.self.view_is) (sym (removed_nothing nat_cmp_total nat_cmp-IsAntisymmetric (is_at (nat_cmp c.args.place)) c.self.inside.places (sym c.at.ensures.at ∙ c.in_default.is)))
+none_is : (v : Option ℕ) → is_some v ≡ false → v ≡ None
+none_is None e = refl
+none_is (Some x) e = absurd cc
 
 pub invariant_of-self : goal.invariant_of-self
 invariant_of-self g c =
-    rw c.remove.ensures (indexed_gone _ _ _ c.self.invariant c.args.place c.remove-2.ensures.ordered c.in-Some.was (sym c.in-Some.ensures.at) c.remove-2.ensures.updates.0)
+    let is = rw (← c.self.view_is) at c.requires in
+    rw (c.remove.ensures.entries, c.remove-then-is_some.ensures.entries)
+    (line _ _ c.self.invariant c.args.place None _ _ (indexed_gone _ _ c.self.invariant.indexed c.args.place c.args.was is) refl)
+
+pub invariant_of-self-else-is_some : goal.invariant_of-self-else-is_some
+invariant_of-self-else-is_some g c =
+    let is = rw (← c.self.view_is) at c.requires in
+    rw c.remove.ensures.entries
+    (line _ _ c.self.invariant c.args.place None _ _ (indexed_gone _ _ c.self.invariant.indexed c.args.place c.args.was is)
+    (none_there _ _ c.self.invariant c.args.place (Some c.args.was) is (none_is c.args.was.value (sym c.is_some.ensures ∙ c.if-is_some.false))))
+
+pub returns-then-is_some : goal.returns-then-is_some
+returns-then-is_some g c =
+    let is = rw (← c.self.view_is) at c.requires in
+    rw (c.remove.ensures.entries, ← c.self.view_is) (placed_is _ _ (indexed_gone _ _ c.self.invariant.indexed c.args.place c.args.was is))
+
+pub returns-else-is_some : goal.returns-else-is_some
+returns-else-is_some g c =
+    let is = rw (← c.self.view_is) at c.requires in
+    rw (c.remove.ensures.entries, ← c.self.view_is) (placed_is _ _ (indexed_gone _ _ c.self.invariant.indexed c.args.place c.args.was is))

@@ -27,9 +27,9 @@ recounted-self-inside-requires-2-clause-small g c =
 
 pub invariant_of-self-2 : goal.invariant_of-self-2
 invariant_of-self-2 g c =
-    rw c.in_ok-old.ensures.entries
+    rw (c.in_ok-old.ensures.entries, c.of.ensures)
     (record {
-      ordered = subst (IsTable g.K.Ord.cmp) c.in_ok-old.ensures.entries c.in_ok-old.ensures.ordered;
+      ordered = subst (λ row. IsTable g.K.Ord.cmp (insert_entry g.K.Ord.cmp c.self.inside.rows.entries c.args.key row)) c.of.ensures (subst (IsTable g.K.Ord.cmp) c.in_ok-old.ensures.entries c.in_ok-old.ensures.ordered);
       formatted_len = put_counted formatted_of g.K.Ord.cmp c.self.inside.rows.entries c.args.key _ c.self.invariant.formatted_len _ (c.is_formatted.ensures ∙ ap (λ o. is_some (of_row formatted_of o)) c.in_ok-old.ensures.old)
           g.met.K.Ord.total c.self.invariant.ordered c.args.row _ _ c.is_some.ensures c.recounted-self-inside.ensures;
       forced_len = put_counted mark_of g.K.Ord.cmp c.self.inside.rows.entries c.args.key _ c.self.invariant.forced_len _ (c.is_forced.ensures ∙ ap (λ o. is_some (of_row mark_of o)) c.in_ok-old.ensures.old)

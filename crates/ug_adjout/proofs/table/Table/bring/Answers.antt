@@ -1,5 +1,9 @@
-use Rattle.std.proofs.Common.{sym, ◌∙◌}
-use Rattle.ug_adjout.proofs.Numbers.{first_is_from, behind_first, row_known, passed_same, stored_moved, view_moved, passed_moved}
+use Rattle.std.proofs.Common.{Some, sym, ap, ◌∙◌}
+use Rattle.std.specs.Ordering.{is_eq}
+use Rattle.std.specs.Cmp.{nat_cmp_total}
+use Rattle.std.specs.FinMap.{nat_cmp-IsAntisymmetric}
+use Rattle.ug_pending.specs.TableLaws.{value_at-other}
+use Rattle.ug_adjout.proofs.Numbers.{greater, nothing_at, first_waits, first_is_from, behind_first, row_known, passed_same, stored_moved, view_moved, passed_moved}
 use Rattle.ug_adjout.proofs.table.Table.bring.Goals as goal
 
 pub returns-then-was-place-clause-passed : goal.returns-then-was-place-clause-passed
@@ -17,20 +21,34 @@ pub invariant_of-self-2 : goal.invariant_of-self-2
 invariant_of-self-2 g c =
     let first = sym c.first_from.ensures ∙ c.in-Some.is in
     let lt = behind_first c.args.place c.in-Some.was (first_is_from c.args.place _ (c.in-Some.was, c.in-Some.waiting) first) c.if-was-place.false in
-    rw (c.in-Ok.ensures.entries, c.remove.ensures, c.in_ok-put.ensures.ok)
+    rw (c.in-Ok.ensures.entries, c.remove.ensures, c.in_ok-add.ensures.ok)
     (stored_moved g.met.K.Ord.total g.met.K.OutKey.exact _ _ _ c.self.invariant c.args.place (c.in-Some.was, c.in-Some.waiting) first c.in-Some-row.row (sym c.row.ensures ∙ c.in-Some-row.is) lt)
 
 pub returns-clause-same : goal.returns-clause-same
 returns-clause-same g c =
     let first = sym c.first_from.ensures ∙ c.in-Some.is in
     let lt = behind_first c.args.place c.in-Some.was (first_is_from c.args.place _ (c.in-Some.was, c.in-Some.waiting) first) c.if-was-place.false in
-    rw (c.in-Ok.ensures.entries, c.remove.ensures, c.in_ok-put.ensures.ok, ← c.self.view_is)
+    rw (c.in-Ok.ensures.entries, c.remove.ensures, c.in_ok-add.ensures.ok, ← c.self.view_is)
     (view_moved g.met.K.Ord.total g.met.K.OutKey.exact _ _ _ c.self.invariant c.args.place (c.in-Some.was, c.in-Some.waiting) first c.in-Some-row.row (sym c.row.ensures ∙ c.in-Some-row.is) lt)
 
 pub returns-clause-passed : goal.returns-clause-passed
 returns-clause-passed g c =
     let first = sym c.first_from.ensures ∙ c.in-Some.is in
     let lt = behind_first c.args.place c.in-Some.was (first_is_from c.args.place _ (c.in-Some.was, c.in-Some.waiting) first) c.if-was-place.false in
-    rw (c.remove.ensures, c.in_ok-put.ensures.ok, ← c.self.view_is)
+    rw (c.remove.ensures, c.in_ok-add.ensures.ok, ← c.self.view_is)
     (passed_moved g.met.K.Ord.total g.met.K.OutKey.exact _ _ _ c.self.invariant c.args.place (c.in-Some.was, c.in-Some.waiting) first c.in-Some-row.row (sym c.row.ensures ∙ c.in-Some-row.is) lt
     (rw (← c.self.view_is) at c.requires))
+
+pub add-requires : goal.add-requires
+add-requires g c =
+    let first = sym c.first_from.ensures ∙ c.in-Some.is in
+    let lt = behind_first c.args.place c.in-Some.was (first_is_from c.args.place _ (c.in-Some.was, c.in-Some.waiting) first) c.if-was-place.false in
+    nothing_at c.args.place _ (c.in-Some.was, c.in-Some.waiting) c.self.invariant.in_line first lt
+
+pub remove-requires : goal.remove-requires
+remove-requires g c =
+    let first = sym c.first_from.ensures ∙ c.in-Some.is in
+    let lt = behind_first c.args.place c.in-Some.was (first_is_from c.args.place _ (c.in-Some.was, c.in-Some.waiting) first) c.if-was-place.false in
+    rw c.in_ok-add.ensures.ok
+    (value_at-other nat_cmp_total nat_cmp-IsAntisymmetric _ c.args.place c.in-Some.was (Some c.in-Some.waiting) (ap is_eq (greater c.in-Some.was c.args.place lt))
+    ∙ first_waits c.args.place _ (c.in-Some.was, c.in-Some.waiting) c.self.invariant.in_line first)

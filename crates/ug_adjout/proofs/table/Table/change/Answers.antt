@@ -8,6 +8,6 @@ invariant_of-self-2 g c =
     let s = c.self.invariant in
     let was = agree_listed _ _ _ s c.args.key c.args.change (rw (← c.self.view_is) at c.requires.there) (rw (← c.self.view_is) at c.requires.waits) in
     let before = place_before _ _ _ s c.args.key c.args.change (rw (← c.self.view_is) at c.requires.there) (rw (← c.self.view_is) at c.requires.waits) in
-    rw (c.in-Ok.ensures.entries, c.in_ok-put.ensures.ok)
+    rw (c.in-Ok.ensures.entries, c.in_ok-change.ensures.ok)
     (stored g.met.K.Ord.total g.met.K.OutKey.exact _ _ _ s c.args.key c.args.change.place was (Some (with_change c.args.row c.args.change.place c.args.desired))
     (Some (record { key = c.args.key; value = c.args.desired })) (refl, refl) c.requires.owed _ (inl refl) (λ _. before))

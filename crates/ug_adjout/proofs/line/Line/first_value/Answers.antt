@@ -1,8 +1,7 @@
-use Rattle.std.proofs.Common.{sym, ap, ◌∙◌}
-use Rattle.std.specs.Prelude.{IsSome}
+use Rattle.std.proofs.Common.{ap, ◌∙◌}
 use Rattle.ug_adjout.specs.Waits.{first_announced}
 use Rattle.ug_adjout.proofs.Values.{first_some, first_none}
-use Rattle.ug_adjout.proofs.places.Places.first_value.Goals as goal
+use Rattle.ug_adjout.proofs.line.Line.first_value.Goals as goal
 
 pub returns-in-Some : goal.returns-in-Some
 returns-in-Some g c = first_some _ _ c.self.invariant _ _ c.in-Some.ensures.first ∙ ap first_announced c.self.view_is

@@ -1,0 +1,14 @@
+use Rattle.std.proofs.Common.{ap, ◌∙◌}
+use Rattle.ug_types.specs.Ip.{IpPrefix}
+use Rattle.ug_adjout.proofs.Narrow.{prefix_again, key_again}
+use Rattle.ug_adjout.proofs.v4_key.V4Key.new.Goals as goal
+
+pub invariant_of-result : goal.invariant_of-result
+invariant_of-result c =
+    let p = c.prefix.inside in
+    prefix_again p.family p.bits p.len (ap (λ (x : IpPrefix). x.family) c.prefix.view_is ∙ c.requires) c.prefix.invariant
+
+pub returns : goal.returns
+returns c =
+    let p = c.prefix.inside in
+    key_again p.family p.bits p.len c.args.id c.args.prefix (ap (λ (x : IpPrefix). x.family) c.prefix.view_is ∙ c.requires) c.prefix.invariant c.prefix.view_is
