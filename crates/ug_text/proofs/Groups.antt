@@ -1,10 +1,10 @@
 -- Groups of sixteen bits, the room that eight of them take, and the text of those that are 0.
-use Rattle.std.proofs.Common.{◌≡◌, ℕ, zero, suc, ◌+◌, ◌-◌, ◌*◌, ◌%◌, ◌^◌, ◌<◌, ◌≤◌, false, List, [], ◌∷◌, ◌++◌, length, drop, Option, Some, None, refl, ap, ◌∙◌, arith}
+use Rattle.std.proofs.Common.{◌≡◌, ℕ, zero, suc, ◌+◌, ◌-◌, ◌/◌, ◌%◌, ◌^◌, ◌<◌, ◌≤◌, false, List, [], ◌∷◌, ◌++◌, length, drop, Some, None, refl, ap, ◌∙◌, append_assoc, arith}
 use Rattle.std.specs.Prelude.{codes}
 use Rattle.std.specs.Fmt.{digits}
 use Rattle.std.proofs.Math.Nat.{pow-le-pow_right}
 use Rattle.ug_text.specs.Cutting.{◌>>=◌}
-use Rattle.ug_text.specs.Texts.{group, group_text, four_groups}
+use Rattle.ug_text.specs.Texts.{group, group_text, four_groups, three_groups, grouped}
 use Rattle.ug_text.specs.Addresses.{Groups, with_group, with_zeros, cut_at_gap}
 
 -- four hexadecimal digits fit sixteen bits
@@ -37,12 +37,23 @@ zeros_step (suc n) groups some = let e : suc n - 1 ≡ n = omega arith in rw e r
 abbrev spelled : ℕ → ℕ → ℕ → ℕ → List ℕ
 spelled a b c d = digits 16 false a ++ codes ":" ++ digits 16 false b ++ codes ":" ++ digits 16 false c ++ codes ":" ++ digits 16 false d
 
-pub no_groups : (bits : ℕ) → bits % 2 ^ 64 ≡ 0 → four_groups bits ≡ codes "0:0:0:0"
-unfolding four_groups group_text digits
-no_groups bits e =
+zeros_behind : (text : List ℕ) → text ++ codes ":" ++ codes "0" ++ codes ":" ++ codes "0:0:0:0" ≡ text ++ codes ":0:0:0:0:0"
+zeros_behind text =
+    ap (λ (l : List ℕ). l ++ codes ":" ++ codes "0:0:0:0") (append_assoc text (codes ":") (codes "0")) ∙ ap (λ (l : List ℕ). l ++ codes "0:0:0:0") (append_assoc text (codes ":0") (codes ":"))
+    ∙ append_assoc text (codes ":0:") (codes "0:0:0:0")
+
+pub three_are_eight : (bits : ℕ) → bits % 2 ^ 80 ≡ 0 → grouped bits ≡ three_groups (bits / 2 ^ 64)
+unfolding grouped four_groups three_groups group_text digits
+three_are_eight bits e =
+    let upper = λ (n : ℕ). spelled (group 3 (bits / 2 ^ 64)) (group 2 (bits / 2 ^ 64)) (group 1 (bits / 2 ^ 64)) n in
+    let high : group 0 (bits / 2 ^ 64) ≡ 0 = omega arith in
     let a : group 3 bits ≡ 0 = omega arith in
     let b : group 2 bits ≡ 0 = omega arith in
     let c : group 1 bits ≡ 0 = omega arith in
     let d : group 0 bits ≡ 0 = omega arith in
-    ap (λ (n : ℕ). spelled n (group 2 bits) (group 1 bits) (group 0 bits)) a ∙ ap (λ (n : ℕ). spelled 0 n (group 1 bits) (group 0 bits)) b
-    ∙ ap (λ (n : ℕ). spelled 0 0 n (group 0 bits)) c ∙ ap (λ (n : ℕ). spelled 0 0 0 n) d
+    ap (λ (n : ℕ). upper n ++ codes ":" ++ four_groups bits) high
+    ∙ ap (λ (n : ℕ). upper 0 ++ codes ":" ++ spelled n (group 2 bits) (group 1 bits) (group 0 bits)) a
+    ∙ ap (λ (n : ℕ). upper 0 ++ codes ":" ++ spelled 0 n (group 1 bits) (group 0 bits)) b
+    ∙ ap (λ (n : ℕ). upper 0 ++ codes ":" ++ spelled 0 0 n (group 0 bits)) c
+    ∙ ap (λ (n : ℕ). upper 0 ++ codes ":" ++ spelled 0 0 0 n) d
+    ∙ zeros_behind (digits 16 false (group 3 (bits / 2 ^ 64)) ++ codes ":" ++ digits 16 false (group 2 (bits / 2 ^ 64)) ++ codes ":" ++ digits 16 false (group 1 (bits / 2 ^ 64)))

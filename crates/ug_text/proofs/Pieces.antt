@@ -1,9 +1,9 @@
 -- Cutting texts into parts.
-use Rattle.std.proofs.Common.{◌≡◌, ℕ, ◌+◌, length, ◌==◌, Bool, true, false, List, [], ◌∷◌, ◌++◌, Option, Some, None, refl, append_assoc, ◌∙◌, ap, sym}
+use Rattle.std.proofs.Common.{◌≡◌, ℕ, ◌+◌, length, ◌==◌, Bool, true, false, List, [], ◌∷◌, ◌++◌, Option, Some, None, append_assoc, ◌∙◌, ap, sym}
 use Rattle.std.specs.Prelude.{if◌then◌else◌}
 use Rattle.std.proofs.lemmas.List.{append-nil}
 use Rattle.std.specs.Borrow.{Bor}
-use Rattle.ug_text.specs.Cutting.{with_front, cut_at, pieces_from, pieces, each, ◌>>=◌}
+use Rattle.ug_text.specs.Cutting.{with_front, cut_at, pieces_from, pieces}
 
 -- with these bytes in front of what stands before the separator
 abbrev pub in_front : List ℕ → Option (List ℕ × List ℕ) → Option (List ℕ × List ℕ)

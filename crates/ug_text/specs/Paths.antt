@@ -1,5 +1,5 @@
 -- Lists of numbers, AS paths and origins as texts that are read.
-use Rattle.std.specs.Prelude.{ℕ, ◌-◌, nat_le, Bool, true, false, ◌&&◌, ◌==◌, List, [], ◌∷◌, length, slice_index, slice_range, Option, Some, None, codes, if◌then◌else◌}
+use Rattle.std.specs.Prelude.{ℕ, ◌-◌, nat_le, Bool, true, false, ◌&&◌, ◌==◌, List, [], length, slice_index, slice_range, Option, Some, None, codes, if◌then◌else◌}
 use Rattle.ug_types.specs.Attributes.{PathSegment}
 use Rattle.ug_types.specs.Bytes.{same_bytes}
 use Rattle.ug_text.specs.declared.list_reader.Spelled.{Spelled}

@@ -28,6 +28,10 @@ group_text k bits = digits 16 false (group k bits)
 unfoldable pub four_groups : ℕ → List ℕ
 four_groups bits = group_text 3 bits ++ codes ":" ++ group_text 2 bits ++ codes ":" ++ group_text 1 bits ++ codes ":" ++ group_text 0 bits
 
+-- the upper three of four groups, with five groups of 0 behind them
+unfoldable pub three_groups : ℕ → List ℕ
+three_groups bits = group_text 3 bits ++ codes ":" ++ group_text 2 bits ++ codes ":" ++ group_text 1 bits ++ codes ":0:0:0:0:0"
+
 -- eight groups with colons between, the high sixteen bits first, and none left out (RFC 4291 section 2.2)
 unfoldable pub grouped : ℕ → List ℕ
 grouped bits = four_groups (bits / 2 ^ 64) ++ codes ":" ++ four_groups bits

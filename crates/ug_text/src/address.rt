@@ -1,8 +1,8 @@
 //! Addresses and prefixes as text.
 
-ghost use Rattle.std.specs.Prelude.{◌≡◌, ◌++◌, ◌≤◌, OnOk, codes};
+ghost use Rattle.std.specs.Prelude.{◌≡◌, ◌++◌, ◌≤◌, OnOk};
 ghost use Rattle.std.specs.String.{string_bytes};
-ghost use Rattle.ug_text.specs.Texts.{dotted, leading, grouped, four_groups, group, bits_text, address_text, prefix_text};
+ghost use Rattle.ug_text.specs.Texts.{dotted, leading, grouped, four_groups, three_groups, group, bits_text, address_text, prefix_text};
 
 use ug_types::{Addr, Family, NoMemory, Prefix};
 
@@ -47,26 +47,36 @@ fn write_four_groups(out: &mut String, bits: u128) -> Result<(), NoMemory>
     Ok(())
 }
 
-/// The same, in less time where there is none but 0, as in the lower half of most prefixes.
-#[tactic(auto, using(crate::proofs::Groups::no_groups))]
-fn write_lower_half(out: &mut String, bits: u128) -> Result<(), NoMemory>
-    ensures { OnOk result (string_bytes out.new ≡ string_bytes out.old ++ four_groups bits) }
-{
-    if bits % (1 << 64) != 0 {
-        return write_four_groups(out, bits);
-    }
-    out.push_str("0:0:0:0")?;
-    Ok(())
-}
-
-/// Adds eight groups with colons between, the high sixteen bits first.
 #[tactic(auto, unfolding(crate::specs::Texts::grouped))]
-fn write_grouped(out: &mut String, bits: u128) -> Result<(), NoMemory>
+fn write_eight_groups(out: &mut String, bits: u128) -> Result<(), NoMemory>
     ensures { OnOk result (string_bytes out.new ≡ string_bytes out.old ++ grouped bits) }
 {
     write_four_groups(out, bits >> 64)?;
-    write!(out, ":")?;
-    write_lower_half(out, bits)
+    out.push_str(":")?;
+    write_four_groups(out, bits)
+}
+
+/// Adds the upper three of four groups, and five groups of 0 behind them.
+#[tactic(auto, unfolding(crate::specs::Texts::group_text, crate::specs::Texts::three_groups))]
+fn write_three_groups(out: &mut String, bits: u128) -> Result<(), NoMemory>
+    ensures { OnOk result (string_bytes out.new ≡ string_bytes out.old ++ three_groups bits) }
+{
+    let a = group(bits, 3);
+    let b = group(bits, 2);
+    let c = group(bits, 1);
+    write!(out, "{a:x}:{b:x}:{c:x}:0:0:0:0:0")?;
+    Ok(())
+}
+
+/// Adds eight groups with colons between, the high sixteen bits first. In most prefixes the lower five are 0, which takes
+/// less time.
+fn write_grouped(out: &mut String, bits: u128) -> Result<(), NoMemory>
+    ensures { OnOk result (string_bytes out.new ≡ string_bytes out.old ++ grouped bits) }
+{
+    if bits % (1 << 80) != 0 {
+        return write_eight_groups(out, bits);
+    }
+    write_three_groups(out, bits >> 64)
 }
 
 /// Adds an address of the family with these bits, left aligned.

@@ -1,10 +1,9 @@
 //! IPv6 addresses as text (RFC 4291 section 2.2).
 
-ghost use Rattle.std.specs.Prelude.{◌≡◌, ◌<◌, ◌≤◌, ◌^◌, ◌+◌, IfSome, length};
+ghost use Rattle.std.specs.Prelude.{◌≡◌, ◌<◌, ◌≤◌, ◌+◌, IfSome, length};
 ghost use Rattle.std.specs.Option.{option_map};
 ghost use Rattle.ug_text.specs.Numbers.{hexadecimal_digit, digits_from};
-ghost use Rattle.ug_text.specs.Addresses.{Groups, group, with_group, with_zeros, groups_from, groups_in, where_eight, cut_at_gap, filled, around_gap, ipv6_number};
-ghost use Rattle.ug_text.specs.Cutting.{pieces};
+ghost use Rattle.ug_text.specs.Addresses.{Groups, group, with_group, with_zeros, groups_from, groups_in, cut_at_gap, filled, around_gap, ipv6_number};
 ghost use Rattle.ug_text.specs.Seen.{seen_parts};
 ghost use Rattle.ug_text.specs.Grouped.{AreGroups, groups_of};
 

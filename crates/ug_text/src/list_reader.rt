@@ -1,6 +1,6 @@
 //! Lists of numbers, AS paths and origins as text.
 
-ghost use Rattle.std.specs.Prelude.{◌≡◌, IfOk, map};
+ghost use Rattle.std.specs.Prelude.{◌≡◌, IfOk};
 ghost use Rattle.std.specs.Option.{option_map};
 ghost use Rattle.ug_types.specs.Attributes.{segment_of};
 ghost use Rattle.ug_text.specs.Cutting.{each, pieces};

@@ -1,5 +1,4 @@
-use Rattle.std.proofs.Common.{◌≡◌, ◌+◌, ℕ, length, Option, Some, None, List}
-use Rattle.std.specs.Borrow.{Bor}
+use Rattle.std.proofs.Common.{◌≡◌, ◌+◌, Some}
 use Rattle.ug_text.specs.Paths.{number_as}
 use Rattle.ug_text.specs.Cutting.{each, pieces}
 use Rattle.ug_text.specs.Seen.{pieces_in}

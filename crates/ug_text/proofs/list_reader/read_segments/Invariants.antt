@@ -1,5 +1,4 @@
-use Rattle.std.proofs.Common.{◌≡◌, ◌+◌, ℕ, length, Option, Some, None, List, map}
-use Rattle.std.specs.Borrow.{Bor}
+use Rattle.std.proofs.Common.{◌≡◌, ◌+◌, Some, map}
 use Rattle.ug_types.specs.Attributes.{segment_of}
 use Rattle.ug_text.specs.Paths.{segment}
 use Rattle.ug_text.specs.Cutting.{each, pieces}
