@@ -1,5 +1,5 @@
 -- Zeros behind bytes change no number.
-use Rattle.std.proofs.Common.{◌≡◌, ℕ, zero, suc, ◌+◌, ◌*◌, ◌^◌, List, [], ◌∷◌, ◌++◌, drop, replicate, length, ◌-◌, slice_index, refl, ap, ◌∙◌, arith}
+use Rattle.std.proofs.Common.{◌≡◌, ℕ, zero, suc, ◌+◌, ◌*◌, List, [], ◌∷◌, ◌++◌, drop, replicate, length, ◌-◌, slice_index, refl, ap, ◌∙◌}
 use Rattle.std.proofs.lemmas.List.{drop-replicate}
 use Rattle.byteorder.specs.Endian.{big_from, big_number}
 

@@ -5,4 +5,4 @@ mod reading;
 mod writing;
 
 pub use reading::{NlriRefusal, read, read_route};
-pub use writing::{size, write};
+pub use writing::{put_prefix, size, write};

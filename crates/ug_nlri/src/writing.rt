@@ -44,8 +44,8 @@ fn put_identifier(out: &mut ByteList, id: u32)
     }
 }
 
-/// Adds a prefix for which there is room.
-fn put_prefix(out: &mut ByteList, prefix: &Prefix)
+/// Adds a prefix for which there is room: its length, and as many bytes as hold so many bits (RFC 4271 section 4.3).
+pub fn put_prefix(out: &mut ByteList, prefix: &Prefix)
     requires { 1 + bytes_for prefix.now.len ≤ out.old.spare }
     ensures { out.new.items ≡ out.old.items ++ prefix.now.len ∷ take (bytes_for prefix.now.len) (to_be_bytes w128 prefix.now.bits) }
 {

@@ -9,8 +9,9 @@ ghost use Rattle.ug_message.specs.Spellable.{is_route, is_key};
 ghost use Rattle.ug_packing.specs.Frames.{IsLoad};
 
 use crate::load::Load;
-use ug_message::{put, put_u32};
-use ug_types::{ByteList, Capabilities, Key, NoMemory, Prefix};
+use ug_message::put_u32;
+use ug_nlri::put_prefix;
+use ug_types::{ByteList, Capabilities, Key, NoMemory};
 
 /// How many bytes the route takes, with its identifier under ADD-PATH.
 #[tactic(auto, using(crate::proofs::Loads::length_route))]
@@ -103,14 +104,4 @@ fn put_identifier(out: &mut ByteList, add_path: bool, id: u32)
     if add_path {
         put_u32(out, id);
     }
-}
-
-/// Adds a prefix.
-fn put_prefix(out: &mut ByteList, prefix: &Prefix)
-    requires { 1 + bytes_for prefix.now.len ≤ out.old.spare }
-    ensures { out.new.items ≡ out.old.items ++ prefix.now.len ∷ take (bytes_for prefix.now.len) (to_be_bytes w128 prefix.now.bits) }
-{
-    put(out, &[prefix.len]);
-    let bytes = prefix.bits.to_be_bytes();
-    put(out, &bytes[..(prefix.len as usize + 7) / 8]);
 }

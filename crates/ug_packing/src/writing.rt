@@ -1,6 +1,6 @@
 //! Messages as texts, piece by piece.
 
-ghost use Rattle.std.specs.Prelude.{◌≡◌, ◌+◌, ◌<◌, ◌≤◌, length, true, Some, IfOk, OnOk};
+ghost use Rattle.std.specs.Prelude.{◌≡◌, ◌+◌, ◌<◌, length, true, Some, IfOk, OnOk};
 ghost use Rattle.ug_types.specs.declared.family.Family.TheVariants.{V4, V6};
 ghost use Rattle.ug_message.specs.Spelling.{routes, attributes, attributes_but_next_hop};
 ghost use Rattle.ug_message.specs.Spellable.{has_ipv4_addresses, can_be_spelled};
