@@ -1,5 +1,5 @@
-ghost use Rattle.std.specs.Prelude.{◌≡◌, true, ◌+◌, ◌^◌, ◌<◌, ◌≤◌, ◌++◌, length, OnOk, OnErr, IfOk};
-ghost use Rattle.ug_types.specs.Attributes.{attributes_of, IsAttributes};
+ghost use Rattle.std.specs.Prelude.{◌≡◌, true, ◌+◌, ◌^◌, ◌<◌, ◌++◌, length, OnOk, OnErr, IfOk};
+ghost use Rattle.ug_types.specs.Attributes.{attributes_of};
 ghost use Rattle.ug_message.specs.AttributeTable.{before_next_hop, next_hop, after_next_hop};
 ghost use Rattle.ug_message.specs.Spelling.{attributes, attributes_but_next_hop, next_hop_place};
 ghost use Rattle.ug_message.specs.Spellable.{has_ipv4_addresses, can_be_spelled};

@@ -27,7 +27,7 @@ pub struct Board<M: Machine> {
 
 impl<M: Machine> Model for Board<M> {
     ghost use Rattle.std.specs.Prelude.{◌≡◌, ◌≤◌, false, length};
-    ghost use Rattle.ug_board.specs.History.{BoardState, IsLegal, replay, IsInStep};
+    ghost use Rattle.ug_board.specs.History.{BoardState, IsLegal, IsInStep};
 
     ghost Value = { BoardState M.Opening M.Job M.Said };
 

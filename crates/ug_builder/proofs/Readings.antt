@@ -1,5 +1,5 @@
 -- What the parts of a reading come to: the first event, the lines, and the end.
-use Rattle.std.proofs.Common.{◌≡◌, ℕ, Bool, true, false, inl, inr, List, [], ◌++◌, map, Option, Some, None, refl, sym, ◌∙◌, ap, subst, arith}
+use Rattle.std.proofs.Common.{◌≡◌, ℕ, Bool, true, false, inl, inr, List, [], map, Option, Some, None, refl, sym, subst, arith}
 use Rattle.std.proofs.lemmas.List.{append-nil}
 use Rattle.ug_edge.specs.Told.{Rose, IsEnded}
 use Rattle.ug_pieces.specs.Pieces.{HasRead}

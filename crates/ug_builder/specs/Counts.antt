@@ -1,5 +1,5 @@
 -- How many steps the jobs of a builder count.
-use Rattle.std.specs.Prelude.{◌≡◌, ℕ, ◌+◌, ◌≤◌, List, [], ◌∷◌, Option, Some, None, if◌then◌else◌}
+use Rattle.std.specs.Prelude.{ℕ, ◌+◌, ◌≤◌, List, [], ◌∷◌, Option, Some, None, if◌then◌else◌}
 use Rattle.ug_board.specs.declared.steps.BoardStep.{BoardStep}
 use Rattle.ug_board.specs.declared.steps.BoardStep.TheVariants.{Job as DoJob, Lane as LaneTakes}
 use Rattle.ug_board.specs.Entry.{Entry}

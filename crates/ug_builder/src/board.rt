@@ -1,12 +1,12 @@
 //! What is done on a board in one turn of the builder.
 
-ghost use Rattle.std.specs.Prelude.{◌≡◌, ◌≤◌, ◌++◌, ◌∷◌, [], true, false, Some, None, Ok, OnOk, OnErr, IfOk, IfSome, IfNone};
+ghost use Rattle.std.specs.Prelude.{◌≡◌, ◌++◌, ◌∷◌, [], true, false, Some, None, Ok, OnOk, OnErr, IfOk, IfSome, IfNone};
 ghost use Rattle.ug_board.specs.History.{state_of, job_entry, IsLegal};
 ghost use Rattle.ug_turnstile.specs.Passes.{Adds};
 ghost use Rattle.ug_events.specs.Events.{IsEvent, Says, SaysSync};
 ghost use Rattle.ug_events.specs.Views.{event_of};
 ghost use Rattle.ug_world.specs.Verdicts.{verdict};
-ghost use Rattle.ug_speaker.specs.Speech.{Prepares, Ends, MarksTold, TakesEvent};
+ghost use Rattle.ug_speaker.specs.Speech.{Prepares};
 ghost use Rattle.ug_builder.specs.Turns.{GoesOn, Answers, answer_of};
 ghost use Rattle.ug_builder.specs.Counts.{least_of, most_of, RisesBy, RisesWithin};
 

@@ -1,11 +1,10 @@
 //! The builder: it takes lines of events in turns of its own, and reports on them.
 
-ghost use Rattle.std.specs.Prelude.{◌≡◌, ◌≤◌, ◌++◌, ◌∷◌, ◌+◌, ℕ, [], List, Option, false, true, Ok, Some, None, OnOk, OnErr, IfOk, IfErr, IsErrOf};
+ghost use Rattle.std.specs.Prelude.{◌≡◌, ◌≤◌, ◌∷◌, ◌+◌, ℕ, [], List, Option, false, true, Ok, Some, None, OnOk, OnErr, IfOk, IfErr, IsErrOf};
 ghost use Rattle.std.specs.List.{concat};
 ghost use Rattle.std.specs.String.{string_bytes};
 ghost use Rattle.ug_edge.specs.Told.{Rose, AppendsPiece};
 ghost use Rattle.ug_pieces.specs.Reporting.{AppendsFront};
-ghost use Rattle.ug_turnstile.specs.Passes.{IsSamePass};
 ghost use Rattle.ug_events.specs.Events.{IsEvent, Says, SaysSync};
 ghost use Rattle.ug_events.specs.Views.{event_of};
 ghost use Rattle.ug_report.specs.Report.{answer_texts};

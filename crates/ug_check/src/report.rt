@@ -1,12 +1,11 @@
 //! The report on a stream.
 
-ghost use Rattle.std.specs.Prelude.{◌≡◌, ◌≤◌, [], ◌∷◌, ◌++◌, List, ℕ, Option, length, OnOk, OnErr, IfErr, IsErrOf};
+ghost use Rattle.std.specs.Prelude.{◌≡◌, ◌≤◌, [], ◌∷◌, ◌++◌, List, ℕ, Option, length, OnOk, IfErr, IsErrOf};
 ghost use Rattle.std.specs.List.{concat};
 ghost use Rattle.std.specs.List.Sorted.{IsStrictlySortedBy};
 ghost use Rattle.std.specs.Map.{keys_of};
 ghost use Rattle.std.specs.String.{string_bytes};
 ghost use Rattle.ug_edge.specs.Told.{Rose, AppendsPiece};
-ghost use Rattle.ug_pieces.specs.Reporting.{AppendsFront};
 ghost use Rattle.ug_rows.specs.Rows.{row_text};
 ghost use Rattle.ug_check.specs.Decoded.{row_texts, totals_text};
 ghost use Rattle.ug_check.specs.Checks.{IsReportedUntil};

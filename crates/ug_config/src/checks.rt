@@ -1,6 +1,5 @@
 //! What is asked of all tables together, once each could be read.
 
-ghost use Rattle.std.specs.Prelude.{◌≡◌};
 ghost use Rattle.ug_world.specs.Parts.{names_of};
 ghost use Rattle.ug_config.specs.Checks.{Passes, first_fault, repeated_name, repeated_in, repeated, unknown, over_limit, misplaced, fault};
 

@@ -1,10 +1,9 @@
 //! Entries of prefix lists.
 
 ghost use Rattle.std.specs.Prelude.{◌≡◌};
-ghost use Rattle.toml.specs.View.{view};
 ghost use Rattle.ug_prefixlist.specs.Lists.{is_bound, are_ordered, is_good};
 ghost use Rattle.ug_fields.specs.Gives.{Gives};
-ghost use Rattle.ug_config.specs.Readings.{list_entry, list_entry_of, where_good, last_bound};
+ghost use Rattle.ug_config.specs.Readings.{list_entry, list_entry_of, where_good};
 
 use crate::local::{flag, number, prefix};
 use crate::rows::list_entry_fields;

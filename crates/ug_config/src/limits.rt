@@ -1,9 +1,9 @@
 //! Limits.
 
 ghost use Rattle.std.specs.Prelude.{◌≡◌};
-ghost use Rattle.ug_routemap.specs.Refusals.{prepends_in, communities_in, has_few_sets, count_in};
+ghost use Rattle.ug_routemap.specs.Refusals.{has_few_sets, count_in};
 ghost use Rattle.ug_routemap.specs.Rules.{numbers_of};
-ghost use Rattle.ug_config.specs.Checks.{Passes, long_list, long_map};
+ghost use Rattle.ug_config.specs.Checks.{long_list, long_map};
 
 use crate::checking::{Check, refuse_where};
 use crate::rule::Rule;

@@ -1,6 +1,5 @@
 //! Prefix lists and route maps: a name, and entries.
 
-ghost use Rattle.std.specs.Prelude.{◌≡◌, ◌++◌, codes};
 ghost use Rattle.toml.specs.View.{view};
 ghost use Rattle.ug_fields.specs.Gives.{Gives};
 ghost use Rattle.ug_config.specs.Readings.{own_name, named, with_entries, list_entry, rule};

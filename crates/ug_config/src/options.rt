@@ -1,7 +1,6 @@
 //! Names that are used, and options that are not for every peer.
 
-ghost use Rattle.std.specs.Prelude.{◌≡◌};
-ghost use Rattle.ug_config.specs.Checks.{Passes, unknown_list, unknown_in_map, unknown_in_policy, unknown_policy, wrong_as, wrong_client};
+ghost use Rattle.ug_config.specs.Checks.{unknown_list, unknown_in_map, unknown_in_policy, unknown_policy, wrong_as, wrong_client};
 
 use crate::checking::{Check, check_each, refuse_where, way_into};
 use crate::names::is_one_of;

@@ -1,8 +1,6 @@
 //! Peers.
 
 ghost use Rattle.std.specs.Prelude.{◌≡◌, IfOk};
-ghost use Rattle.toml.specs.View.{view};
-ghost use Rattle.ug_fields.specs.Gives.{Gives};
 ghost use Rattle.ug_config.specs.Readings.{peer, peer_of};
 
 use crate::local::{address, flag, number, prefix};

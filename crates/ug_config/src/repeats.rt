@@ -1,10 +1,9 @@
 //! Names and sequence numbers that stand twice.
 
-ghost use Rattle.std.specs.Prelude.{◌≡◌, ◌==◌, ◌++◌, codes};
+ghost use Rattle.std.specs.Prelude.{◌≡◌, ◌==◌};
 ghost use Rattle.std.specs.List.{list_any};
-ghost use Rattle.ug_prefixlist.specs.Lists.{seq_of};
 ghost use Rattle.ug_routemap.specs.Rules.{rule_seq};
-ghost use Rattle.ug_config.specs.Checks.{Passes, repeated_name, repeated_sequence, repeated_in, stands_before};
+ghost use Rattle.ug_config.specs.Checks.{repeated_name, repeated_sequence, repeated_in, stands_before};
 
 use crate::checking::{Check, check_each, items_before, refuse_where, way_into};
 use crate::names::is_name_among;

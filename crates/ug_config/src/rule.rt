@@ -3,7 +3,7 @@
 ghost use Rattle.std.specs.Prelude.{◌≡◌, IfOk};
 ghost use Rattle.toml.specs.View.{view};
 ghost use Rattle.ug_routemap.specs.Rules as rules;
-ghost use Rattle.ug_routemap.specs.Refusals.{is_ahead, leads_ahead};
+ghost use Rattle.ug_routemap.specs.Refusals.{leads_ahead};
 ghost use Rattle.ug_fields.specs.Gives.{Gives};
 ghost use Rattle.ug_config.specs.Readings.{rule, rule_of, where_ahead};
 

@@ -1,6 +1,5 @@
 //! What the tables of a configuration say.
 
-ghost use Rattle.std.specs.Prelude.{◌≡◌};
 ghost use Rattle.toml.specs.View.{view};
 ghost use Rattle.ug_fields.specs.Gives.{Gives, GivesItems};
 ghost use Rattle.ug_config.specs.Readings.{tables, lists, maps, policies, peers};

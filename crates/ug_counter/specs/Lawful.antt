@@ -1,17 +1,17 @@
 -- The rules of a counter keep what a machine keeps.
-use Rattle.std.proofs.Common.{◌≡◌, ℕ, suc, zero, ◌+◌, ◌-◌, ◌*◌, ◌<◌, ◌≤◌, Bool, true, false, length, refl, sym, ◌∙◌, ap, subst, arith}
-use Rattle.std.specs.Prelude.{◌==◌, ◌&&◌, not, ◌%◌, nat_lt, replicate, if◌then◌else◌}
+use Rattle.std.proofs.Common.{◌≡◌, ℕ, suc, zero, ◌-◌, ◌<◌, Bool, true, false, length, refl, sym, ap, arith}
+use Rattle.std.specs.Prelude.{◌==◌, ◌&&◌, not, ◌%◌, nat_lt, if◌then◌else◌}
 use Rattle.std.proofs.lemmas.List.{length-replicate}
 use Rattle.std.proofs.lemmas.Bool.Decides.{nat_tests}
 use Rattle.ug_board.specs.declared.steps.LaneStep.{LaneStep}
 use Rattle.ug_board.specs.declared.steps.LaneStep.TheVariants.{Next, Lost}
-use Rattle.ug_board.specs.declared.steps.LaneSaid.TheVariants.{Begun, Hand, Idle, Stop, Noted}
-use Rattle.ug_board.specs.Rules.{IsMachine, IsNext, BeginsNext, HandsOut, BegunAlike, counts, says_more}
+use Rattle.ug_board.specs.declared.steps.LaneSaid.TheVariants.{Idle, Stop}
+use Rattle.ug_board.specs.Rules.{IsMachine, IsNext, counts, says_more}
 use Rattle.ug_counter.specs.declared.state.Side.{Side}
 use Rattle.ug_counter.specs.declared.state.Count.{Count}
 use Rattle.ug_counter.specs.declared.state.CounterJob.{CounterJob}
 use Rattle.ug_counter.specs.declared.state.CounterJob.TheVariants.{Start, Add, Starve, Close}
-use Rattle.ug_counter.specs.Counting.{side_of, with_side, fresh_side, fresh_count, can_begin, can_hand, side_begun, side_handed, side_lost, side_started, next_said, next_side, at_rest, after_job, after_lane_step, step_reply, loss_legal, packet, packet_size, one_if, side_due, count_due, counter_rules}
+use Rattle.ug_counter.specs.Counting.{side_of, with_side, fresh_count, can_begin, can_hand, side_begun, side_handed, side_lost, side_started, next_said, next_side, at_rest, after_job, after_lane_step, packet_size, one_if, side_due, count_due, counter_rules}
 
 -- a side that is put in its place is there
 begun-with :

@@ -3,7 +3,7 @@
 ghost use Rattle.std.specs.Prelude.{◌≡◌, ◌+◌, ◌≤◌, ◌<◌, true, false, length, take};
 ghost use Rattle.ug_board.specs.declared.steps.LaneStep.TheVariants.{Next};
 ghost use Rattle.ug_board.specs.Rules.{buffer_size, LeavesHanded};
-ghost use Rattle.ug_counter.specs.Counting.{fresh_count, side_of, with_side, packet, can_begin, can_hand, at_rest, side_due, next_said, next_side, counter_rules};
+ghost use Rattle.ug_counter.specs.Counting.{fresh_count, side_of, with_side, packet, side_due, next_said, next_side, counter_rules};
 
 use crate::state::{Count, CounterJob, CounterSaid, Side};
 use std::sync::ledger::Ledger;

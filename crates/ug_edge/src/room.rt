@@ -1,7 +1,7 @@
 //! A wire that takes all its memory when it is made.
 
-ghost use Rattle.std.specs.Prelude.{◌≡◌, ℕ, ◌+◌, ◌-◌, ◌<◌, ◌≤◌, [], ◌∷◌, ◌++◌, length, take, min, true, false, Some, OnOk, OnErr, IfOk, slice_get};
-ghost use Rattle.ug_edge.specs.Told.{Rose, onto_last};
+ghost use Rattle.std.specs.Prelude.{◌≡◌, ◌+◌, ◌-◌, ◌<◌, ◌≤◌, [], ◌∷◌, ◌++◌, length, take, min, true, false, Some, OnOk, OnErr, IfOk, slice_get};
+ghost use Rattle.ug_edge.specs.Told.{Rose};
 ghost use Rattle.ug_edge.specs.RoomState.{RoomState, fresh_room, room_begun, room_unkept, room_with, room_failed, room_refuses};
 
 use crate::counts::raise;

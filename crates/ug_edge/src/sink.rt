@@ -1,8 +1,8 @@
 //! A sink that keeps in memory what was written to it.
 
-ghost use Rattle.std.specs.Prelude.{◌≡◌, ◌<◌, ◌≤◌, length, take, true, false, Some, OnOk, OnErr, IfOk, IsErr};
+ghost use Rattle.std.specs.Prelude.{◌≡◌, ◌<◌, ◌≤◌, length, true, false, Some, OnOk, OnErr, IfOk, IsErr};
 ghost use Rattle.ug_edge.specs.SinkState.{SinkState, fresh_sink, next_write_fails, sink_with, sink_failed, sink_starved};
-ghost use Rattle.ug_edge.specs.Told.{Rose, AppendsPiece};
+ghost use Rattle.ug_edge.specs.Told.{Rose};
 
 use crate::counts::{is_listed, raise};
 use crate::lists::{CallKind, CallList};

@@ -1,7 +1,7 @@
 //! A site whose files and wires are in memory.
 
 ghost use Rattle.std.specs.Prelude.{◌≡◌, ◌<◌, ◌≤◌, [], ◌++◌, min, length, take, drop, true, false, Some, None, OnOk, OnErr, IfOk, IsOk, IsErrOf, Err};
-ghost use Rattle.ug_edge.specs.SiteState.{SiteState, PeerCut, PeerBegins, file_texts, peer_cuts, peer_begins, wire_names, bytes_left, fresh_site, totals_to, begins_to, next_pick_fails, next_read_fails, next_wire_fails, picked_bytes, site_picked, site_unpicked, site_read, site_unread, site_wired, site_unmade, site_unwired, site_with_begins};
+ghost use Rattle.ug_edge.specs.SiteState.{SiteState, file_texts, peer_cuts, peer_begins, wire_names, bytes_left, fresh_site, totals_to, begins_to, next_read_fails, next_wire_fails, picked_bytes, site_picked, site_unpicked, site_read, site_unread, site_wired, site_unmade, site_unwired, site_with_begins};
 ghost use Rattle.ug_edge.specs.WireState.{fresh_wire};
 ghost use Rattle.ug_edge.specs.Told.{Rose};
 

@@ -1,6 +1,6 @@
 //! A wire that keeps in memory what was sent.
 
-ghost use Rattle.std.specs.Prelude.{◌≡◌, ℕ, ◌+◌, ◌-◌, ◌<◌, ◌≤◌, ◌⊎◌, [], ◌∷◌, ◌++◌, length, take, true, false, Some, OnOk, OnErr, IfOk, IsErr, slice_get};
+ghost use Rattle.std.specs.Prelude.{◌≡◌, ◌+◌, ◌-◌, ◌<◌, ◌≤◌, ◌⊎◌, [], ◌∷◌, ◌++◌, length, take, true, false, Some, OnOk, OnErr, IfOk, IsErr, slice_get};
 ghost use Rattle.ug_edge.specs.WireState.{WireState, fresh_wire, next_begin_fails, wire_begun, wire_failed, wire_starved, room_before_cut, meets_cut, wire_cut, wire_with};
 ghost use Rattle.ug_edge.specs.Told.{Rose};
 

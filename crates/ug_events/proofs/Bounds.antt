@@ -2,7 +2,7 @@
 use Rattle.std.proofs.Common.{◌≡◌, ℕ, Bool, true, false, ◌==◌, List, [], ◌∷◌, ◌++◌, Option, Some, None, is_some, refl}
 use Rattle.std.specs.Prelude.{if◌then◌else◌}
 use Rattle.std.specs.Borrow.{Bor}
-use Rattle.ug_text.specs.Cutting.{pieces, pieces_from}
+use Rattle.ug_text.specs.Cutting.{pieces_from}
 use Rattle.ug_text.specs.Seen.{pieces_in}
 use Rattle.ug_events.specs.Entries.{bounds_of}
 

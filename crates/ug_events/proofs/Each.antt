@@ -1,5 +1,5 @@
 -- Reading one after the other.
-use Rattle.std.proofs.Common.{◌≡◌, ℕ, List, [], ◌∷◌, ◌++◌, Result, Ok, Err, refl, ap, sym, ◌∙◌, append_assoc}
+use Rattle.std.proofs.Common.{◌≡◌, List, [], ◌∷◌, ◌++◌, Ok, Err, refl, ap, sym, ◌∙◌, append_assoc}
 use Rattle.ug_events.specs.declared.refusal.LineRefusal.{LineRefusal}
 use Rattle.ug_events.specs.declared.refusal.LineRefusal.TheVariants as refusals
 use Rattle.ug_events.specs.Reads.{Reads, ◌>>=◌, each_read, behind_read}

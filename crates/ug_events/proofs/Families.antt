@@ -1,10 +1,8 @@
 -- The next hops of paths that are read are of the prefix's family.
-use Rattle.std.proofs.Common.{◌≡◌, ℕ, Bool, true, false, List, [], ◌∷◌, Option, Some, None, Result, Ok, Err, refl, ap, subst}
+use Rattle.std.proofs.Common.{◌≡◌, ℕ, Bool, true, false, List, [], ◌∷◌, Option, Some, None, Ok, Err, refl, ap, subst}
 use Rattle.std.specs.Prelude.{◌&&◌, if◌then◌else◌}
-use Rattle.std.specs.List.{list_all}
 use Rattle.ug_types.specs.declared.family.Family.{Family}
 use Rattle.ug_types.specs.Ip.{IpAddress, same_family}
-use Rattle.ug_types.specs.Attributes.{PathSegment, Attributes, refusal_of}
 use Rattle.ug_text.specs.declared.list_reader.Spelled.TheVariants.{Community, Address}
 use Rattle.ug_text.specs.Numbers.{any_number, positive_number}
 use Rattle.ug_text.specs.Addresses.{address_in, ipv4_address, aggregator}
@@ -12,8 +10,8 @@ use Rattle.ug_text.specs.Paths.{numbers_as, path, origin}
 use Rattle.ug_events.specs.declared.field.Field.{Field}
 use Rattle.ug_events.specs.declared.field.Field.TheVariants as fields
 use Rattle.ug_events.specs.Events.{GivenPath, has_next_hop_in, have_next_hops_in}
-use Rattle.ug_events.specs.Reads.{Reads, bad_words, bad_attribute, refused, or_refused, each_read, ◌>>=◌}
-use Rattle.ug_events.specs.Fields.{Fields, no_fields, attribute, source_of, field_of, has, with_field, with_new, with_word, attributes_from, where_accepted, path_of_fields}
+use Rattle.ug_events.specs.Reads.{Reads, bad_words, refused, or_refused, each_read, ◌>>=◌}
+use Rattle.ug_events.specs.Fields.{Fields, no_fields, attribute, source_of, field_of, has, with_field, with_new, with_word, where_accepted, path_of_fields}
 use Rattle.ug_events.specs.Paths.{runs, fields_of, path_of, paths_of}
 use Rattle.ug_events.proofs.Addresses.{address_has}
 

@@ -1,14 +1,14 @@
 -- Runs of words between bars, and the paths that they are.
-use Rattle.std.proofs.Common.{◌≡◌, ℕ, Bool, true, false, List, [], ◌∷◌, ◌++◌, Result, Ok, Err, refl, ap, sym, ◌∙◌, append_assoc}
+use Rattle.std.proofs.Common.{◌≡◌, ℕ, Bool, true, false, List, [], ◌∷◌, ◌++◌, Ok, Err, refl, ap, sym, ◌∙◌}
 use Rattle.std.specs.Prelude.{if◌then◌else◌}
 use Rattle.ug_types.specs.declared.family.Family.{Family}
 use Rattle.ug_events.specs.declared.refusal.LineRefusal.{LineRefusal}
 use Rattle.ug_events.specs.Events.{GivenPath, IsGiven, AreGiven, is_some_path}
-use Rattle.ug_events.specs.Reads.{Reads, ◌>>=◌, each_read, behind_read}
+use Rattle.ug_events.specs.Reads.{Reads, each_read, behind_read}
 use Rattle.ug_events.specs.Words.{words}
 use Rattle.ug_events.specs.Paths.{is_bar, runs, first_of, others_of, path_of, paths_of}
 use Rattle.ug_events.specs.Views.{IsRefusedBy}
-use Rattle.ug_events.proofs.Each.{read_more, refused_on, behind_nothing}
+use Rattle.ug_events.proofs.Each.{read_more, refused_on}
 
 -- there is a first run
 pub runs_are : (ws : List (List ℕ)) → runs ws ≡ first_of (runs ws) ∷ others_of (runs ws)

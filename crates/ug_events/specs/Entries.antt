@@ -1,7 +1,6 @@
 -- The entries of a `list` line: `SEQ:permit:PREFIX` or `SEQ:deny:PREFIX`, then optionally `:ge=N`, then optionally `:le=N`.
-use Rattle.std.specs.Prelude.{ℕ, min, Bool, true, false, List, [], ◌∷◌, Option, Some, None, codes, Result, Ok, Err, if◌then◌else◌}
+use Rattle.std.specs.Prelude.{ℕ, min, Bool, true, false, List, [], ◌∷◌, Option, Some, None, codes, Ok, Err, if◌then◌else◌}
 use Rattle.ug_types.specs.declared.family.Family.TheVariants.{V4}
-use Rattle.ug_types.specs.Ip.{IpPrefix}
 use Rattle.ug_types.specs.Bytes.{same_bytes}
 use Rattle.ug_text.specs.Cutting.{pieces, cut_at}
 use Rattle.ug_text.specs.Numbers.{any_number}

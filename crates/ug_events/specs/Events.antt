@@ -1,12 +1,12 @@
 -- Events, and the lines of a file that say them, as plain data.
-use Rattle.std.specs.Prelude.{◌≡◌, ℕ, ◌<◌, nat_lt, Bool, true, false, ◌&&◌, List, [], ◌∷◌, Option, Some, None, is_none}
+use Rattle.std.specs.Prelude.{◌≡◌, ℕ, ◌<◌, Bool, true, false, ◌&&◌, List, [], ◌∷◌, Option, Some, None, is_none}
 use Rattle.std.specs.List.{list_all}
 use Rattle.ug_types.specs.declared.family.Family.{Family}
 use Rattle.ug_types.specs.Ip.{IpPrefix, same_family}
 use Rattle.ug_types.specs.Attributes.{Attributes, refusal_of}
 use Rattle.ug_prefixlist.specs.declared.entry.ListEntry.{ListEntry}
 use Rattle.ug_prefixlist.specs.Lists.{list_refusal}
-use Rattle.ug_orf.specs.Changes.{OrfChange, OrfRequest, is_change}
+use Rattle.ug_orf.specs.Changes.{OrfRequest, is_change}
 
 -- a path as an event gives it: its identifier, the peer that it is from or none for the speaker itself, and its attributes
 pub record GivenPath : Type 0 where

@@ -1,11 +1,11 @@
 -- What a line of events says: its words are read from left to right, and the first that can't be read decides.
-use Rattle.std.specs.Prelude.{ℕ, nat_lt, Bool, ◌||◌, List, [], ◌∷◌, length, Option, Some, None, codes, Result, Ok, Err, if◌then◌else◌}
+use Rattle.std.specs.Prelude.{ℕ, nat_lt, List, [], ◌∷◌, length, Option, Some, None, codes, Ok, Err, if◌then◌else◌}
 use Rattle.ug_types.specs.Ip.{IpPrefix}
 use Rattle.ug_types.specs.Bytes.{same_bytes}
 use Rattle.ug_text.specs.Addresses.{prefix}
 use Rattle.ug_events.specs.declared.verb.Verb.{Verb}
 use Rattle.ug_events.specs.declared.verb.Verb.TheVariants as verbs
-use Rattle.ug_events.specs.Events.{Happening, ComesUp, GoesDown, HasPaths, HasNone, HasPolicy, HasEntries, AsksAgain, SendsRequest, SendsList, Saying, SaysNothing, SaysSync, Says}
+use Rattle.ug_events.specs.Events.{ComesUp, GoesDown, HasPaths, HasNone, HasPolicy, HasEntries, AsksAgain, SendsRequest, SendsList, Saying, SaysNothing, SaysSync, Says}
 use Rattle.ug_events.specs.Reads.{Reads, too_long, bad_verb, bad_words, bad_prefix, refused, or_refused, ◌>>=◌}
 use Rattle.ug_events.specs.Words.{begins_with, words, without_return}
 use Rattle.ug_events.specs.Fields.{name_of}

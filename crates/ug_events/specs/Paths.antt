@@ -1,5 +1,5 @@
 -- The paths of a `paths` line: runs of words with a word `|` between.
-use Rattle.std.specs.Prelude.{ℕ, Bool, List, [], ◌∷◌, codes, Result, Ok, Err, if◌then◌else◌}
+use Rattle.std.specs.Prelude.{ℕ, Bool, List, [], ◌∷◌, codes, Ok, Err, if◌then◌else◌}
 use Rattle.ug_types.specs.declared.family.Family.{Family}
 use Rattle.ug_types.specs.Bytes.{same_bytes}
 use Rattle.ug_events.specs.Events.{GivenPath}

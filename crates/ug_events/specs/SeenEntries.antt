@@ -1,5 +1,5 @@
 -- The parts of an entry and its bounds, without where they lie in memory.
-use Rattle.std.specs.Prelude.{ℕ, List, [], Option, Some, None}
+use Rattle.std.specs.Prelude.{ℕ, List, Option, Some, None}
 use Rattle.std.specs.Borrow.{Bor}
 use Rattle.std.specs.Option.{option_map}
 use Rattle.ug_text.specs.Seen.{pieces_in}

@@ -1,5 +1,5 @@
 -- What the code's values say, without where they lie in memory.
-use Rattle.std.specs.Prelude.{◌≡◌, ℕ, List, Option, Some, None, Result, Ok, Err}
+use Rattle.std.specs.Prelude.{◌≡◌, List, Option, Some, None, Result, Ok, Err}
 use Rattle.std.specs.Option.{option_map}
 use Rattle.ug_text.specs.Lists.{items_of, segments_of}
 use Rattle.ug_orf.specs.Views.{orf_seen}
@@ -11,7 +11,7 @@ use Rattle.ug_events.specs.declared.refusal.LineRefusal.{LineRefusal}
 use Rattle.ug_events.specs.declared.refusal.LineRefusal.TheVariants as refusals
 use Rattle.ug_events.specs.declared.path_fields.PathFields.{PathFields}
 use Rattle.ug_events.specs.Events.{Happening, ComesUp, GoesDown, HasPaths, HasNone, HasPolicy, HasEntries, AsksAgain, SendsRequest, SendsList, Saying, SaysNothing, SaysSync, Says}
-use Rattle.ug_events.specs.Reads.{Refusal, Reads}
+use Rattle.ug_events.specs.Reads.{Reads}
 use Rattle.ug_events.specs.Fields.{Fields}
 
 abbrev pub event_of : Event → Happening

@@ -1,6 +1,5 @@
 //! Words that are names.
 
-ghost use Rattle.std.specs.Prelude.{◌≡◌};
 ghost use Rattle.ug_events.specs.Fields.{name_of, source_of};
 ghost use Rattle.ug_events.specs.Grammar.{policy_of};
 ghost use Rattle.ug_events.specs.Views.{Gives};

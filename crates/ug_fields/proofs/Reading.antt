@@ -1,8 +1,8 @@
 -- Reading one after the other.
-use Rattle.std.proofs.Common.{◌≡◌, ℕ, ◌+◌, List, [], ◌∷◌, ◌++◌, Option, Some, None, Result, Ok, Err, refl, ap, sym, ◌∙◌, append_assoc}
+use Rattle.std.proofs.Common.{◌≡◌, ℕ, ◌+◌, List, [], ◌∷◌, ◌++◌, Some, None, Ok, Err, refl, ap, append_assoc}
 use Rattle.ug_fields.specs.declared.refusals.ConfigRefusal.{ConfigRefusal}
 use Rattle.ug_fields.specs.declared.refusals.ConfigRefusal.TheVariants as refusals
-use Rattle.ug_fields.specs.Reads.{Reads, Refusal, ◌>>=◌, each_read, each_table, way_into, behind_read, fault_of}
+use Rattle.ug_fields.specs.Reads.{Reads, ◌>>=◌, each_read, each_table, way_into, behind_read, fault_of}
 use Rattle.ug_fields.specs.Gives.{Tells}
 
 one_behind : {A : Type 0} (given : List A) (a : A) (rest : Reads (List A)) → behind_read (given ++ a ∷ []) rest ≡ behind_read given (rest >>= λ more. Ok (a ∷ more))

@@ -1,6 +1,6 @@
 -- What the fields that were read say, by their names.
-use Rattle.std.specs.Prelude.{ℕ, Bool, true, false, List, [], ◌∷◌, Option, Some, None, if◌then◌else◌}
-use Rattle.ug_types.specs.Ip.{IpAddress, IpPrefix, ipv4}
+use Rattle.std.specs.Prelude.{ℕ, Bool, List, [], ◌∷◌, Option, Some, None, if◌then◌else◌}
+use Rattle.ug_types.specs.Ip.{IpAddress, IpPrefix}
 use Rattle.ug_types.specs.Bytes.{same_bytes}
 use Rattle.ug_routemap.specs.declared.entry.OnMatch.{OnMatch}
 use Rattle.ug_routemap.specs.declared.entry.OnMatch.TheVariants as on_matches

@@ -1,8 +1,7 @@
 -- The fields of a table, one after the other.
-use Rattle.std.specs.Prelude.{ℕ, Bool, true, false, List, [], ◌∷◌, ◌++◌, Option, Some, None, Result, Ok, Err, codes, if◌then◌else◌}
+use Rattle.std.specs.Prelude.{ℕ, Bool, false, List, ◌++◌, Option, Some, None, Ok, codes, if◌then◌else◌}
 use Rattle.std.specs.List.{list_any}
-use Rattle.std.specs.Option.{option_map}
-use Rattle.toml.specs.Data.{Data, string, integer, float, boolean, datetime, array, table, Members, no_members, member, get, as_str, as_table}
+use Rattle.toml.specs.Data.{Data, table, Members, no_members, member, get, as_str, as_table}
 use Rattle.toml.specs.Parse.{parse_document}
 use Rattle.std.specs.Str.{is_utf8}
 use Rattle.ug_types.specs.declared.family.Family.{Family}
@@ -13,8 +12,8 @@ use Rattle.ug_fields.specs.declared.kind.Need.TheVariants as needs
 use Rattle.ug_fields.specs.Rows.{FieldRow}
 use Rattle.ug_fields.specs.declared.given.Given.{Given}
 use Rattle.ug_fields.specs.declared.given.Given.TheVariants as givens
-use Rattle.ug_fields.specs.Reads.{Reads, Refusal, ◌>>=◌, refused, or_refused, each_read, no_document, missing, malformed, unknown_field}
-use Rattle.ug_fields.specs.Kinds.{value_as, elements}
+use Rattle.ug_fields.specs.Reads.{Reads, ◌>>=◌, refused, or_refused, each_read, no_document, missing, malformed, unknown_field}
+use Rattle.ug_fields.specs.Kinds.{value_as}
 
 -- The table that a text stands for. For a text that is none the field is `-`.
 abbrev pub parsed : Option Members → Reads Data

@@ -1,11 +1,9 @@
 //! A document, and what its tables hold.
 
-ghost use Rattle.std.specs.Prelude.{◌≡◌, IfOk, IfErr, map, None, true, false, IsTrue, ◌↔◌, Result, Ok, Err};
-ghost use Rattle.std.specs.Str.{is_utf8};
+ghost use Rattle.std.specs.Prelude.{◌≡◌, map, None, Result, Ok, Err};
 ghost use Rattle.toml.specs.Data.{table};
 ghost use Rattle.toml.specs.View.{view};
 ghost use Rattle.toml.specs.Parse.{parse_document};
-ghost use Rattle.ug_fields.specs.Gives.{Gives};
 ghost use Rattle.ug_fields.specs.Tables.{parsed, document};
 ghost use Rattle.ug_fields.specs.Kinds.{tables_at, family_at};
 ghost use Rattle.ug_fields.specs.Views.{GivesData};

@@ -1,6 +1,6 @@
 //! The tables of an array.
 
-ghost use Rattle.std.specs.Prelude.{◌≡◌, map, List, ℕ};
+ghost use Rattle.std.specs.Prelude.{map, List, ℕ};
 ghost use Rattle.toml.specs.Data.{Data};
 ghost use Rattle.toml.specs.View.{view};
 ghost use Rattle.ug_fields.specs.Gives.{Gives, GivesItems};

@@ -6,7 +6,6 @@ ghost use Rattle.ug_text.specs.Lists.{items_of};
 ghost use Rattle.ug_fields.specs.Looks.{value_at, number_at, octet_at, flag_at, name_at, address_at, prefix_at, on_match_at, numbers_at};
 
 use crate::given::Given;
-use crate::items::Items;
 use std::alloc::Global;
 use std::marker::Model;
 use ug_routemap::OnMatch;

@@ -1,6 +1,6 @@
 //! The fields of a table, one after the other.
 
-ghost use Rattle.std.specs.Prelude.{◌≡◌, map, IfOk};
+ghost use Rattle.std.specs.Prelude.{◌≡◌};
 ghost use Rattle.std.specs.Option.{option_map};
 ghost use Rattle.toml.specs.Data.{as_table, get};
 ghost use Rattle.toml.specs.View.{view, table_view};

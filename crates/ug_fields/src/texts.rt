@@ -4,7 +4,7 @@ ghost use Rattle.std.specs.Prelude.{◌≡◌, IfOk};
 ghost use Rattle.std.specs.Option.{option_copied};
 ghost use Rattle.toml.specs.Data.{as_str};
 ghost use Rattle.toml.specs.View.{view};
-ghost use Rattle.ug_fields.specs.Kinds.{action, family, on_match, goto_after, name, peer_name, community_in};
+ghost use Rattle.ug_fields.specs.Kinds.{action, family, on_match, name, peer_name, community_in};
 
 use std::alloc::Global;
 use toml::Value;

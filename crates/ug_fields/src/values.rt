@@ -1,6 +1,6 @@
 //! What the value of a field says.
 
-ghost use Rattle.std.specs.Prelude.{◌≡◌, IfOk, map};
+ghost use Rattle.std.specs.Prelude.{◌≡◌, IfOk};
 ghost use Rattle.toml.specs.View.{view};
 ghost use Rattle.ug_fields.specs.Kinds.{number_in, value_as, where_true};
 ghost use Rattle.ug_fields.specs.declared.kind.Kind.TheVariants as kinds;

@@ -1,5 +1,5 @@
 -- The attributes in three parts.
-use Rattle.std.proofs.Common.{◌≡◌, ℕ, ◌+◌, List, ◌++◌, length, refl, sym, ap, ◌∙◌, arith, length-append, append_assoc}
+use Rattle.std.proofs.Common.{◌≡◌, ℕ, ◌+◌, List, ◌++◌, length, refl, ap, ◌∙◌, length-append, append_assoc}
 use Rattle.ug_types.specs.Attributes.{Attributes}
 use Rattle.ug_message.specs.Spelling.{before_next_hop, next_hop, after_next_hop, attributes, attributes_but_next_hop, next_hop_place, four_bytes}
 use Rattle.ug_message.proofs.Heads.{length_attribute}

@@ -1,6 +1,6 @@
 //! Messages whose bytes were worked out by hand.
 
-ghost use Rattle.std.specs.Prelude.{◌≡◌, true, ◌+◌, ◌≤◌, ◌||◌, IsTrue, IfOk};
+ghost use Rattle.std.specs.Prelude.{◌≡◌, true, ◌≤◌, ◌||◌, IsTrue};
 ghost use Rattle.ug_types.specs.declared.family.Family.TheVariants.{V6};
 ghost use Rattle.ug_message.specs.Spellable.{is_ipv4, has_ipv4_addresses, are_of_family};
 ghost use Rattle.ug_message.specs.Lengths.{HasShortValues};

@@ -1,5 +1,5 @@
 -- What an ORF message says, as plain data (RFC 5291, RFC 5292).
-use Rattle.std.specs.Prelude.{◌≡◌, ℕ, Bool, true, false, List, Option, Some, None}
+use Rattle.std.specs.Prelude.{◌≡◌, Bool, true, false, List, Option, Some, None}
 use Rattle.ug_prefixlist.specs.declared.entry.ListEntry.{ListEntry}
 use Rattle.ug_prefixlist.specs.Lists.{is_good}
 use Rattle.ug_orf.specs.declared.action.Action.{Action}

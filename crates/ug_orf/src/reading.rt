@@ -1,6 +1,6 @@
 //! ORF messages as bytes.
 
-ghost use Rattle.std.specs.Prelude.{◌≡◌, ◌≤◌, ◌++◌, [], ◌∷◌, length, take, replicate, true, IfOk, IfErr, Ok, None};
+ghost use Rattle.std.specs.Prelude.{◌≡◌, ◌≤◌, ◌++◌, [], ◌∷◌, length, take, replicate, IfOk, IfErr, Ok, None};
 ghost use Rattle.std.specs.Int.{w32, from_be_bytes};
 ghost use Rattle.ug_orf.specs.Walking.{all_in};
 ghost use Rattle.ug_orf.specs.Reading.{bound, len_field, prefix_field, entry_field, entry_size, all_go, added_or_removed, entry_at, block_at, is_whole, head_refusal, orf_of};

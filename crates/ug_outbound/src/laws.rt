@@ -1,6 +1,6 @@
 //! Laws over the definitions, on a function that does nothing.
 
-ghost use Rattle.std.specs.Prelude.{◌≡◌, ◌≤◌, ℕ, true, false, [], length, Some, None};
+ghost use Rattle.std.specs.Prelude.{◌≡◌, ◌≤◌, true, false, [], length, Some, None};
 ghost use Rattle.ug_types.specs.Ip.{IpPrefix, IpAddress};
 ghost use Rattle.ug_types.specs.Attributes.{refusal_of};
 ghost use Rattle.ug_message.specs.Spelling.{attributes, attributes_but_next_hop};

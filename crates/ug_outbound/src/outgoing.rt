@@ -1,7 +1,6 @@
 //! The outbound rules in their order.
 
 ghost use Rattle.std.specs.Prelude.{◌≡◌, ◌+◌, ◌≤◌, None, length, IfOk, IfSome};
-ghost use Rattle.std.specs.Option.{option_map};
 ghost use Rattle.ug_types.specs.Attributes.{attributes_of, refusal_of};
 ghost use Rattle.ug_message.specs.Spelling.{attributes, attributes_but_next_hop};
 ghost use Rattle.ug_outbound.specs.Outbound.{is_let_out, mapped, heeded, reflected, attributes_out, finished, out};

@@ -1,6 +1,6 @@
 //! What takes bytes piece by piece.
 
-ghost use Rattle.std.specs.Prelude.{◌≡◌, ℕ, ◌+◌, ◌<◌, ◌≤◌, List, [], ◌++◌, length, OnOk, IfErr};
+ghost use Rattle.std.specs.Prelude.{ℕ, ◌+◌, ◌<◌, ◌≤◌, List, [], ◌++◌, length, OnOk, IfErr};
 
 /// What takes the bytes of a source, piece by piece, however they are cut. `C` is what it works on beside itself, as a
 /// report.

@@ -1,8 +1,8 @@
 -- The first row above a key.
-use Rattle.std.proofs.Common.{◌≡◌, ℕ, Bool, true, false, List, [], ◌∷◌, ◌++◌, map, Option, Some, None, Ordering, nat_cmp, refl, sym, ap, subst, ◌∙◌}
+use Rattle.std.proofs.Common.{◌≡◌, ℕ, Bool, true, false, List, ◌++◌, Option, Some, None, Ordering, nat_cmp, refl, sym, ap, subst, ◌∙◌}
 use Rattle.std.specs.Prelude.{IsSome, IfSome, IfNone}
 use Rattle.std.specs.declared.cmp.Ordering.TheVariants.{Less, Equal, Greater}
-use Rattle.std.specs.Ordering.{is_eq, is_gt, ordering_then}
+use Rattle.std.specs.Ordering.{is_gt, ordering_then}
 use Rattle.std.specs.Option.{option_map}
 use Rattle.std.specs.Map.{lookup}
 use Rattle.std.specs.BTreeMap.{is_at}
@@ -10,13 +10,13 @@ use Rattle.std.specs.BTreeMap.Range.{IsLeBy}
 use Rattle.ug_types.specs.declared.family.Family.{Family}
 use Rattle.ug_types.specs.declared.family.Family.TheVariants.{V4, V6}
 use Rattle.ug_types.specs.declared.key.Key.{Key}
-use Rattle.ug_types.specs.Keys.{same_key, family_rank}
+use Rattle.ug_types.specs.Keys.{family_rank}
 use Rattle.ug_types.specs.Orders.{key_cmp}
 use Rattle.ug_types.specs.Attributes.{Attributes}
 use Rattle.ug_receiver.specs.declared.row.Row.{Row}
 use Rattle.ug_receiver.specs.Rows.{Rows, row_at, IsAfter}
-use Rattle.ug_receiver.specs.Stored.{shown, rows_of, AreRowsOf, IsStored, IsFirstAfter}
-use Rattle.ug_receiver.proofs.Keys.{tied_by, lookup_is, same_is, before}
+use Rattle.ug_receiver.specs.Stored.{rows_of, AreRowsOf, IsStored, IsFirstAfter}
+use Rattle.ug_receiver.proofs.Keys.{tied_by, lookup_is, before}
 use Rattle.ug_receiver.proofs.Found.{found, attrs_of, either, found_append, found_shown, no_v4, no_v6}
 
 module _ (cmp : Key → Key → Ordering) (order : (a : Key) → (b : Key) → cmp a b ≡ key_cmp a b) where

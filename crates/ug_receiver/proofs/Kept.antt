@@ -1,5 +1,5 @@
 -- What a table keeps to: families, order, and how many refreshes there were.
-use Rattle.std.proofs.Common.{◌≡◌, ℕ, ◌+◌, ◌≤◌, Bool, true, false, cond, not, List, [], ◌∷◌, ◌++◌, length, map, Ordering, refl, sym, ap, subst, ◌∙◌, arith}
+use Rattle.std.proofs.Common.{◌≡◌, ℕ, ◌+◌, ◌≤◌, Bool, true, false, cond, not, List, [], ◌∷◌, ◌++◌, map, Ordering, refl, sym, ap, subst, ◌∙◌, arith}
 use Rattle.std.specs.declared.cmp.Ordering.TheVariants.{Less, Equal, Greater}
 use Rattle.std.specs.Ordering.{match_ordering}
 use Rattle.std.specs.List.{filter, AllByRecursion}
@@ -11,7 +11,7 @@ use Rattle.ug_types.specs.declared.family.Family.TheVariants.{V4, V6}
 use Rattle.ug_types.specs.declared.key.Key.{Key}
 use Rattle.ug_types.specs.Orders.{key_cmp}
 use Rattle.ug_receiver.specs.declared.row.Row.{Row}
-use Rattle.ug_receiver.specs.Stored.{shown, is_stale, stale_keys, fresh_rows, rows_of, IsRowOf, AreRowsOf, IsStored}
+use Rattle.ug_receiver.specs.Stored.{shown, is_stale, stale_keys, fresh_rows, rows_of, AreRowsOf, IsStored}
 use Rattle.ug_receiver.specs.Rows.{Rows}
 use Rattle.ug_receiver.proofs.Keys.{before}
 

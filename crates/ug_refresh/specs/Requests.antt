@@ -1,5 +1,5 @@
 -- ROUTE-REFRESH messages of IPv4 unicast (RFC 4271 section 4.1, RFC 2918 section 3, RFC 7313 section 3.2).
-use Rattle.std.specs.Prelude.{◌≡◌, ℕ, ◌==◌, Bool, ◌&&◌, not, List, length, take, drop, slice_index, Option, Some, None, if◌then◌else◌}
+use Rattle.std.specs.Prelude.{ℕ, ◌==◌, Bool, ◌&&◌, not, List, length, take, drop, slice_index, Option, Some, None, if◌then◌else◌}
 use Rattle.std.specs.List.{list_all}
 use Rattle.std.specs.Int.{w16, from_be_bytes}
 

@@ -1,6 +1,6 @@
 //! ROUTE-REFRESH messages as bytes.
 
-ghost use Rattle.std.specs.Prelude.{◌≡◌, ◌≤◌, ◌==◌, None, length, take, MatchResult};
+ghost use Rattle.std.specs.Prelude.{◌≡◌, ◌≤◌, ◌==◌, None, length, MatchResult};
 ghost use Rattle.std.specs.List.{list_all};
 ghost use Rattle.ug_refresh.specs.Requests.{has_marker, length_field, is_ipv4_unicast, reserved_field, kind_refusal, refresh_refusal};
 

@@ -3,7 +3,6 @@
 ghost use Rattle.std.specs.Prelude.{◌≡◌, ◌++◌, map, OnOk};
 ghost use Rattle.std.specs.List.{concat};
 ghost use Rattle.std.specs.String.{string_bytes};
-ghost use Rattle.ug_events.specs.Reads.{Refusal};
 ghost use Rattle.ug_report.specs.Report.{refusal_name, inner_text, refusal_text, name_at, mark_text};
 
 use ug_types::{Mark, Name, NoMemory, PeerId};

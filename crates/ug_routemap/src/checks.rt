@@ -1,10 +1,10 @@
 //! Which entries are a route map.
 
-ghost use Rattle.std.specs.Prelude.{◌≡◌, [], length, map, min, unwrap_or};
+ghost use Rattle.std.specs.Prelude.{◌≡◌, map, unwrap_or};
 ghost use Rattle.std.specs.List.{list_all, list_any};
 ghost use Rattle.ug_types.specs.Bytes.{same_bytes};
 ghost use Rattle.ug_routemap.specs.Rules.{rule_of, numbers_of};
-ghost use Rattle.ug_routemap.specs.Refusals.{is_origin, sets_origin, is_ahead, leads_ahead, is_among, is_known, count_in, prepends_in, communities_in, has_few_sets, refusal_in_order};
+ghost use Rattle.ug_routemap.specs.Refusals.{is_origin, sets_origin, is_ahead, leads_ahead, is_among, is_known, count_in, has_few_sets, refusal_in_order};
 
 use crate::entry::{MapEntry, MapEntryList, OnMatch};
 use ug_prefixlist::is_rising;

@@ -1,9 +1,9 @@
 //! Route maps.
 
-ghost use Rattle.std.specs.Prelude.{◌≡◌, None, true, map, IfOk, MatchResult};
+ghost use Rattle.std.specs.Prelude.{◌≡◌, None, map, IfOk, MatchResult};
 ghost use Rattle.ug_prefixlist.specs.Order.{ascending};
 ghost use Rattle.ug_routemap.specs.Rules.{rule_of, rule_seq};
-ghost use Rattle.ug_routemap.specs.Maps.{is_met, so_far, goes_to, map_walk, map_result};
+ghost use Rattle.ug_routemap.specs.Maps.{is_met, so_far, goes_to, map_result};
 ghost use Rattle.ug_routemap.specs.Refusals.{SetOrigins, map_refusal, IsRouteMap, IsRefusal};
 
 use crate::checks::refusal_in_order;

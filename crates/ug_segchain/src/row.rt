@@ -1,5 +1,5 @@
 //! The segments of a chain as one row of places.
-ghost use Rattle.std.specs.Prelude.{◌≡◌, ◌+◌, ◌<◌, None, Some, ◌∷◌, ◌++◌, length, replicate, get_or, slice_set, take, drop, OnOk, OnErr};
+ghost use Rattle.std.specs.Prelude.{◌≡◌, ◌+◌, ◌<◌, None, Some, ◌++◌, length, replicate, get_or, slice_set, take, drop, OnOk, OnErr};
 ghost use Rattle.ug_segchain.specs.Slots.{IsFilled, joined, AreWhole, AreEmpty};
 
 use crate::segment::{SEGMENT_PLACES, Segment};

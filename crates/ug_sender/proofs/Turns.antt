@@ -1,5 +1,5 @@
 -- What a lane's step on a board tells.
-use Rattle.std.proofs.Common.{◌≡◌, ℕ, ◌+◌, ◌<◌, ◌≤◌, Bool, true, false, List, [], ◌∷◌, ◌++◌, length, take, Option, Some, None, refl, sym, ◌∙◌, ap, subst, arith, length-append, append_assoc, if◌then◌else◌}
+use Rattle.std.proofs.Common.{◌≡◌, ℕ, ◌+◌, ◌<◌, ◌≤◌, Bool, true, false, List, [], ◌∷◌, ◌++◌, length, Option, Some, None, refl, sym, ◌∙◌, ap, subst, arith, length-append, append_assoc, if◌then◌else◌}
 use Rattle.std.specs.Prelude.{◌==◌}
 use Rattle.std.proofs.lemmas.List.{append-nil}
 use Rattle.std.proofs.lemmas.Bool.{eq-eqb}
@@ -11,11 +11,11 @@ use Rattle.ug_board.specs.declared.steps.LaneSaid.{LaneSaid}
 use Rattle.ug_board.specs.declared.steps.LaneSaid.TheVariants.{Begun, Hand, Idle, Stop, Noted}
 use Rattle.ug_board.specs.Entry.{Entry}
 use Rattle.ug_board.specs.Rules.{Rules, IsMachine, IsNext, LeavesHanded, counts, says_more, lane_said}
-use Rattle.ug_board.specs.History.{IsLegal, IsLegalFrom, after_step, replay, replay_from, lane_entries, spent_said}
+use Rattle.ug_board.specs.History.{IsLegal, IsLegalFrom, after_step, replay, lane_entries, spent_said}
 use Rattle.std.specs.Prelude.{filter}
 use Rattle.std.proofs.lemmas.List.Elements.{filter-append}
 use Rattle.ug_turnstile.specs.Passes.{StartsWith, owned_by}
-use Rattle.ug_deeds.specs.Deeds.{Deed, Begins, Hands, Loses, Each, when, of_pass, to_peer, lane_is_to, lane_deeds, deeds, deeds_from, begins}
+use Rattle.ug_deeds.specs.Deeds.{Deed, Hands, Loses, Each, when, of_pass, to_peer, lane_is_to, lane_deeds, deeds, deeds_from, begins}
 use Rattle.ug_deeds.proofs.Growth.{deeds_from-append, deeds_from-others}
 use Rattle.ug_deeds.proofs.Beginnings.{begins-at_most}
 use Rattle.ug_sender.specs.Lanes.{AreOfPeer, deeds_at}

@@ -1,11 +1,10 @@
 -- What a wire holds of what was handed out, as calls are made on it.
 use Rattle.std.proofs.Common.{◌≡◌, ℕ, ◌+◌, ◌<◌, ◌≤◌, Bool, true, false, List, [], ◌∷◌, ◌++◌, length, map, Option, Some, None, refl, sym, ◌∙◌, ap, subst, arith, inl, inr, take, drop, length-append, append_assoc}
-use Rattle.std.specs.Prelude.{◌==◌, ◌||◌, ◌⊎◌}
+use Rattle.std.specs.Prelude.{◌==◌, ◌||◌}
 use Rattle.std.specs.List.{concat}
 use Rattle.std.proofs.lemmas.List.{append-nil, length-map, take-append-drop}
 use Rattle.std.proofs.lemmas.List.Folds.{concat-append}
 use Rattle.std.proofs.lemmas.Bool.{eq-eqb, eqb-true}
-use Rattle.std.proofs.lemmas.Bool.Decides.{eqb_tells}
 use Rattle.ug_edge.specs.Told.{Rose, onto_last, SendsPiece, BeginsSession, IsFresh}
 use Rattle.ug_deeds.specs.Deeds.{Deed, Begins, Hands, Loses, begins, losses}
 use Rattle.ug_deeds.proofs.Folding.{sessions_of-append, losses-append, length-sessions_of}
@@ -13,7 +12,6 @@ use Rattle.ug_deeds.specs.Sessions.{Session, with_item, hand_last, sessions_of}
 use Rattle.ug_sender.specs.Courses.{Fate, Whole, Noted, Unnoted, Course, IsFront, HoldsOf, HoldsAll, Holds, failures, failed, when_noted, noted, is_unnoted, has_unnoted, when_whole, open_session, fate_of, KeepsWire}
 use Rattle.ug_sender.specs.Pieces.{SendsFront}
 use Rattle.ug_sender.specs.Tellings.{TellsLoss}
-use Rattle.ug_sender.proofs.Pieces.{SendsPiece-none}
 
 -- the courses with the last one changed
 pub change_last : (Course → Course) → List Course → List Course

@@ -1,5 +1,5 @@
 -- A lane as contracts see it, and what it keeps.
-use Rattle.std.specs.Prelude.{◌≡◌, ℕ, ◌<◌, ◌≤◌, Bool, true, false, List, [], ◌∷◌, ◌++◌, length, Option, Some, None}
+use Rattle.std.specs.Prelude.{◌≡◌, ℕ, ◌<◌, Bool, true, false, List, [], Option, Some, None}
 use Rattle.ug_board.specs.Entry.{Entry}
 use Rattle.ug_board.specs.declared.steps.LaneStep.TheVariants.{Next}
 use Rattle.ug_board.specs.declared.steps.LaneSaid.TheVariants.{Idle}

@@ -1,6 +1,6 @@
 //! A lane: a wire, and the pass by which it is told what to send.
 
-ghost use Rattle.std.specs.Prelude.{◌≡◌, ◌≤◌, ◌||◌, ◌⊎◌, [], length, true, false, Some, None, IfOk, IfErr};
+ghost use Rattle.std.specs.Prelude.{◌≡◌, ◌≤◌, ◌||◌, ◌⊎◌, [], true, false, Some, None, IfOk, IfErr};
 ghost use Rattle.std.specs.Vec.{vec_len};
 ghost use Rattle.ug_edge.specs.Told.{Rose, IsFresh};
 ghost use Rattle.ug_turnstile.specs.Passes.{StartsWith, mine};

@@ -1,6 +1,6 @@
 //! Bytes into the session of a wire that was begun last.
 
-ghost use Rattle.std.specs.Prelude.{◌≡◌, ◌+◌, ◌<◌, ◌≤◌, length, OnOk, OnErr};
+ghost use Rattle.std.specs.Prelude.{◌≡◌, ◌+◌, ◌<◌, ◌≤◌, OnOk, OnErr};
 ghost use Rattle.ug_edge.specs.Told.{Rose, BeginsSession, SendsPiece};
 ghost use Rattle.ug_sender.specs.Pieces.{SendsFront};
 

@@ -1,6 +1,6 @@
 //! Path attributes (RFC 4271 section 5, RFC 1997, RFC 4456, RFC 6793).
 
-ghost use Rattle.std.specs.Prelude.{◌≡◌, ◌<◌, ◌↔◌, IsTrue, OnOk, IfOk, IfErr, MatchResult, Some, None, map, true, false};
+ghost use Rattle.std.specs.Prelude.{◌≡◌, ◌<◌, ◌↔◌, IsTrue, IfOk, MatchResult, Some, None, map, true, false};
 ghost use Rattle.std.specs.List.{list_all};
 ghost use Rattle.ug_types.specs.Attributes.{attributes_of, refusal_of, is_well_formed, is_segment, IsAttributes, numbers_in, plain_attributes, segment_of, Attributes};
 

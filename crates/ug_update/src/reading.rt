@@ -6,7 +6,7 @@ ghost use Rattle.ug_message.specs.Texts.{afi};
 ghost use Rattle.ug_message.specs.AttributesRead.{read_attributes, read_multiprotocol};
 ghost use Rattle.ug_attrwire.specs.Views.{placed_of, multiprotocol_of};
 ghost use Rattle.ug_update.specs.declared.fault.MessageFault.TheVariants as faults;
-ghost use Rattle.ug_message.specs.Reading.{size_at, is_marked, message_size, message_type, is_size, header_fault, parts_in, one_route, route_fault, routes_in, attributes_read, placed_routes, ipv4_changes, ipv6_changes, read_update, read_refresh, read_body, is_alone, ends_rib_of, ends_rib};
+ghost use Rattle.ug_message.specs.Reading.{size_at, is_marked, is_size, header_fault, parts_in, one_route, route_fault, routes_in, attributes_read, placed_routes, ipv4_changes, ipv6_changes, read_update, read_refresh, read_body, is_alone, ends_rib_of, ends_rib};
 ghost use Rattle.ug_update.specs.Views.{fault_of, parts_of, Gives, IsWithin};
 
 use crate::fault::{Fault, MessageFault};

@@ -13,8 +13,8 @@ use ug_attrwire::size_of;
 use ug_message::values_are_short;
 use ug_nlri::NlriRefusal;
 use ug_types::{
-    Addr, Aggregator, AttrParts, Attrs, ByteList, Family, Key, NoMemory, NumberList, Prefix,
-    Segment, SegmentList, Sequence, Written,
+    Addr, Aggregator, AttrParts, Attrs, Family, Key, NoMemory, NumberList, Prefix, Segment,
+    SegmentList, Sequence, Written,
 };
 
 /// The bytes that words of hexadecimal digits spell; M is a marker.

@@ -1,7 +1,6 @@
 //! What a run needs before its first line: a board over its speaker, a turnstile round it, and the memory of its lanes.
 
-ghost use Rattle.std.specs.Prelude.{◌≡◌, ◌+◌, ◌≤◌, [], length, map, IfOk};
-ghost use Rattle.std.specs.List.{range_with_len};
+ghost use Rattle.std.specs.Prelude.{◌≡◌, ◌+◌, ◌≤◌, [], length, IfOk};
 ghost use Rattle.ug_board.specs.History.{fresh_board};
 ghost use Rattle.ug_speaker.specs.Owes.{IsOpening};
 ghost use Rattle.ug_wiring.specs.Lanes.{ArePassesFrom};

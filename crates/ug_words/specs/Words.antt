@@ -1,7 +1,6 @@
 -- Which words are a command: its name, options that may stand anywhere behind it, and the positional words. A word `--`
 -- ends the options.
 use Rattle.std.specs.Prelude.{ℕ, nat_lt, ◌==◌, Bool, true, false, not, ◌&&◌, List, [], ◌∷◌, length, Option, Some, None, is_some, option_and_then, codes, if◌then◌else◌}
-use Rattle.std.specs.Option.{option_map}
 use Rattle.ug_types.specs.declared.capabilities.Capabilities.{Capabilities}
 use Rattle.ug_types.specs.declared.family.Family.TheVariants.{V4, V6}
 use Rattle.ug_types.specs.Bytes.{same_bytes}

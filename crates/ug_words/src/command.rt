@@ -1,9 +1,9 @@
 //! The command that words are.
 
-ghost use Rattle.std.specs.Prelude.{◌≡◌, map, option_and_then};
+ghost use Rattle.std.specs.Prelude.{◌≡◌, map};
 ghost use Rattle.std.specs.String.{string_bytes};
 ghost use Rattle.std.specs.Option.{option_map};
-ghost use Rattle.ug_words.specs.Words.{command_of, command_by, said_by, one_by, run_by, check_by, groups_by, is_apart, with_words, nothing_said};
+ghost use Rattle.ug_words.specs.Words.{command_of, said_by, one_by, run_by, check_by, groups_by, is_apart, with_words, nothing_said};
 ghost use Rattle.ug_words.specs.Views.{command_seen, so_far_seen, word_seen};
 
 use crate::so_far::WordsSoFar;

@@ -1,6 +1,6 @@
 -- Keys of paths in the order of their identifiers.
 use Rattle.std.proofs.Common.{◌≡◌, ℕ, Bool, true, false, List, [], ◌∷◌, map, refl, sym, ◌∙◌, ap}
-use Rattle.std.specs.Prelude.{nat_le, ◌||◌, ◌==◌, find, Option, Some, None, if◌then◌else◌}
+use Rattle.std.specs.Prelude.{nat_le, ◌||◌, find, Some, None, if◌then◌else◌}
 use Rattle.std.specs.List.{list_any}
 use Rattle.ug_types.specs.Ip.{IpPrefix}
 use Rattle.ug_types.specs.declared.key.Key.{Key}

@@ -4,7 +4,6 @@ ghost use Rattle.std.specs.Prelude.{◌≡◌, ◌≤◌, ◌||◌, nat_lt, if�
 ghost use Rattle.std.specs.Map.{lookup, remove_entry};
 ghost use Rattle.std.specs.BTreeMap.{insert_entry, get};
 ghost use Rattle.std.specs.BTreeMap.Range.{IsLeBy};
-ghost use Rattle.std.specs.Ordering.{is_eq};
 ghost use Rattle.ug_types.specs.Ip.{IpPrefix};
 ghost use Rattle.ug_types.specs.Keys.{prefix_cmp, same_prefix};
 ghost use Rattle.ug_types.specs.declared.route.Path as stored;

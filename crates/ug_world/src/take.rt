@@ -1,8 +1,6 @@
 //! What an event makes of a world.
 
 ghost use Rattle.std.specs.Prelude.{◌≡◌, ◌<◌, None, false, map, OnOk, OnErr, IfOk};
-ghost use Rattle.std.specs.BTreeMap.{insert_entry};
-ghost use Rattle.ug_types.specs.Keys.{prefix_cmp};
 ghost use Rattle.ug_prefixlist.specs.Order.{ascending};
 ghost use Rattle.ug_prefixlist.specs.Lists.{list_refusal, seq_of};
 ghost use Rattle.ug_events.specs.Events.{ComesUp, GoesDown, HasPaths, HasNone, HasPolicy, HasEntries, AsksAgain, SendsRequest, SendsList, IsEvent};

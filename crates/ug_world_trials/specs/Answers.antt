@@ -1,6 +1,5 @@
 -- What is told of a line.
-use Rattle.std.specs.Prelude.{◌≡◌, ℕ, Bool, true, false}
-use Rattle.ug_events.specs.Reads.{Refusal}
+use Rattle.std.specs.Prelude.{◌≡◌, Bool, true, false}
 use Rattle.ug_world.specs.Worlds.{Outcome, Passes, Accepts, Refuses}
 use Rattle.ug_world_trials.specs.declared.lines.Answer.{Answer}
 use Rattle.ug_world_trials.specs.declared.lines.Answer.TheVariants as answers

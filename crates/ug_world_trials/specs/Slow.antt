@@ -1,5 +1,5 @@
 -- What the slow reader's values say.
-use Rattle.std.specs.Prelude.{ℕ, ◌+◌, nat_lt, List, [], ◌∷◌, length, map, drop, Option, if◌then◌else◌}
+use Rattle.std.specs.Prelude.{ℕ, ◌+◌, nat_lt, List, [], length, map, drop, Option, if◌then◌else◌}
 use Rattle.std.specs.Option.{option_map}
 use Rattle.ug_types.specs.Listed.{Listed}
 use Rattle.ug_text.specs.Lists.{items_of, segments_of}

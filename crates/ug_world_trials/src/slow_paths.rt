@@ -2,7 +2,6 @@
 
 ghost use Rattle.std.specs.Prelude.{◌≡◌, ◌∷◌, IfOk, IfErr};
 ghost use Rattle.ug_events.specs.declared.refusal.LineRefusal.TheVariants as refusals;
-ghost use Rattle.ug_events.specs.Fields.{no_fields};
 ghost use Rattle.ug_events.specs.Paths.{fields_of, path_of, paths_of};
 ghost use Rattle.ug_events.specs.Views.{Gives};
 ghost use Rattle.ug_world_trials.specs.Slow.{texts, found_seen};

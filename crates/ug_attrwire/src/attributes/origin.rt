@@ -1,6 +1,6 @@
 //! ORIGIN: where the path comes from, one byte.
 
-ghost use Rattle.std.specs.Prelude.{◌≡◌, ◌≤◌, refl, length, IfOk, IfErr};
+ghost use Rattle.std.specs.Prelude.{◌≤◌, refl, length, IfOk, IfErr};
 ghost use Rattle.ug_message.specs.AttributeTable.{origin_kind, origin, origin_in};
 ghost use Rattle.ug_attrwire.specs.Views.{GivesOne, HasNumber};
 

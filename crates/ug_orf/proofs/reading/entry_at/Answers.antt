@@ -1,4 +1,4 @@
-use Rattle.std.proofs.Common.{refl, ◌≡◌, arith}
+use Rattle.std.proofs.Common.{refl, arith}
 use Rattle.ug_orf.proofs.Walks.{entry_is}
 use Rattle.ug_orf.proofs.reading.entry_at.Goals as goal
 

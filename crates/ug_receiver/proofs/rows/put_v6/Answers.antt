@@ -1,14 +1,14 @@
 use Rattle.std.proofs.Common.{◌≡◌, cond, List, Some, None, sym, ap, subst, ◌∙◌}
 use Rattle.std.specs.Map.{lookup}
 use Rattle.std.specs.BTreeMap.{is_at}
-use Rattle.ug_types.specs.declared.family.Family.TheVariants.{V4, V6}
+use Rattle.ug_types.specs.declared.family.Family.TheVariants.{V6}
 use Rattle.ug_types.specs.declared.key.Key.{Key}
 use Rattle.ug_types.specs.Orders.{key_cmp}
 use Rattle.ug_types.specs.contracts.key.KeyOrd.TheImpl as key_ord
 use Rattle.ug_receiver.specs.declared.row.Row.{Row}
 use Rattle.ug_receiver.specs.Stored.{AreRowsOf}
-use Rattle.ug_receiver.proofs.Keys.{tied, tied_by, updated}
-use Rattle.ug_receiver.proofs.Kept.{inserted, removed}
+use Rattle.ug_receiver.proofs.Keys.{tied, updated}
+use Rattle.ug_receiver.proofs.Kept.{inserted}
 use Rattle.ug_receiver.proofs.rows.put_v6.Goals as goal
 
 pub returns-clause-row : goal.returns-clause-row

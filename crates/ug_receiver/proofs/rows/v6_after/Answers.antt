@@ -2,7 +2,7 @@ use Rattle.std.proofs.Common.{◌≡◌, Option, Some, None, refl, sym, subst, r
 use Rattle.std.specs.Borrow.{Bor}
 use Rattle.std.specs.Prelude.{option_copied}
 use Rattle.std.specs.Option.{option_map}
-use Rattle.ug_types.specs.declared.family.Family.TheVariants.{V4, V6}
+use Rattle.ug_types.specs.declared.family.Family.TheVariants.{V4}
 use Rattle.ug_types.specs.declared.key.Key.{Key}
 use Rattle.ug_types.specs.Orders.{key_cmp}
 use Rattle.ug_types.specs.contracts.key.KeyOrd.TheImpl as key_ord

@@ -1,5 +1,4 @@
 use Rattle.std.proofs.Common.{◌≡◌, Some, sym, ◌∙◌, ap}
-use Rattle.ug_sender.specs.Lanes.{deeds_at, pass_deeds}
 use Rattle.ug_sender.specs.Tellings.{TellsLoss}
 use Rattle.ug_sender.proofs.Turns.{own-before, deeds-before, deeds-same, told-over}
 use Rattle.ug_sender.proofs.asking.ask_loss.Goals as goal

@@ -1,5 +1,4 @@
 use Rattle.std.proofs.Common.{◌≡◌, Some, sym, ◌∙◌, ap}
-use Rattle.ug_sender.specs.Lanes.{deeds_at, pass_deeds}
 use Rattle.ug_sender.specs.Tellings.{TellsNext}
 use Rattle.ug_sender.proofs.Turns.{own-before, deeds-before, deeds-same, told-over}
 use Rattle.ug_sender.proofs.asking.ask_next.Goals as goal

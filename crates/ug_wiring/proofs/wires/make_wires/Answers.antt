@@ -1,4 +1,4 @@
-use Rattle.std.proofs.Common.{◌≡◌, ℕ, ◌+◌, ◌≤◌, List, [], ◌∷◌, ◌++◌, length, take, arith, sym, ◌∙◌, ap, subst}
+use Rattle.std.proofs.Common.{◌≡◌, ℕ, ◌+◌, List, [], ◌∷◌, ◌++◌, length, take, arith, sym, ◌∙◌, ap, subst}
 use Rattle.std.proofs.lemmas.List.{length-append, take_more}
 use Rattle.ug_wiring.specs.Wires.{AreNewWires}
 use Rattle.ug_wiring.proofs.Wired.{new_wires_more, made_more}

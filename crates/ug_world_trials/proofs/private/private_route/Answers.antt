@@ -1,7 +1,6 @@
 use Rattle.std.proofs.Common.{List, Option, Some, ap, sym, ◌∙◌}
 use Rattle.ug_types.specs.declared.route.Path.{Path}
 use Rattle.ug_types.specs.declared.route.PeerEnds.{PeerEnds}
-use Rattle.ug_types.specs.declared.route.OutAttrs.{OutAttrs}
 use Rattle.std.specs.Option.{option_map}
 use Rattle.ug_rewrite.specs.NextHops.{told_to}
 use Rattle.ug_outbound.specs.Outbound.{out}

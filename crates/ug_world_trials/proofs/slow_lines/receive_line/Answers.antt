@@ -1,6 +1,6 @@
-use Rattle.std.proofs.Common.{◌≡◌, ℕ, ◌-◌, ◌==◌, ◌≤◌, false, List, [], ◌∷◌, length, take, drop, get_or, Result, Ok, refl, sym, ap, subst, ◌∙◌, arith}
+use Rattle.std.proofs.Common.{◌≡◌, ℕ, ◌-◌, ◌==◌, ◌≤◌, false, List, [], ◌∷◌, length, take, drop, get_or, Ok, refl, sym, ap, subst, ◌∙◌, arith}
 use Rattle.ug_types.specs.Listed.{Listed}
-use Rattle.ug_events.specs.Events.{Saying, Says, SendsRequest}
+use Rattle.ug_events.specs.Events.{Says, SendsRequest}
 use Rattle.ug_events.specs.Reads.{Reads, bad_words, refused, ◌>>=◌}
 use Rattle.ug_events.specs.Messages.{request_of}
 use Rattle.ug_events.specs.Fields.{name_of}

@@ -1,13 +1,13 @@
-use Rattle.std.proofs.Common.{◌≡◌, ℕ, ◌+◌, ◌-◌, ◌<◌, List, [], ◌∷◌, length, take, drop, Result, Ok, Err, refl, sym, ap, ◌∙◌, arith, length-drop}
-use Rattle.std.specs.Prelude.{IfOk, IfErr, if◌then◌else◌}
+use Rattle.std.proofs.Common.{◌≡◌, ℕ, ◌+◌, ◌-◌, ◌<◌, List, ◌∷◌, length, take, drop, Result, Ok, Err, refl, sym, ap, ◌∙◌, arith, length-drop}
+use Rattle.std.specs.Prelude.{IfOk, IfErr}
 use Rattle.std.proofs.lemmas.Bool.{lt-ltb}
 use Rattle.std.proofs.Math.Seq.{take-length}
 use Rattle.ug_types.specs.Listed.{Listed}
 use Rattle.ug_events.specs.declared.refusal.LineRefusal.{LineRefusal}
 use Rattle.ug_events.specs.declared.refusal.LineRefusal.TheVariants as refusals
 use Rattle.ug_events.specs.Events.{GivenPath}
-use Rattle.ug_events.specs.Reads.{Reads, each_read, ◌>>=◌}
-use Rattle.ug_events.specs.Paths.{runs, first_of, others_of, path_of, paths_of}
+use Rattle.ug_events.specs.Reads.{Reads, each_read}
+use Rattle.ug_events.specs.Paths.{runs, others_of, path_of, paths_of}
 use Rattle.ug_events.specs.Views.{Gives}
 use Rattle.ug_events.proofs.Runs.{runs_are}
 use Rattle.ug_world_trials.specs.Slow.{texts, runs_behind}

@@ -1,5 +1,4 @@
 use Rattle.std.proofs.Common.{◌≡◌, length}
-use Rattle.std.specs.Vec.{vec_len, vec_capacity}
 use Rattle.ug_crew.proofs.crew.Crew.pump_here.Given as goal
 
 -- the posts are as they were, and there is room for the lanes

@@ -1,11 +1,6 @@
-use Rattle.std.proofs.Common.{◌≡◌, ◌≤◌, ℕ, Some, Option, refl, ap, subst, sym, arith, rules}
+use Rattle.std.proofs.Common.{◌≡◌, ◌≤◌, Some, arith, rules}
 use Rattle.ug_types.specs.declared.family.Family.TheVariants.{V4, V6}
-use Rattle.ug_types.specs.declared.key.Key.{Key}
-use Rattle.ug_types.specs.Attributes.{Attributes}
-use Rattle.ug_types.specs.Keys.{same_key}
-use Rattle.std.specs.Prelude.{if◌then◌else◌}
 use Rattle.ug_receiver.specs.declared.row.Row.{Row}
-use Rattle.ug_receiver.specs.Rows.{row_at}
 use Rattle.ug_receiver.specs.Stored.{IsStored}
 use Rattle.ug_receiver.proofs.Found.{v4_row, v6_row, v4_stale, v6_stale, just_seen, announced_now, on_ok}
 use Rattle.ug_receiver.proofs.table.Table.put.Goals as goal
