@@ -1,0 +1,7 @@
+pub mod Beside
+pub mod Gone
+pub mod Heeded
+pub mod Marked
+pub mod Placed
+pub mod Single
+pub mod Turns

@@ -1,0 +1,8 @@
+use Rattle.std.proofs.Common.{◌≡◌, drop}
+use Rattle.ug_pending.specs.Tables.{has}
+use Rattle.ug_pack.specs.Ready.{key_order}
+use Rattle.ug_slow_subgroup.proofs.keys.has.Given as goal
+
+-- those that are left decide
+abbrev pub invariant-loop-other : goal.invariant-loop-other
+invariant-loop-other l = has key_order (drop l.other-index l.keys) l.key ≡ has key_order l.keys l.key

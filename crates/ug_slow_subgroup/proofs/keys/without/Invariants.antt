@@ -1,0 +1,8 @@
+use Rattle.std.proofs.Common.{◌≡◌, ◌++◌, drop}
+use Rattle.ug_pending.specs.Tables.{without}
+use Rattle.ug_pack.specs.Ready.{key_order}
+use Rattle.ug_slow_subgroup.proofs.keys.without.Given as goal
+
+-- those so far, and then those that are left
+abbrev pub invariant-loop-other : goal.invariant-loop-other
+invariant-loop-other l = l.copy.items ++ without key_order (drop l.other-index l.keys) l.key ≡ without key_order l.keys l.key

@@ -1,0 +1,28 @@
+//! A subgroup of the machine of update groups, plain and slow: rows that are looked through, and packets that share what
+//! they say.
+#![tactic(auto)]
+
+mod adj_out;
+mod due;
+mod keys;
+mod next;
+mod packet;
+mod room;
+mod rows;
+mod saying;
+mod says;
+mod shared;
+mod short;
+mod subgroup;
+mod told;
+mod waits;
+mod wanted;
+
+pub use packet::Packet;
+pub use saying::Saying;
+pub use says::Says;
+pub use shared::SharedAttrs;
+pub use subgroup::Subgroup;
+
+#[cfg(test)]
+mod tests;
