@@ -1,7 +1,7 @@
 -- Addresses, prefixes and path attributes as text, as rows are printed and event lines are read.
 use Rattle.std.specs.Prelude.{ℕ, ◌*◌, ◌/◌, ◌%◌, ◌^◌, ◌==◌, List, [], ◌∷◌, ◌++◌, Option, Some, None, codes, if◌then◌else◌, false}
 use Rattle.std.specs.List.{flat_map}
-use Rattle.std.specs.Fmt.{decimal, digits}
+use Rattle.std.specs.Fmt.{decimal, digits, digit_glyph}
 use Rattle.ug_types.specs.declared.family.Family.{Family}
 use Rattle.ug_types.specs.declared.family.Family.TheVariants.{V4, V6}
 use Rattle.ug_types.specs.declared.attrs.Aggregator.{Aggregator}
@@ -19,6 +19,10 @@ leading bits = bits / 2 ^ 96
 -- a group of sixteen bits, with 16 k bits below it
 abbrev pub group : ℕ → ℕ → ℕ
 group k bits = bits / 2 ^ (16 * k) % 65536
+
+-- the last hexadecimal digit, in lower case
+abbrev pub last_digit : ℕ → List ℕ
+last_digit n = digit_glyph false (n % 16) ∷ []
 
 -- hexadecimal, in lower case, without leading zeros
 unfoldable pub group_text : ℕ → ℕ → List ℕ

@@ -1,8 +1,9 @@
 //! Addresses and prefixes as text.
 
-ghost use Rattle.std.specs.Prelude.{◌≡◌, ◌++◌, ◌≤◌, OnOk};
+ghost use Rattle.std.specs.Prelude.{◌≡◌, ◌++◌, ◌≤◌, OnOk, false};
 ghost use Rattle.std.specs.String.{string_bytes};
-ghost use Rattle.ug_text.specs.Texts.{dotted, leading, grouped, four_groups, three_groups, group, bits_text, address_text, prefix_text};
+ghost use Rattle.std.specs.Fmt.{digits};
+ghost use Rattle.ug_text.specs.Texts.{dotted, leading, last_digit, grouped, four_groups, three_groups, group, group_text, bits_text, address_text, prefix_text};
 
 use ug_types::{Addr, Family, NoMemory, Prefix};
 
@@ -34,17 +35,52 @@ fn group(bits: u128, k: u8) -> u16
     ((bits >> (16 * k)) % 65536) as u16
 }
 
+/// Adds the last hexadecimal digit, in lower case.
+fn write_digit(out: &mut String, number: u16) -> Result<(), NoMemory>
+    ensures { OnOk result (string_bytes out.new ≡ string_bytes out.old ++ last_digit number) }
+{
+    let digit = (number % 16) as u8;
+    let glyph = if digit < 10 {
+        b'0' + digit
+    } else {
+        b'a' - 10 + digit
+    };
+    out.push(glyph as char)?;
+    Ok(())
+}
+
+/// Adds a number: hexadecimal, in lower case, without leading zeros. `{:x}` takes twice as long: it serves every radix.
+fn write_hexadecimal(out: &mut String, number: u16) -> Result<(), NoMemory>
+    ensures { OnOk result (string_bytes out.new ≡ string_bytes out.old ++ digits 16 false number) }
+{
+    if number < 16 {
+        return write_digit(out, number);
+    }
+    write_hexadecimal(out, number / 16)?;
+    write_digit(out, number)
+}
+
+/// Adds the group that has 16 `k` bits below it.
+#[tactic(auto, unfolding(crate::specs::Texts::group_text))]
+fn write_group(out: &mut String, bits: u128, k: u8) -> Result<(), NoMemory>
+    requires { k ≤ 7 }
+    ensures { OnOk result (string_bytes out.new ≡ string_bytes out.old ++ group_text k bits) }
+{
+    write_hexadecimal(out, group(bits, k))
+}
+
 /// Adds the lowest four groups, with colons between: hexadecimal, in lower case, without leading zeros.
-#[tactic(auto, unfolding(crate::specs::Texts::group_text, crate::specs::Texts::four_groups))]
+#[tactic(auto, unfolding(crate::specs::Texts::four_groups))]
 fn write_four_groups(out: &mut String, bits: u128) -> Result<(), NoMemory>
     ensures { OnOk result (string_bytes out.new ≡ string_bytes out.old ++ four_groups bits) }
 {
-    let a = group(bits, 3);
-    let b = group(bits, 2);
-    let c = group(bits, 1);
-    let d = group(bits, 0);
-    write!(out, "{a:x}:{b:x}:{c:x}:{d:x}")?;
-    Ok(())
+    write_group(out, bits, 3)?;
+    out.push_str(":")?;
+    write_group(out, bits, 2)?;
+    out.push_str(":")?;
+    write_group(out, bits, 1)?;
+    out.push_str(":")?;
+    write_group(out, bits, 0)
 }
 
 #[tactic(auto, unfolding(crate::specs::Texts::grouped))]
@@ -57,14 +93,16 @@ fn write_eight_groups(out: &mut String, bits: u128) -> Result<(), NoMemory>
 }
 
 /// Adds the upper three of four groups, and five groups of 0 behind them.
-#[tactic(auto, unfolding(crate::specs::Texts::group_text, crate::specs::Texts::three_groups))]
+#[tactic(auto, unfolding(crate::specs::Texts::three_groups))]
 fn write_three_groups(out: &mut String, bits: u128) -> Result<(), NoMemory>
     ensures { OnOk result (string_bytes out.new ≡ string_bytes out.old ++ three_groups bits) }
 {
-    let a = group(bits, 3);
-    let b = group(bits, 2);
-    let c = group(bits, 1);
-    write!(out, "{a:x}:{b:x}:{c:x}:0:0:0:0:0")?;
+    write_group(out, bits, 3)?;
+    out.push_str(":")?;
+    write_group(out, bits, 2)?;
+    out.push_str(":")?;
+    write_group(out, bits, 1)?;
+    out.push_str(":0:0:0:0:0")?;
     Ok(())
 }
 

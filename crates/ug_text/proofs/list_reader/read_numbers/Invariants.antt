@@ -1,4 +1,4 @@
-use Rattle.std.proofs.Common.{◌≡◌, ◌+◌, Some}
+use Rattle.std.proofs.Common.{◌≡◌}
 use Rattle.ug_text.specs.Paths.{number_as}
 use Rattle.ug_text.specs.Cutting.{each, pieces}
 use Rattle.ug_text.specs.Seen.{pieces_in}

@@ -1,4 +1,4 @@
-use Rattle.std.proofs.Common.{◌≡◌, ◌+◌, Some, map}
+use Rattle.std.proofs.Common.{◌≡◌, map}
 use Rattle.ug_types.specs.Attributes.{segment_of}
 use Rattle.ug_text.specs.Paths.{segment}
 use Rattle.ug_text.specs.Cutting.{each, pieces}
