@@ -1,6 +1,6 @@
 //! The lines of groups.
 
-ghost use Rattle.std.specs.Prelude.{◌≡◌, ◌++◌, [], OnOk, IfOk};
+ghost use Rattle.std.specs.Prelude.{◌≡◌, ◌++◌, OnOk};
 ghost use Rattle.std.specs.List.{concat};
 ghost use Rattle.std.specs.String.{string_bytes};
 ghost use Rattle.ug_commands.specs.Texts.{kind_word, yes_or_no, name_or_dash, override_text, names_text, policy_text, removal_text, capability_text, head_text, group_text, lines_of};

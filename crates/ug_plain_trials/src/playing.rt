@@ -1,6 +1,5 @@
 //! Turns on a board.
 
-ghost use Rattle.std.specs.Prelude.{◌≡◌};
 ghost use Rattle.ug_events.specs.Events.{IsEvent};
 ghost use Rattle.ug_events.specs.Views.{event_of};
 

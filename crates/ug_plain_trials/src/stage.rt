@@ -1,8 +1,7 @@
 //! A board of the plain machine.
 
-ghost use Rattle.std.specs.Prelude.{◌≡◌, ◌≤◌, Ok, IfOk, length};
+ghost use Rattle.std.specs.Prelude.{◌≡◌, Ok, IfOk};
 ghost use Rattle.std.specs.Vec.{vec_len};
-ghost use Rattle.ug_config.specs.Worlds.{config};
 
 use std::alloc::Global;
 use std::sync::ledger::Ledger;

@@ -1,6 +1,6 @@
 //! A run over a world: its wires are made, the file of events is read beside the lanes, and everything comes back.
 
-ghost use Rattle.std.specs.Prelude.{◌≡◌, ◌+◌, ◌<◌, ◌≤◌, ◌⊎◌, [], List, ℕ, map, take, length, true, false, Some, IfOk, IfErr, IfSome, OnOk, IsErrOf};
+ghost use Rattle.std.specs.Prelude.{◌≡◌, ◌+◌, ◌<◌, ◌≤◌, [], List, ℕ, map, take, length, true, Some, IfOk, IfErr, IfSome, OnOk, IsErrOf};
 ghost use Rattle.ug_edge.specs.Told.{Rose, IsEnded, HasPicked, file_told};
 ghost use Rattle.ug_events.specs.Events.{IsEvent};
 ghost use Rattle.ug_events.specs.Views.{event_of};
@@ -13,7 +13,7 @@ ghost use Rattle.ug_builder.specs.Reading.{first_of, IsRead};
 ghost use Rattle.ug_wiring.specs.Wires.{AreNewWires, HasMade};
 ghost use Rattle.ug_wiring.specs.Lanes.{ArePassesFrom};
 ghost use Rattle.ug_wiring.specs.Run.{IsBegun};
-ghost use Rattle.ug_commands.specs.Statuses.{row_of, is_fixed, IsUnbegun};
+ghost use Rattle.ug_commands.specs.Statuses.{row_of, is_fixed};
 ghost use Rattle.ug_run.specs.Promise.{IsPromised, IsRun, IsUnmade, IsCounted};
 
 use crate::ending::{Outcome, finish};

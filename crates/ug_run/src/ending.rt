@@ -1,11 +1,10 @@
 //! The end of a run: its last lines, and its status.
 
-ghost use Rattle.std.specs.Prelude.{◌≡◌, ◌≤◌, ◌<◌, ◌⊎◌, ◌++◌, [], ◌∷◌, length, true, false, IfOk, IfSome, IfNone, Some};
-ghost use Rattle.std.specs.List.{flat_map};
+ghost use Rattle.std.specs.Prelude.{◌≡◌, ◌≤◌, ◌<◌, ◌⊎◌, [], IfOk, IfSome, IfNone, Some};
 ghost use Rattle.std.specs.String.{string_bytes};
 ghost use Rattle.ug_edge.specs.Told.{Rose, AppendsPiece};
 ghost use Rattle.ug_pieces.specs.Reporting.{AppendsFront};
-ghost use Rattle.ug_report.specs.Report.{name_at, loss_text, counts_text, lost_status, losses_from};
+ghost use Rattle.ug_report.specs.Report.{name_at, lost_status, losses_from};
 ghost use Rattle.ug_commands.specs.Statuses.{status_text};
 ghost use Rattle.ug_commands.specs.Files.{AppendsThenStatus};
 ghost use Rattle.ug_promise.specs.Crew.{all_losses};

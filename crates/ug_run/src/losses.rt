@@ -1,6 +1,6 @@
 //! The losses of a history, in the order of the report: by peer, and then by session.
 
-ghost use Rattle.std.specs.Prelude.{◌≡◌, ◌+◌, ◌++◌, [], ℕ, List, IfOk, OnOk};
+ghost use Rattle.std.specs.Prelude.{◌≡◌, ◌+◌, ◌++◌, IfOk, OnOk};
 ghost use Rattle.ug_report.specs.Report.{losses_from};
 ghost use Rattle.ug_promise.specs.Crew.{all_losses};
 ghost use Rattle.ug_run.specs.Losses.{loss_in, losses_told, losses_to};

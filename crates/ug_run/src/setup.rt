@@ -1,6 +1,6 @@
 //! The configuration of a run.
 
-ghost use Rattle.std.specs.Prelude.{◌≡◌, ◌≤◌, ◌<◌, [], length, true, false, Ok, IfOk, OnOk, IfErr, IsErrOf};
+ghost use Rattle.std.specs.Prelude.{◌≡◌, ◌≤◌, ◌<◌, [], true, Ok, IfOk, OnOk, IfErr, IsErrOf};
 ghost use Rattle.ug_edge.specs.Told.{Rose, file_told, Missing};
 ghost use Rattle.ug_commands.specs.declared.stop.Stop.TheVariants.{Report as ReportStops};
 ghost use Rattle.ug_commands.specs.Statuses.{row_of, status_text};
