@@ -1,4 +1,4 @@
-//! Trials of the whole: runs whose reports and sessions were worked out by hand, and what other trials take of them.
+//! Trials of the whole: runs whose reports and sessions were worked out by hand, once and many times over.
 #![tactic(auto)]
 
 mod configurations;

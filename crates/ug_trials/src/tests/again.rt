@@ -1,13 +1,13 @@
 //! Runs many times over, beside workers: whatever the lanes come to first, the runs come to the same.
 
+use crate::{
+    APART, C1, C2, EOR, Given, HERE, LOCAL, NO_MAP, Outcome, P1, REQUESTS, ROWS, Row, Session, TEN,
+    TEN_TO_P2, bytes_of_messages, ended, first_other, made_nothing, run, run_over, sent_at,
+};
 use std::alloc::Global;
 use std::sync::Wait;
 use std::test::Fail;
 use std::thread::Threads;
-use ug_trials::{
-    APART, C1, C2, EOR, Given, HERE, LOCAL, NO_MAP, Outcome, P1, REQUESTS, ROWS, Row, Session, TEN,
-    TEN_TO_P2, bytes_of_messages, ended, first_other, made_nothing, run, run_over, sent_at,
-};
 use ug_types::NoMemory;
 
 /// How often each run is made.

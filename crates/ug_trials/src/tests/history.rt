@@ -1,8 +1,8 @@
 //! The steps of a run, in order.
 
+use crate::{C2, Deed, HERE, Step, run, run_over};
 use std::test::Fail;
 use ug_board::{LaneSaid, LaneStep};
-use ug_trials::{C2, Deed, HERE, Step, run, run_over};
 use ug_types::Mark;
 
 /// p1 asks for all routes again.

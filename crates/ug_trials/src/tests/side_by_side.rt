@@ -1,7 +1,7 @@
 //! Lanes that are at work at the same time.
 
+use crate::{APART, C2, EOR, Wanted, came_to, run_gated, run_over};
 use std::test::Fail;
-use ug_trials::{APART, C2, EOR, Wanted, came_to, run_gated, run_over};
 
 /// Of two wires each is first sent to only where the other is sent to as well, so a lane goes on only beside the other.
 /// Lanes in threads of their own do. With all lanes here the first would look for the other in vain: that run would end

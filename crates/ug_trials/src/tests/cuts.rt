@@ -1,13 +1,13 @@
 //! Wires that fail after so many bytes.
 
+use crate::{
+    BOTH, C2, EOR, Given, HERE, Says, TEN, TEN_TO_P2, Wanted, bytes_of_messages, came_to, ended,
+    run, run_over, sent_at,
+};
 use std::alloc::Global;
 use std::sync::Wait;
 use std::test::Fail;
 use std::thread::Threads;
-use ug_trials::{
-    BOTH, C2, EOR, Given, HERE, Says, TEN, TEN_TO_P2, Wanted, bytes_of_messages, came_to, ended,
-    run, run_over, sent_at,
-};
 use ug_types::NoMemory;
 
 /// p1 and p2 come up, and there is a route to 10.0.0.0/8.
