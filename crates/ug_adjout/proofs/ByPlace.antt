@@ -1,5 +1,5 @@
 -- What waits by place is told by the keys at their slots.
-use Rattle.std.proofs.Common.{◌≡◌, ℕ, suc, Bool, true, false, cond, ◌&&◌, List, [], ◌∷◌, length, Option, Some, None, refl, sym, ap, subst, ◌∙◌}
+use Rattle.std.proofs.Common.{◌≡◌, ℕ, suc, Bool, true, false, cond, List, [], ◌∷◌, length, Option, Some, None, refl, sym, ap, subst, ◌∙◌}
 use Rattle.std.specs.Prelude.{nat_eq}
 use Rattle.std.specs.Option.{option_eq}
 use Rattle.std.specs.Ordering.{nat_cmp, is_eq, match_ordering, ordering_reverse}
@@ -12,7 +12,7 @@ use Rattle.std.specs.declared.cmp.Ordering.{Ordering}
 use Rattle.std.specs.declared.cmp.Ordering.TheVariants.{Less, Equal, Greater}
 use Rattle.std.proofs.lemmas.Bool.{cond-true, cond-false}
 use Rattle.std.proofs.lemmas.Map.Keys.{sorted_head, sorted_tail}
-use Rattle.ug_pending.specs.Tables.{value_at, with_value, IsTable}
+use Rattle.ug_pending.specs.Tables.{value_at, IsTable}
 use Rattle.ug_pending.specs.TableLaws.{at_itself, one_key, none_above, below_all, value_at-here, value_at-other, with_value-sorted}
 use Rattle.ug_adjout.specs.declared.slot.Slot.{Slot}
 use Rattle.ug_adjout.specs.declared.waiting.Waiting.{Waiting}

@@ -1,5 +1,5 @@
 -- What waits first from a place on: a withdrawal or an announcement.
-use Rattle.std.proofs.Common.{◌≡◌, ℕ, ◌<◌, ◌≤◌, Bool, true, false, cond, List, [], ◌∷◌, slice_get, Option, Some, None, refl, sym, ap, subst, ◌∙◌, arith}
+use Rattle.std.proofs.Common.{◌≡◌, ℕ, ◌<◌, ◌≤◌, Bool, true, false, List, [], ◌∷◌, slice_get, Option, Some, None, refl, sym, ap, subst, ◌∙◌, arith}
 use Rattle.std.specs.Prelude.{is_some, IsSome, nat_le}
 use Rattle.std.specs.List.{AllByRecursion}
 use Rattle.std.specs.Option.{option_cmp}
@@ -14,17 +14,16 @@ use Rattle.std.proofs.lemmas.Bool.{cond-true, cond-false}
 use Rattle.std.proofs.lemmas.Bool.Decides.{nat_tests}
 use Rattle.std.proofs.lemmas.Map.Keys.{sorted_head, sorted_tail}
 use Rattle.ug_pending.specs.Tables.{value_at, IsTable}
-use Rattle.ug_pending.specs.TableLaws.{none_above}
 use Rattle.ug_adjout.specs.declared.slot.Slot.{Slot}
 use Rattle.ug_adjout.specs.declared.waiting.Waiting.{Waiting}
 use Rattle.ug_adjout.specs.Waits.{from_place}
-use Rattle.ug_adjout.specs.Stored.{projected, of_row}
+use Rattle.ug_adjout.specs.Stored.{of_row}
 use Rattle.ug_adjout.specs.Places.{slot_cmp, value_of, key_for, by_place, withdraws, announces, IsIndexed, IsLine, IsFirstFrom}
 use Rattle.ug_adjout.proofs.Lists.{first_lookup, tail_lookup, value_at-projected}
 use Rattle.ug_adjout.proofs.Steps.{at_number}
 use Rattle.ug_adjout.proofs.Slots.{slot, itself}
 use Rattle.ug_adjout.proofs.ByPlace.{same_some, told}
-use Rattle.ug_adjout.proofs.Numbers.{le_yes, from_yes, from_no, less, from_less}
+use Rattle.ug_adjout.proofs.Numbers.{from_yes, from_no, from_less}
 
 le_by : (n p : ℕ) → n ≤ p → IsLeBy nat_cmp n p
 le_by n p le = grind (arith, nat_tests)

@@ -12,3 +12,4 @@ pub mod Values
 pub mod Counts
 pub mod Numbers
 pub mod Narrow
+pub mod Stepped

@@ -16,7 +16,6 @@ use Rattle.std.proofs.lemmas.Map.Keys.{sorted_head, sorted_tail}
 use Rattle.ug_pending.specs.Tables.{has, without, value_at, with_value, IsTable}
 use Rattle.ug_pending.specs.TableLaws.{none_above, removed_nothing, below_all, one_key, at_itself}
 use Rattle.ug_pending.specs.PendingLaws.{without_absent}
-use Rattle.ug_adjout.specs.declared.row.Row.{Row}
 use Rattle.ug_adjout.specs.declared.waiting.Waiting.{Waiting}
 use Rattle.ug_adjout.specs.Waits.{waiting_keys}
 use Rattle.ug_adjout.specs.Stored.{projected, projected_with, of_row}

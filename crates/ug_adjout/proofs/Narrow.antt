@@ -1,5 +1,5 @@
 -- An IPv4 prefix by its leading 32 bits.
-use Rattle.std.proofs.Common.{◌≡◌, ℕ, ◌-◌, ◌*◌, ◌/◌, ◌^◌, ◌<◌, ◌≤◌, refl, lit≤, sym, ap, subst, ◌∙◌, arith, pow-add}
+use Rattle.std.proofs.Common.{◌≡◌, ℕ, ◌-◌, ◌*◌, ◌/◌, ◌^◌, ◌<◌, ◌≤◌, lit≤, sym, ap, subst, ◌∙◌, arith, pow-add}
 use Rattle.std.proofs.Math.Nat.{mul-div_cancel, mul_assoc}
 use Rattle.std.proofs.lemmas.Nat.{pow_pos}
 use Rattle.ug_types.specs.declared.family.Family.{Family}

@@ -1,9 +1,8 @@
 -- Places that are numbered anew: who waits first from a place on comes to that place, and the order stays.
 use Rattle.std.proofs.Common.{◌≡◌, ◌⊎◌, inl, inr, ℕ, suc, ◌+◌, ◌<◌, ◌≤◌, Bool, true, false, cond, List, [], ◌∷◌, length, slice_get, Option, Some, None, refl, sym, ap, subst, ◌∙◌, arith, add-one}
-use Rattle.std.specs.Prelude.{nat_eq, nat_le, nat_lt, ◌&&◌}
+use Rattle.std.specs.Prelude.{nat_le}
 use Rattle.std.specs.List.{AllByRecursion}
-use Rattle.std.specs.List.Sorted.{IsStrictlySortedBy}
-use Rattle.std.specs.Ordering.{nat_cmp, is_eq, is_le, match_ordering}
+use Rattle.std.specs.Ordering.{nat_cmp, is_eq, match_ordering}
 use Rattle.std.specs.Map.{keys_of, remove_entry}
 use Rattle.std.specs.BTreeMap.{insert_entry, is_at}
 use Rattle.std.specs.Cmp.{IsTotalOrder, nat_cmp_total, nat_cmp_is}
@@ -16,10 +15,9 @@ use Rattle.std.proofs.lemmas.Map.Keys.{sorted_head, sorted_tail}
 use Rattle.ug_pending.specs.Tables.{value_at, with_value, IsTable}
 use Rattle.ug_pending.specs.TableLaws.{value_at-here, value_at-other, with_value-same, with_value-sorted, none_above, below_all, at_itself, one_key}
 use Rattle.ug_adjout.specs.declared.row.Row.{Row}
-use Rattle.ug_adjout.specs.declared.row.Change.{Change}
 use Rattle.ug_adjout.specs.declared.waiting.Waiting.{Waiting}
 use Rattle.ug_adjout.specs.Waits.{waiting_keys, from_place}
-use Rattle.ug_adjout.specs.Stored.{IsStored, IsRowBy, is_owed, adj_of, projected, of_row, formatted_of, desired_of, mark_of, with_change}
+use Rattle.ug_adjout.specs.Stored.{IsStored, IsRowBy, is_owed, adj_of, of_row, formatted_of, desired_of, mark_of, with_change}
 use Rattle.ug_adjout.proofs.Lists.{sorted_projected, value_at-projected, projected-with_value, first_lookup, tail_lookup}
 use Rattle.ug_adjout.proofs.Steps.{Agree, stored, at_number}
 use Rattle.ug_adjout.proofs.Views.{formatted_at, desired_at, waiting_desired}

@@ -1,9 +1,8 @@
 -- Rows behind a key, and maps that are made again.
-use Rattle.std.proofs.Common.{◌≡◌, ℕ, ◌+◌, ◌<◌, Bool, true, false, cond, ◌&&◌, ◌||◌, List, [], ◌∷◌, ◌++◌, length, slice_get, Option, Some, None, refl, sym, ap, subst, ◌∙◌, arith}
-use Rattle.std.specs.Prelude.{is_some, if◌then◌else◌, IsTrue, ◌↔◌}
-use Rattle.std.specs.List.{filter, AllByRecursion, list_any}
+use Rattle.std.proofs.Common.{◌≡◌, ℕ, Bool, true, false, cond, ◌&&◌, List, [], ◌∷◌, ◌++◌, slice_get, Option, Some, None, refl, sym, ap, subst, ◌∙◌}
+use Rattle.std.specs.List.{filter, AllByRecursion}
 use Rattle.std.specs.Ordering.{is_lt, match_ordering, ordering_reverse}
-use Rattle.std.specs.Map.{keys_of, values_of}
+use Rattle.std.specs.Map.{keys_of}
 use Rattle.std.specs.BTreeMap.{insert_entry}
 use Rattle.std.specs.BTreeMap.Range.{entries_between}
 use Rattle.std.specs.Cmp.{IsTotalOrder}
@@ -14,7 +13,7 @@ use Rattle.std.proofs.lemmas.List.{append_assoc}
 use Rattle.std.proofs.lemmas.Map.Keys.{sorted_head, sorted_tail}
 use Rattle.ug_pending.specs.Tables.{IsTable, rows_after}
 use Rattle.ug_adjout.specs.declared.row.Row.{Row}
-use Rattle.ug_adjout.specs.Stored.{projected, projected_with, mark_of, start_at}
+use Rattle.ug_adjout.specs.Stored.{projected, projected_with, start_at}
 
 module _ {X : Type 0} where
   same_filter : (p q : X → Bool) → ((x : X) → p x ≡ q x) → (xs : List X) → filter p xs ≡ filter q xs

@@ -1,5 +1,5 @@
 -- The slots of the waiting keys, their order, and a change at one place.
-use Rattle.std.proofs.Common.{◌≡◌, ℕ, Bool, true, false, cond, ◌&&◌, List, ◌∷◌, Option, Some, None, refl, sym, ap, subst, ◌∙◌}
+use Rattle.std.proofs.Common.{◌≡◌, ℕ, Bool, true, false, cond, ◌&&◌, List, Option, Some, None, refl, sym, ap, ◌∙◌}
 use Rattle.std.specs.Prelude.{nat_eq}
 use Rattle.std.specs.Option.{option_eq, option_cmp}
 use Rattle.std.specs.Ordering.{nat_cmp, is_eq}
@@ -8,7 +8,6 @@ use Rattle.std.specs.Cmp.{IsTotalOrder, nat_cmp_total, on_total, then_total, tie
 use Rattle.std.specs.Cmp.Lexicographic.{options_total}
 use Rattle.std.specs.FinMap.{IsAntisymmetric, nat_cmp-IsAntisymmetric}
 use Rattle.std.specs.declared.cmp.Ordering.TheVariants.{Equal}
-use Rattle.std.proofs.lemmas.Bool.{false_from_ne_true, cond-true, cond-false}
 use Rattle.std.proofs.lemmas.Cmp.{tied_itself}
 use Rattle.ug_types.specs.OrderLaws.{then_both, same_on}
 use Rattle.ug_pending.specs.Tables.{value_at, with_value, IsTable}

@@ -1,7 +1,6 @@
 -- A row in few bytes: numbers, and beside them which of them count. A number that doesn't count is 0.
 use Rattle.std.proofs.Common.{◌≡◌, ℕ, Bool, true, false, Option, Some, None, refl, sym, ap, ◌∙◌}
 use Rattle.std.specs.Prelude.{is_some, unwrap_or}
-use Rattle.ug_adjout.specs.declared.row.Row.{Row}
 use Rattle.ug_adjout.specs.declared.row.Change.{Change}
 
 abbrev pub where_told : Bool → ℕ → Option ℕ

@@ -5,3 +5,4 @@ pub mod Stored
 pub mod Places
 pub mod Counted
 pub mod Kept
+pub mod Stepped

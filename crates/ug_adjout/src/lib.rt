@@ -13,6 +13,7 @@ mod out_key;
 mod row;
 mod rows;
 mod slot;
+mod step;
 mod table;
 mod v4_key;
 mod waiting;

@@ -1,5 +1,5 @@
 //! The list of waiting keys.
-ghost use Rattle.std.specs.Prelude.{◌≡◌, ◌<◌, ◌^◌, [], length, OnOk, OnErr, IfOk, Some, None, slice_get};
+ghost use Rattle.std.specs.Prelude.{◌≡◌, ◌<◌, ◌^◌, [], length, OnOk, OnErr, IsOk, IfOk, Some, None, slice_get};
 ghost use Rattle.std.specs.Map.{remove_entry};
 ghost use Rattle.std.specs.Ordering.{nat_cmp};
 ghost use Rattle.std.specs.BTreeMap.{insert_entry, is_at};
@@ -7,11 +7,15 @@ ghost use Rattle.ug_pending.specs.Tables.{value_at, with_value};
 ghost use Rattle.ug_pending.specs.Formatting.{fitting};
 ghost use Rattle.ug_adjout.specs.Waits.{keys_for, first_announced, from_place};
 ghost use Rattle.ug_adjout.specs.Places.{IsFirstFrom, withdraws, announces};
+ghost use Rattle.ug_adjout.specs.Stepped.{wanted_in, lined, IsReady, IsReadyBy};
+ghost use Rattle.ug_adjout.specs.declared.step.Step.TheVariants.{Want, Format};
 
 use crate::copied::copied;
 use crate::first::first_from;
 use crate::out_key::OutKey;
+use crate::row::{Change, Row};
 use crate::slot::Slot;
+use crate::step::{Step, owes};
 use crate::waiting::Waiting;
 use std::alloc::Global;
 use std::collections::BTreeMap;
@@ -129,6 +133,68 @@ impl<K: OutKey> Line<K> {
         if was.value.is_some() {
             self.announced.remove(&place);
         }
+    }
+
+    /// What the step does with the key of this row. Want of memory changes nothing, and comes only where the key is
+    /// desired anew.
+    pub fn step(&mut self, key: K, row: Row, step: Step) -> Result<(), NoMemory>
+        requires { IsReady step key row self.old }
+        ensures ok { OnOk result (self.new ≡ lined step key row self.old) }
+        ensures err { OnErr result (self.new ≡ self.old) }
+        ensures format { step ≡ Format → IsOk result }
+    {
+        match step {
+            Step::Want(want) => self.want(key, row, want),
+            Step::Format => {
+                self.format(key, row);
+                Ok(())
+            }
+        }
+    }
+
+    /// The key of this row is desired anew.
+    fn want(&mut self, key: K, row: Row, want: Change) -> Result<(), NoMemory>
+        requires { IsReadyBy (Want want) key row.change self.old }
+        ensures ok { OnOk result (self.new ≡ wanted_in key row want row.change self.old) }
+        ensures err { OnErr result (self.new ≡ self.old) }
+    {
+        let _len = self.keys.len();
+        let desired = want.desired;
+        let Some(change) = row.change else {
+            if row.formatted == desired {
+                return Ok(());
+            }
+            let waiting = Waiting {
+                key,
+                value: desired,
+            };
+            return self.add(want.place, waiting);
+        };
+        let was = Waiting {
+            key,
+            value: change.desired,
+        };
+        if owes(row, desired) {
+            return self.change(change.place, was, desired);
+        }
+        self.remove(change.place, was);
+        Ok(())
+    }
+
+    /// The key of this row is formatted.
+    fn format(&mut self, key: K, row: Row)
+        requires { IsReady Format key row self.old }
+        ensures { self.new ≡ lined Format key row self.old }
+    {
+        let _len = self.keys.len();
+        let Some(change) = row.change else {
+            return;
+        };
+        let was = Waiting {
+            key,
+            value: change.desired,
+        };
+        self.remove(change.place, was);
     }
 
     /// The first keys that wait for this value, or for their withdrawal, as many as have room.

@@ -1,15 +1,15 @@
 //! The rows and the list of waiting keys, kept together.
 ghost use Rattle.std.specs.Prelude.{◌≡◌, ◌+◌, ◌<◌, ◌^◌, nat_eq, true, false, ℕ, [], ◌∷◌, ◌++◌, length, OnOk, OnErr, IfOk, IfSome, IsSome, Some, None, option_copied, slice_get, IsTrue, ◌↔◌};
-ghost use Rattle.std.specs.Map.{remove_entry, keys_of};
+ghost use Rattle.std.specs.Map.{keys_of};
 ghost use Rattle.std.specs.List.{AllByRecursion};
 ghost use Rattle.std.specs.Ordering.{nat_cmp};
-ghost use Rattle.std.specs.BTreeMap.{insert_entry, is_at};
-ghost use Rattle.ug_pending.specs.Tables.{value_at, with_value, has, rows_after};
+ghost use Rattle.std.specs.BTreeMap.{insert_entry};
+ghost use Rattle.ug_pending.specs.Tables.{value_at, has, rows_after};
 ghost use Rattle.ug_pending.specs.Pending.{with_desired, with_formatted, with_all_forced};
 ghost use Rattle.ug_pending.specs.Formatting.{fitting, withdrawals, announcements, alike, value_of_first};
 ghost use Rattle.std.specs.Option.{option_map};
 ghost use Rattle.ug_adjout.specs.Waits.{keys_for, first_announced, from_place, waiting_keys};
-ghost use Rattle.ug_adjout.specs.Stored.{is_owed, IsFree, quiet, with_change, adj_of, with_one_forced, with_each_forced, IsShown, IsStored};
+ghost use Rattle.ug_adjout.specs.Stored.{is_owed, IsFree, with_change, adj_of, with_one_forced, with_each_forced, IsShown, IsStored};
 
 use crate::after::{first_desired, first_formatted};
 use crate::line::Line;
@@ -17,6 +17,7 @@ use crate::marked::Marked;
 use crate::out_key::OutKey;
 use crate::row::{Change, Row};
 use crate::rows::Rows;
+use crate::step::Step;
 use crate::waiting::Waiting;
 use std::alloc::Global;
 use std::marker::Model;
@@ -40,13 +41,6 @@ impl<K: OutKey> Model for Table<K> {
     ghost view = { λ t. record { rows = t.rows; waiting = t.line; next = t.next } };
 
     ghost invariant = { λ t. IsStored K.cmp t.rows t.line t.next };
-}
-
-/// Whether a packet is owed for a key that is to be desired so.
-fn owes(row: Row, desired: Option<AttrId>) -> bool
-    ensures { result ≡ is_owed row.formatted desired row.forced }
-{
-    row.formatted != desired || (row.forced && desired.is_some())
 }
 
 impl<K: OutKey> Table<K> {
@@ -130,32 +124,6 @@ impl<K: OutKey> Table<K> {
         Ok(())
     }
 
-    /// A key that waits waits no more: it is formatted so, or stands in no table.
-    pub fn end(&mut self, key: K, change: Change, formatted: Option<AttrId>)
-        requires waits { IfSome (value_at K.cmp self.old.rows key) (λ was. was.change ≡ Some change) }
-        requires there { IsSome (value_at K.cmp self.old.rows key) }
-        ensures rows { self.new.rows ≡ with_value K.cmp self.old.rows key (quiet formatted) }
-        ensures waiting { self.new.waiting ≡ remove_entry (is_at (nat_cmp change.place)) self.old.waiting }
-    {
-        let was = Waiting {
-            key,
-            value: change.desired,
-        };
-        self.line.remove(change.place, was);
-        if formatted.is_none() {
-            self.rows.remove(&key);
-            return;
-        }
-        let row = Row {
-            formatted,
-            forced: false,
-            change: None,
-        };
-        let Ok(_) = self.rows.insert(key, row) else {
-            unreachable!()
-        };
-    }
-
     /// The first of those that wait from this place on waits at the place now. Its key and its order stay. Want of memory
     /// changes nothing.
     fn bring(&mut self, place: u32) -> Result<(), NoMemory>
@@ -229,30 +197,22 @@ impl<K: OutKey> Table<K> {
         self.want_numbered(key, desired)
     }
 
-    /// The same where there is a place for the key.
+    /// The same where there is a place for the key. A key with a row that doesn't begin to wait leaves its place empty.
     fn want_numbered(&mut self, key: K, desired: Option<AttrId>) -> Result<Option<AttrId>, NoMemory>
         requires { self.old.next + 1 < 2 ^ 32 }
         ensures was { IfOk result (λ was. was ≡ value_at K.cmp (adj_of self.old.rows self.old.waiting).desired key) }
         ensures ok { OnOk result (adj_of self.new.rows self.new.waiting ≡ with_desired K.cmp nat_eq (adj_of self.old.rows self.old.waiting) key desired) }
         ensures err { OnErr result (self.new ≡ self.old) }
     {
-        let _next = self.next;
-        match self.row(&key) {
-            None => {
-                self.want_first(key, desired)?;
-                Ok(None)
-            }
-            Some(row) => match row.change {
-                None => {
-                    self.want_idle(key, row, desired)?;
-                    Ok(row.formatted)
-                }
-                Some(change) => {
-                    self.want_waiting(key, row, change, desired)?;
-                    Ok(change.desired)
-                }
-            },
-        }
+        let place = self.next;
+        let step = Step::Want(Change { place, desired });
+        let found = self.rows.step(&mut self.line, &key, step)?;
+        let Some(row) = found else {
+            self.want_first(key, desired)?;
+            return Ok(None);
+        };
+        self.next = place + 1;
+        Ok(row.desired())
     }
 
     /// The same of a key without a row.
@@ -277,44 +237,6 @@ impl<K: OutKey> Table<K> {
         }
     }
 
-    /// The same of a key that waits for nothing.
-    fn want_idle(&mut self, key: K, row: Row, desired: Option<AttrId>) -> Result<(), NoMemory>
-        requires row { value_at K.cmp self.old.rows key ≡ Some row }
-        requires idle { row.change ≡ None }
-        requires numbered { self.old.next + 1 < 2 ^ 32 }
-        ensures ok { OnOk result (adj_of self.new.rows self.new.waiting ≡ with_desired K.cmp nat_eq (adj_of self.old.rows self.old.waiting) key desired) }
-        ensures err { OnErr result (self.new ≡ self.old) }
-    {
-        let _next = self.next;
-        if row.formatted == desired {
-            return Ok(());
-        }
-        self.begin(key, row, desired)?;
-        Ok(())
-    }
-
-    /// The same of a key that waits.
-    fn want_waiting(
-        &mut self,
-        key: K,
-        row: Row,
-        change: Change,
-        desired: Option<AttrId>,
-    ) -> Result<(), NoMemory>
-        requires row { value_at K.cmp self.old.rows key ≡ Some row }
-        requires waits { row.change ≡ Some change }
-        ensures ok { OnOk result (adj_of self.new.rows self.new.waiting ≡ with_desired K.cmp nat_eq (adj_of self.old.rows self.old.waiting) key desired) }
-        ensures err { OnErr result (self.new ≡ self.old) }
-    {
-        let _next = self.next;
-        if owes(row, desired) {
-            self.change(key, row, change, desired)?;
-            return Ok(());
-        }
-        self.end(key, change, row.formatted);
-        Ok(())
-    }
-
     /// The key is formatted as it is desired, and forced no more.
     pub fn mark(&mut self, key: K) -> Marked
         requires { has K.cmp (waiting_keys self.old.waiting) key ≡ true }
@@ -323,16 +245,13 @@ impl<K: OutKey> Table<K> {
         ensures now { result.now ≡ value_at K.cmp (adj_of self.old.rows self.old.waiting).desired key }
     {
         let _next = self.next;
-        let Some(row) = self.row(&key) else {
+        let Ok(found) = self.rows.step(&mut self.line, &key, Step::Format) else {
             unreachable!()
         };
-        let Some(change) = row.change else {
-            unreachable!()
-        };
-        self.end(key, change, change.desired);
+        let Some(row) = found else { unreachable!() };
         Marked {
             was: row.formatted,
-            now: change.desired,
+            now: row.desired(),
         }
     }
 

@@ -1,4 +1,4 @@
-use Rattle.std.proofs.Common.{◌≤◌, ◌<◌, refl, sym, ap, subst, ◌∙◌, arith}
+use Rattle.std.proofs.Common.{subst, arith}
 use Rattle.std.specs.Ordering.{nat_cmp}
 use Rattle.ug_pending.specs.Tables.{IsTable}
 use Rattle.ug_adjout.proofs.FirstFrom.{found, no_withdrawal, no_announcement, withdrawal_first, announcement_first}

@@ -1,5 +1,4 @@
 use Rattle.std.proofs.Common.{◌≡◌, Bool, true, false, not, map, refl, sym, ap, slice_get, ◌∙◌}
-use Rattle.ug_adjout.specs.Waits.{keys_for}
 use Rattle.ug_adjout.specs.Places.{of_value}
 use Rattle.ug_adjout.proofs.ByValue.{keys_by_value, own_first, other_first}
 use Rattle.ug_adjout.proofs.line.Line.first_of.Goals as goal

@@ -1,4 +1,4 @@
-use Rattle.std.proofs.Common.{◌≡◌, ℕ, Option, None, Some, true, false, refl, sym, ap, ◌∙◌}
+use Rattle.std.proofs.Common.{◌≡◌, ℕ, Option, None, Some, false, refl, sym, ◌∙◌}
 use Rattle.std.specs.Prelude.{is_some}
 use Rattle.ug_adjout.proofs.Slots.{indexed_gone}
 use Rattle.ug_adjout.proofs.ByPlace.{placed_is}

@@ -1,4 +1,4 @@
-use Rattle.std.proofs.Common.{◌≡◌, ◌<◌, length, is_some, sym, ap, subst, ◌∙◌, refl}
+use Rattle.std.proofs.Common.{◌<◌, is_some, ap, subst, ◌∙◌}
 use Rattle.ug_pending.specs.Tables.{IsTable}
 use Rattle.ug_adjout.specs.Stored.{formatted_of, mark_of, of_row}
 use Rattle.ug_adjout.proofs.Counts.{some_counted, few_counted, gone_counted}

@@ -1,4 +1,4 @@
-use Rattle.std.proofs.Common.{◌≡◌, Some, None, slice_get, refl, sym, ap, ◌∙◌}
+use Rattle.std.proofs.Common.{refl, sym, ◌∙◌}
 use Rattle.ug_adjout.proofs.Runs.{alike_are, alike_are_none, first_value_is, some_key}
 use Rattle.ug_adjout.proofs.table.Table.first_announcement.Goals as goal
 

@@ -1,4 +1,3 @@
-use Rattle.std.proofs.Common.{slice_get, sym, ap, ◌∙◌}
 use Rattle.ug_adjout.proofs.Runs.{withdrawals_are}
 use Rattle.ug_adjout.proofs.table.Table.first_withdrawal.Goals as goal
 

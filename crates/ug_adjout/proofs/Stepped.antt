@@ -1,0 +1,185 @@
+-- One step of a key that has a row.
+use Rattle.std.proofs.Common.{◌≡◌, inl, inr, ℕ, ◌+◌, Bool, true, false, cond, List, [], ◌∷◌, Option, Some, None, refl, sym, ap, subst, ◌∙◌, arith}
+use Rattle.std.specs.Prelude.{is_some, IsSome, IfSome, OnErr, nat_eq, if◌then◌else◌}
+use Rattle.std.specs.Option.{option_eq}
+use Rattle.std.specs.declared.result.Result.{Result}
+use Rattle.std.specs.declared.result.Result.TheVariants.{Ok, Err}
+use Rattle.std.specs.List.{AllByRecursion}
+use Rattle.std.specs.Ordering.{nat_cmp, is_eq, match_ordering}
+use Rattle.std.specs.Map.{lookup, set_value, remove_entry, keys_of}
+use Rattle.std.specs.BTreeMap.{insert_entry, is_at}
+use Rattle.std.specs.Cmp.{IsTotalOrder}
+use Rattle.std.specs.FinMap.{IsAntisymmetric}
+use Rattle.std.specs.declared.cmp.Ordering.{Ordering}
+use Rattle.std.specs.declared.cmp.Ordering.TheVariants.{Less, Equal, Greater}
+use Rattle.std.proofs.lemmas.Bool.{cond-true, cond-false}
+use Rattle.std.proofs.lemmas.Map.Keys.{sorted_head, sorted_tail}
+use Rattle.ug_pending.specs.Tables.{value_at, with_value, IsTable}
+use Rattle.ug_pending.specs.TableLaws.{below_all, none_above, with_value-same}
+use Rattle.ug_pending.specs.Pending.{with_desired, with_formatted}
+use Rattle.ug_adjout.specs.declared.row.Row.{Row}
+use Rattle.ug_adjout.specs.declared.row.Change.{Change}
+use Rattle.ug_adjout.specs.declared.waiting.Waiting.{Waiting}
+use Rattle.ug_adjout.specs.declared.step.Step.TheVariants.{Want, Format}
+use Rattle.ug_adjout.specs.Stored.{IsStored, IsFree, is_owed, is_forced, pends, of_row, formatted_of, desired_of, with_change, quiet, adj_of}
+use Rattle.ug_adjout.specs.Stepped.{wanted_by, formatted_by, stepped, wanted_in, formatted_in, lined, IsReadyBy, IsReady}
+use Rattle.ug_adjout.proofs.Steps.{Agree, IsSound, stored, next_free, agree_free, agree_listed, place_before}
+use Rattle.ug_adjout.proofs.Views.{option_same, idle_owes, idle_desired, waiting_desired, pends_quiet, want_same, want_begin, want_change, want_end, view_formatted, keys_end}
+
+-- ---- a value is written where its key is
+
+module _ {K V : Type 0} {cmp : K → K → Ordering} (total : IsTotalOrder cmp) (exact : IsAntisymmetric cmp) where
+  write_step : (r : Ordering) (key : K) (v : V) (e : K × V) (es written rest : List (K × V)) → cmp key e.0 ≡ r → AllByRecursion (λ y. cmp e.0 y ≡ Less) (keys_of es)
+      → is_some (lookup (is_at (cmp key)) (e ∷ es)) ≡ true → (is_some (lookup (is_at (cmp key)) es) ≡ true → written ≡ rest)
+      → cond (is_at (cmp key) e.0) ((e.0, v) ∷ es) (e ∷ written) ≡ match_ordering r ((key, v) ∷ e ∷ es) ((e.0, v) ∷ es) (e ∷ rest)
+  write_step Less key v e es written rest at above some h =
+      absurd (let z = sym (ap is_some (none_above total exact key (e ∷ es) (at, below_all total exact key e.0 (keys_of es) at above))) ∙ some in cc)
+  write_step Equal key v e es written rest at above some h = cond-true (is_at (cmp key) e.0) ((e.0, v) ∷ es) (e ∷ written) (ap is_eq at)
+  write_step Greater key v e es written rest at above some h =
+      cond-false (is_at (cmp key) e.0) ((e.0, v) ∷ es) (e ∷ written) (ap is_eq at)
+      ∙ ap (λ l. e ∷ l) (h (ap is_some (sym (cond-false (is_at (cmp key) e.0) (Some e.1) (lookup (is_at (cmp key)) es) (ap is_eq at))) ∙ some))
+
+  pub written_there : (key : K) (v : V) (es : List (K × V)) → IsTable cmp es → is_some (lookup (is_at (cmp key)) es) ≡ true → set_value (is_at (cmp key)) es v ≡ insert_entry cmp es key v
+  written_there key v [] s some = absurd cc
+  written_there key v (e ∷ es) s some =
+      write_step (cmp key e.0) key v e es (set_value (is_at (cmp key)) es v) (insert_entry cmp es key v) refl (sorted_head cmp e.0 (keys_of es) s) some
+      (written_there key v es (sorted_tail cmp e.0 (keys_of es) s))
+
+-- ---- the step keeps rows and list together
+
+quiet_agrees : {K : Type 0} (key : K) (place : ℕ) (w : Option ℕ) → Agree key place (quiet w) None
+quiet_agrees key place None = tt
+quiet_agrees key place (Some v) = refl
+
+quiet_sound : (w : Option ℕ) → IsSound (quiet w)
+quiet_sound None = tt
+quiet_sound (Some v) = (refl, refl)
+
+module _ {K : Type 0} {cmp : K → K → Ordering} (total : IsTotalOrder cmp) (exact : IsAntisymmetric cmp)
+    (rows : List (K × Row)) (waiting : List (ℕ × Waiting K)) (next : ℕ) (s : IsStored cmp rows waiting next) where
+  -- a place is skipped
+  later : IsStored cmp rows waiting (next + 1)
+  later = record {
+    ordered = s.ordered;
+    in_line = s.in_line;
+    sound = s.sound;
+    listed = s.listed;
+    known = s.known;
+    before = λ place w e. let lt = s.before place w e in omega (arith, lt);
+  }
+
+  module _ (key : K) (row : Row) (is : value_at cmp rows key ≡ Some row) where
+    same_rows : with_value cmp rows key (Some row) ≡ rows
+    same_rows = with_value-same total exact rows key (Some row) s.ordered is
+
+    there : IsSome (value_at cmp rows key)
+    there = ap is_some is
+
+    says : (change : Change) → row.change ≡ Some change → IfSome (value_at cmp rows key) (λ r. r.change ≡ Some change)
+    says change e = subst (λ o. IfSome o (λ r. r.change ≡ Some change)) (sym is) e
+
+    pub ready_format : IsReady Format key row waiting
+    ready_format = by row.change refl
+      where
+        by : (c : Option Change) → row.change ≡ c → IsReadyBy Format key c waiting
+        by None e = tt
+        by (Some change) e = s.listed key row change is e
+
+    module _ (w : Option ℕ) where
+      abbrev want : Change
+      want = record { place = next; desired = w }
+
+      pub ready_want : IsReady (Want want) key row waiting
+      ready_want = by row.change refl
+        where
+          by : (c : Option Change) → row.change ≡ c → IsReadyBy (Want want) key c waiting
+          by None e = next_free rows waiting next s key
+          by (Some change) e = s.listed key row change is e
+
+      pub want_stored : IsStored cmp (with_value cmp rows key (stepped (Want want) row)) (lined (Want want) key row waiting) (next + 1)
+      want_stored = by row.change refl
+        where
+          idle : (b : Bool) → option_eq nat_eq row.formatted w ≡ b → row.change ≡ None
+              → IsStored cmp (with_value cmp rows key (if b then Some row else Some (with_change row next w))) (if b then waiting else insert_entry nat_cmp waiting next (record { key = key; value = w })) (next + 1)
+          idle true t e = subst (λ l. IsStored cmp l waiting (next + 1)) (sym same_rows) later
+          idle false t e =
+              stored total exact rows waiting next s key next (agree_free rows waiting next s key (subst IsFree (sym is) e)) (Some (with_change row next w)) (Some (record { key = key; value = w }))
+              (refl, refl) (idle_owes row.formatted w row.forced t) (next + 1) (inr refl) (λ _. omega arith)
+
+          busy : (change : Change) (b : Bool) → is_owed row.formatted w row.forced ≡ b → row.change ≡ Some change
+              → IsStored cmp (with_value cmp rows key (if b then Some (with_change row change.place w) else quiet row.formatted))
+              (if b then insert_entry nat_cmp waiting change.place (record { key = key; value = w }) else remove_entry (is_at (nat_cmp change.place)) waiting) (next + 1)
+          busy change true t e =
+              let lt = place_before rows waiting next s key change there (says change e) in
+              stored total exact rows waiting next s key change.place (agree_listed rows waiting next s key change there (says change e)) (Some (with_change row change.place w))
+              (Some (record { key = key; value = w })) (refl, refl) t (next + 1) (inr refl) (λ _. omega (arith, lt))
+          busy change false t e =
+              stored total exact rows waiting next s key change.place (agree_listed rows waiting next s key change there (says change e)) (quiet row.formatted) None
+              (quiet_agrees key change.place row.formatted) (quiet_sound row.formatted) (next + 1) (inr refl) (λ some. absurd cc)
+
+          by : (c : Option Change) → row.change ≡ c → IsStored cmp (with_value cmp rows key (wanted_by row want c)) (wanted_in key row want c waiting) (next + 1)
+          by None e = idle (option_eq nat_eq row.formatted w) refl e
+          by (Some change) e = busy change (is_owed row.formatted w row.forced) refl e
+
+      pub want_view : adj_of (with_value cmp rows key (stepped (Want want) row)) (lined (Want want) key row waiting) ≡ with_desired cmp nat_eq (adj_of rows waiting) key w
+      want_view = by row.change refl
+        where
+          idle : (b : Bool) → option_eq nat_eq row.formatted w ≡ b → row.change ≡ None
+              → adj_of (with_value cmp rows key (if b then Some row else Some (with_change row next w))) (if b then waiting else insert_entry nat_cmp waiting next (record { key = key; value = w }))
+              ≡ with_desired cmp nat_eq (adj_of rows waiting) key w
+          idle true t e =
+              ap (λ l. adj_of l waiting) same_rows
+              ∙ want_same total exact rows waiting next s key w (ap (of_row desired_of) is ∙ idle_desired row e ∙ option_same row.formatted w t)
+          idle false t e =
+              want_begin total exact rows waiting next s key w row (ap (of_row formatted_of) is) (ap is_forced is) (ap pends is ∙ ap is_some e) (idle_owes row.formatted w row.forced t)
+
+          busy : (change : Change) (b : Bool) → is_owed row.formatted w row.forced ≡ b → row.change ≡ Some change
+              → adj_of (with_value cmp rows key (if b then Some (with_change row change.place w) else quiet row.formatted))
+              (if b then insert_entry nat_cmp waiting change.place (record { key = key; value = w }) else remove_entry (is_at (nat_cmp change.place)) waiting)
+              ≡ with_desired cmp nat_eq (adj_of rows waiting) key w
+          busy change true t e = want_change total exact rows waiting next s key w row change is e t
+          busy change false t e = want_end total exact rows waiting next s key w row change is e t
+
+          by : (c : Option Change) → row.change ≡ c → adj_of (with_value cmp rows key (wanted_by row want c)) (wanted_in key row want c waiting) ≡ with_desired cmp nat_eq (adj_of rows waiting) key w
+          by None e = idle (option_eq nat_eq row.formatted w) refl e
+          by (Some change) e = busy change (is_owed row.formatted w row.forced) refl e
+
+    pub format_stored : IsStored cmp (with_value cmp rows key (stepped Format row)) (lined Format key row waiting) next
+    format_stored = by row.change refl
+      where
+        by : (c : Option Change) → row.change ≡ c → IsStored cmp (with_value cmp rows key (formatted_by row c)) (formatted_in c waiting) next
+        by None e = subst (λ l. IsStored cmp l waiting next) (sym same_rows) s
+        by (Some change) e =
+            stored total exact rows waiting next s key change.place (agree_listed rows waiting next s key change there (says change e)) (quiet change.desired) None
+            (quiet_agrees key change.place change.desired) (quiet_sound change.desired) next (inl refl) (λ some. absurd cc)
+
+    pub format_view : pends (value_at cmp rows key) ≡ true → adj_of (with_value cmp rows key (stepped Format row)) (lined Format key row waiting) ≡ with_formatted cmp nat_eq (adj_of rows waiting) key
+    format_view waits = by row.change refl
+      where
+        by : (c : Option Change) → row.change ≡ c → adj_of (with_value cmp rows key (formatted_by row c)) (formatted_in c waiting) ≡ with_formatted cmp nat_eq (adj_of rows waiting) key
+        by None e = absurd (pends_quiet (value_at cmp rows key) row waits is e)
+        by (Some change) e =
+            let d : of_row desired_of (value_at cmp rows key) ≡ change.desired = ap (of_row desired_of) is ∙ waiting_desired row change e in
+            ap (λ z. adj_of (with_value cmp rows key (quiet z)) (remove_entry (is_at (nat_cmp change.place)) waiting)) (sym d)
+            ∙ view_formatted total exact rows waiting next s key _ (keys_end total exact rows waiting next s key row change is e)
+
+module _ {K : Type 0} {cmp : K → K → Ordering} (total : IsTotalOrder cmp) (exact : IsAntisymmetric cmp)
+    (rows : List (K × Row)) (waiting : List (ℕ × Waiting K)) (next : ℕ) (s : IsStored cmp rows waiting next) (key : K) where
+  pub wanting : (w : Option ℕ) → IfSome (value_at cmp rows key) (λ row. IsReady (Want (record { place = next; desired = w })) key row waiting)
+  wanting w = by (value_at cmp rows key) refl
+    where
+      by : (o : Option Row) → value_at cmp rows key ≡ o → IfSome o (λ row. IsReady (Want (record { place = next; desired = w })) key row waiting)
+      by None e = tt
+      by (Some row) e = ready_want total exact rows waiting next s key row e w
+
+  pub formatting : IfSome (value_at cmp rows key) (λ row. IsReady Format key row waiting)
+  formatting = by (value_at cmp rows key) refl
+    where
+      by : (o : Option Row) → value_at cmp rows key ≡ o → IfSome o (λ row. IsReady Format key row waiting)
+      by None e = tt
+      by (Some row) e = ready_format total exact rows waiting next s key row e
+
+-- what holds anyway holds at an error
+pub at_error : {T E : Type 0} (r : Result T E) (P : Type 0) → P → OnErr r P
+at_error (Ok v) P p = tt
+at_error (Err e) P p = p
