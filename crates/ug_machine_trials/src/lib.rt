@@ -22,6 +22,8 @@ mod settled;
 mod slots;
 mod splitting;
 mod taking;
+#[cfg(test)]
+mod tests;
 mod texts;
 mod turn;
 mod turning;
