@@ -49,14 +49,14 @@ sync > mark24:0:1:22; mark24:1:1:22;
 /// It is told what is left of it.
 const LEFT: &str = "
 legal > format2;
-format 2 > 43;
-next 0 > 43: M 0036 02 0000 001B 40010100 40020602010000FDE9 400304C0000201 80040400000002 180A0014;
+format 2 > 1023;
+next 0 > 1023: M 0036 02 0000 001B 40010100 40020602010000FDE9 400304C0000201 80040400000002 180A0014;
 legal > format2;
-format 2 > 44;
-next 0 > 44: M 002F 02 0000 0014 40010100 40020602010000FDE9 400304C0000201 180A0015;
+format 2 > 1024;
+next 0 > 1024: M 002F 02 0000 0014 40010100 40020602010000FDE9 400304C0000201 180A0015;
 legal > merge0:2; merge2:0;
 merge 0 2
-sync > mark44:0:1:23; mark44:1:1:42;
+sync > mark1024:0:1:23; mark1024:1:1:1022;
 ";
 
 /// Twenty packets, of which the second peer takes each.
@@ -85,9 +85,9 @@ fn empties<R: Abort>(rt: &R, alloc: Global, groups: &mut SlowGroups) -> Result<(
     Ok(())
 }
 
-/// A route changes ten times to and fro, of which the second peer takes each.
+/// A route changes five hundred times to and fro, of which the second peer takes each.
 fn changes<R: Abort>(rt: &R, alloc: Global, groups: &mut SlowGroups) -> Result<(), Fail> {
-    for i in 0..20u64 {
+    for i in 0..1000u64 {
         let made = i + 23;
         let med = i % 2 + 1;
         let lines = format!(in alloc;
