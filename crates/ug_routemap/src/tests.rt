@@ -19,18 +19,19 @@ fn name(alloc: Global, bytes: &[u8]) -> Result<Name, NoMemory> {
     Name::read(alloc, bytes)?.ok_or(NoMemory)
 }
 
-/// The numbers with one more, so many times.
-fn with(
+/// Adds the number so many times.
+fn put(
     alloc: Global,
-    given: Option<NumberList>,
+    numbers: &mut Option<NumberList>,
     number: u32,
     count: u32,
-) -> Result<Option<NumberList>, NoMemory> {
-    let mut numbers = given.unwrap_or(Sequence::new(alloc));
+) -> Result<(), NoMemory> {
+    let mut list = numbers.take().unwrap_or(Sequence::new(alloc));
     for _ in 0..count {
-        numbers.extend_from_slice(&[number])?;
+        list.extend_from_slice(&[number])?;
     }
-    Ok(Some(numbers))
+    *numbers = Some(list);
+    Ok(())
 }
 
 /// An entry that is always met, sets nothing and ends the walk.
@@ -54,105 +55,56 @@ fn plain_entry() -> MapEntry {
     }
 }
 
-/// The entry after one word more that says what it is and when it is met: `permit=10`, `goto=30`, `list=1` for the list
-/// `x` and `list=2` for `y`.
-fn with_match(alloc: Global, entry: MapEntry, word: &str) -> Result<MapEntry, NoMemory> {
+/// Adds a word that says what an entry is and when it is met: `permit=10`, `goto=30`, `list=1` for the list `x` and
+/// `list=2` for `y`.
+fn put_match(alloc: Global, entry: &mut MapEntry, word: &str) -> Result<(), NoMemory> {
     let (key, value) = read(word);
-    Ok(match key {
-        "permit" => MapEntry {
-            seq: value,
-            permit: true,
-            ..entry
-        },
-        "deny" => MapEntry {
-            seq: value,
-            ..entry
-        },
-        "goto" => MapEntry {
-            on_match: OnMatch::Goto(value),
-            ..entry
-        },
-        "next" => MapEntry {
-            on_match: OnMatch::Next,
-            ..entry
-        },
-        "list" => MapEntry {
-            match_prefix_list: Some(name(alloc, if value == 1 { b"x" } else { b"y" })?),
-            ..entry
-        },
-        "comm" => MapEntry {
-            match_community: Some(value),
-            ..entry
-        },
-        "origin" => MapEntry {
-            match_origin: u8::try_from(value).ok(),
-            ..entry
-        },
-        "med" => MapEntry {
-            match_med: Some(value),
-            ..entry
-        },
-        "pref" => MapEntry {
-            match_local_pref: Some(value),
-            ..entry
-        },
-        _ => entry,
-    })
+    match key {
+        "permit" => {
+            entry.seq = value;
+            entry.permit = true;
+        }
+        "deny" => entry.seq = value,
+        "goto" => entry.on_match = OnMatch::Goto(value),
+        "next" => entry.on_match = OnMatch::Next,
+        "list" => entry.match_prefix_list = Some(list_name(alloc, value)?),
+        "comm" => entry.match_community = Some(value),
+        "origin" => entry.match_origin = u8::try_from(value).ok(),
+        "med" => entry.match_med = Some(value),
+        "pref" => entry.match_local_pref = Some(value),
+        _ => {}
+    }
+    Ok(())
 }
 
-/// The entry after one word more that says what it sets; `prepends=16` puts the number 7 in front so many times.
-fn with_set(alloc: Global, entry: MapEntry, word: &str) -> Result<MapEntry, NoMemory> {
+fn list_name(alloc: Global, number: u32) -> Result<Name, NoMemory> {
+    name(alloc, if number == 1 { b"x" } else { b"y" })
+}
+
+/// Adds a word that says what an entry sets; `prepends=16` puts the number 7 in front so many times.
+fn put_set(alloc: Global, entry: &mut MapEntry, word: &str) -> Result<(), NoMemory> {
     let (key, value) = read(word);
-    Ok(match key {
-        "set-origin" => MapEntry {
-            set_origin: u8::try_from(value).ok(),
-            ..entry
-        },
-        "set-nh" => MapEntry {
-            set_next_hop: Some(Addr::v4(value)),
-            ..entry
-        },
-        "set-med" => MapEntry {
-            set_med: Some(value),
-            ..entry
-        },
-        "set-pref" => MapEntry {
-            set_local_pref: Some(value),
-            ..entry
-        },
-        "prepend" => MapEntry {
-            set_prepend: with(alloc, entry.set_prepend, value, 1)?,
-            ..entry
-        },
-        "prepends" => MapEntry {
-            set_prepend: with(alloc, entry.set_prepend, 7, value)?,
-            ..entry
-        },
-        "set-comm" => MapEntry {
-            set_communities: with(alloc, entry.set_communities, value, 1)?,
-            ..entry
-        },
-        "set-comms" => MapEntry {
-            set_communities: with(alloc, entry.set_communities, 7, value)?,
-            ..entry
-        },
-        "add-comm" => MapEntry {
-            add_communities: with(alloc, entry.add_communities, value, 1)?,
-            ..entry
-        },
-        "add-comms" => MapEntry {
-            add_communities: with(alloc, entry.add_communities, 7, value)?,
-            ..entry
-        },
-        _ => entry,
-    })
+    match key {
+        "set-origin" => entry.set_origin = u8::try_from(value).ok(),
+        "set-nh" => entry.set_next_hop = Some(Addr::v4(value)),
+        "set-med" => entry.set_med = Some(value),
+        "set-pref" => entry.set_local_pref = Some(value),
+        "prepend" => put(alloc, &mut entry.set_prepend, value, 1)?,
+        "prepends" => put(alloc, &mut entry.set_prepend, 7, value)?,
+        "set-comm" => put(alloc, &mut entry.set_communities, value, 1)?,
+        "set-comms" => put(alloc, &mut entry.set_communities, 7, value)?,
+        "add-comm" => put(alloc, &mut entry.add_communities, value, 1)?,
+        "add-comms" => put(alloc, &mut entry.add_communities, 7, value)?,
+        _ => {}
+    }
+    Ok(())
 }
 
 fn entry_of(alloc: Global, text: &str) -> Result<MapEntry, NoMemory> {
     let mut entry = plain_entry();
     for word in text.split_whitespace() {
-        entry = with_match(alloc, entry, word)?;
-        entry = with_set(alloc, entry, word)?;
+        put_match(alloc, &mut entry, word)?;
+        put_set(alloc, &mut entry, word)?;
     }
     Ok(entry)
 }
@@ -396,33 +348,43 @@ fn attributes_are_mapped(rt: HostRuntime) -> Result<(), Fail> {
         ("permit=1 set-pref=1 goto=9; deny=8", "as=3 comm=100 pref=1"),
         ("deny=1 goto=9; permit=9", ""),
     ] {
-        let Ok(map) = made(alloc, entries_of(alloc, text)?) else {
-            return Err("refused")?;
-        };
+        let map = map_of(alloc, text)?;
         assert!(rt; is_mapped(alloc, &map, &ten, given, wanted)?, "{text}");
     }
     Ok(())
 }
 
-/// An entry that goes past a deny entry to one that asks a list.
+fn map_of(alloc: Global, text: &str) -> Result<RouteMap, Fail> {
+    let Ok(map) = made(alloc, entries_of(alloc, text)?) else {
+        return Err("refused")?;
+    };
+    Ok(map)
+}
+
+/// Whether a prefix that the list permits and one that it denies come to these attributes.
+fn are_mapped(alloc: Global, map: &RouteMap, permitted: &str, denied: &str) -> Result<bool, Fail> {
+    let inside = is_mapped(alloc, map, &prefix(0x0A00_0000, 8), "as=3", permitted)?;
+    let outside = is_mapped(alloc, map, &prefix(0x0B00_0000, 8), "as=3", denied)?;
+    Ok(inside && outside)
+}
+
+/// An entry that goes past a deny entry to one that asks a list, in a map and in its copy.
 #[test]
 fn a_goto_leads_past_an_entry(rt: HostRuntime) -> Result<(), Fail> {
     let alloc = rt.alloc();
     let text = "permit=10 set-med=5 goto=30; deny=20; permit=30 list=1";
-    let Ok(map) = made(alloc, entries_of(alloc, text)?) else {
-        return Err("refused")?;
-    };
+    let map = map_of(alloc, text)?;
     let copy = map.copy(alloc)?;
-    for address in [0x0A00_0000, 0x0B00_0000] {
-        let prefix = prefix(address, 8);
-        assert!(rt; is_mapped(alloc, &map, &prefix, "as=3", "as=3 med=5")?);
-        assert!(rt; is_mapped(alloc, &copy, &prefix, "as=3", "as=3 med=5")?);
-    }
-    let Ok(map) = made(alloc, entries_of(alloc, "permit=30 list=1")?) else {
-        return Err("refused")?;
-    };
-    assert!(rt; is_mapped(alloc, &map, &prefix(0x0A00_0000, 8), "as=3", "as=3")?);
-    assert!(rt; is_mapped(alloc, &map, &prefix(0x0B00_0000, 8), "as=3", "")?);
+    assert!(rt; are_mapped(alloc, &map, "as=3 med=5", "as=3 med=5")?);
+    assert!(rt; are_mapped(alloc, &copy, "as=3 med=5", "as=3 med=5")?);
+    Ok(())
+}
+
+#[test]
+fn an_entry_asks_its_list(rt: HostRuntime) -> Result<(), Fail> {
+    let alloc = rt.alloc();
+    let map = map_of(alloc, "permit=30 list=1")?;
+    assert!(rt; are_mapped(alloc, &map, "as=3", "")?);
     Ok(())
 }
 
