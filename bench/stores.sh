@@ -26,9 +26,10 @@ fi
 # run KEYS SHARE SCATTER: of the runs the one that took least: its processor's seconds (its own and the system's), its peak
 # memory in KiB, its line.
 run() {
+    local TIMEFORMAT='%3U %3S'
     for _ in $(seq "${RUNS:-5}"); do
-        /usr/bin/time -f '%U %S %M' -o "$work/said" "$program" "$@" > "$work/report"
-        echo "$(awk '{ print $1 + $2, $3 }' "$work/said") $(cat "$work/report")"
+        { time /usr/bin/time -f '%M' -o "$work/said" "$program" "$@" > "$work/report"; } 2> "$work/took"
+        echo "$(awk '{ print $1 + $2 }' "$work/took") $(cat "$work/said" "$work/report" | tr '\n' ' ')"
     done | sort -n | head -n 1
 }
 

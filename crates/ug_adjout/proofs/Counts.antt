@@ -8,7 +8,7 @@ use Rattle.std.specs.Cmp.{IsTotalOrder}
 use Rattle.std.specs.declared.cmp.Ordering.{Ordering}
 use Rattle.std.proofs.lemmas.List.Sums.{sum_by-cons}
 use Rattle.std.proofs.lemmas.Map.Entries.{sum_by-insert_entry, sum_by-remove_entry}
-use Rattle.ug_pending.specs.Tables.{value_at, IsTable}
+use Rattle.ug_pending.specs.Tables.{value_at, with_value, IsTable}
 use Rattle.ug_adjout.specs.Stored.{projected, projected_with, of_row}
 
 abbrev pub one : Bool → ℕ
@@ -66,6 +66,10 @@ module _ {V W : Type 0} (f : V → Option W) where
     put_counted total s v new now says step =
         let put = inserted_count cmp total rows k v s in let a = ap one was in let b = ap one says in omega (arith, put, a, b, step, is)
 
-    pub gone_counted : (now : ℕ) → now + one old ≡ count + 0 → now ≡ length (projected f (remove_entry (is_at (cmp k)) rows))
+    gone_counted : (now : ℕ) → now + one old ≡ count + 0 → now ≡ length (projected f (remove_entry (is_at (cmp k)) rows))
     gone_counted now step =
         let gone = removed_count cmp rows k in let a = ap one was in omega (arith, gone, a, step, is)
+
+    pub step_counted : IsTotalOrder cmp → IsTable cmp rows → (o : Option V) (new : Bool) (now : ℕ) → new ≡ is_some (of_row f o) → now + one old ≡ count + one new → now ≡ length (projected f (with_value cmp rows k o))
+    step_counted total s None new now says step = gone_counted now (step ∙ ap (λ b. count + one b) says)
+    step_counted total s (Some v) new now says step = put_counted total s v new now says step

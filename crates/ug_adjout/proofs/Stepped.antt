@@ -1,4 +1,4 @@
--- One step of a key that has a row.
+-- One step of a key.
 use Rattle.std.proofs.Common.{◌≡◌, inl, inr, ℕ, ◌+◌, Bool, true, false, cond, List, [], ◌∷◌, Option, Some, None, refl, sym, ap, subst, ◌∙◌, arith}
 use Rattle.std.specs.Prelude.{is_some, IsSome, IfSome, OnErr, nat_eq, if◌then◌else◌}
 use Rattle.std.specs.Option.{option_eq}
@@ -20,11 +20,12 @@ use Rattle.ug_pending.specs.Pending.{with_desired, with_formatted}
 use Rattle.ug_adjout.specs.declared.row.Row.{Row}
 use Rattle.ug_adjout.specs.declared.row.Change.{Change}
 use Rattle.ug_adjout.specs.declared.waiting.Waiting.{Waiting}
+use Rattle.ug_adjout.specs.declared.step.Step.{Step}
 use Rattle.ug_adjout.specs.declared.step.Step.TheVariants.{Want, Format}
-use Rattle.ug_adjout.specs.Stored.{IsStored, IsFree, is_owed, is_forced, pends, of_row, formatted_of, desired_of, with_change, quiet, adj_of}
-use Rattle.ug_adjout.specs.Stepped.{wanted_by, formatted_by, stepped, wanted_in, formatted_in, lined, IsReadyBy, IsReady}
+use Rattle.ug_adjout.specs.Stored.{IsStored, IsRow, IsRowBy, IsFree, is_owed, is_forced, pends, of_row, formatted_of, desired_of, with_change, quiet, adj_of}
+use Rattle.ug_adjout.specs.Stepped.{known, makes_row, wanted_by, formatted_by, stepped, wanted_in, formatted_in, lined, IsReadyBy, IsReady}
 use Rattle.ug_adjout.proofs.Steps.{Agree, IsSound, stored, next_free, agree_free, agree_listed, place_before}
-use Rattle.ug_adjout.proofs.Views.{option_same, idle_owes, idle_desired, waiting_desired, pends_quiet, want_same, want_begin, want_change, want_end, view_formatted, keys_end}
+use Rattle.ug_adjout.proofs.Views.{option_same, idle_owes, idle_desired, waiting_desired, pends_none, pends_quiet, want_same, want_begin, want_change, want_end, view_formatted, keys_end}
 
 -- ---- a value is written where its key is
 
@@ -55,6 +56,17 @@ quiet_sound : (w : Option ℕ) → IsSound (quiet w)
 quiet_sound None = tt
 quiet_sound (Some v) = (refl, refl)
 
+-- a row that waits for nothing
+quiet_row : (row : Row) → row.change ≡ None → IsRow row → quiet row.formatted ≡ Some row
+quiet_row row e s = by row.formatted refl
+  where
+    idle : IsRowBy row None
+    idle = subst (IsRowBy row) e s
+
+    by : (f : Option ℕ) → row.formatted ≡ f → quiet f ≡ Some row
+    by None h = absurd (let z = sym idle.0 ∙ ap is_some h in cc)
+    by (Some v) h = λ i. Some (record { formatted = sym h i; forced = sym idle.1 i; change = sym e i })
+
 module _ {K : Type 0} {cmp : K → K → Ordering} (total : IsTotalOrder cmp) (exact : IsAntisymmetric cmp)
     (rows : List (K × Row)) (waiting : List (ℕ × Waiting K)) (next : ℕ) (s : IsStored cmp rows waiting next) where
   -- a place is skipped
@@ -75,10 +87,13 @@ module _ {K : Type 0} {cmp : K → K → Ordering} (total : IsTotalOrder cmp) (e
     there : IsSome (value_at cmp rows key)
     there = ap is_some is
 
+    as_it_is : row.change ≡ None → with_value cmp rows key (quiet row.formatted) ≡ rows
+    as_it_is e = ap (with_value cmp rows key) (quiet_row row e (s.sound key row is)) ∙ same_rows
+
     says : (change : Change) → row.change ≡ Some change → IfSome (value_at cmp rows key) (λ r. r.change ≡ Some change)
     says change e = subst (λ o. IfSome o (λ r. r.change ≡ Some change)) (sym is) e
 
-    pub ready_format : IsReady Format key row waiting
+    ready_format : IsReady Format key row waiting
     ready_format = by row.change refl
       where
         by : (c : Option Change) → row.change ≡ c → IsReadyBy Format key c waiting
@@ -89,19 +104,19 @@ module _ {K : Type 0} {cmp : K → K → Ordering} (total : IsTotalOrder cmp) (e
       abbrev want : Change
       want = record { place = next; desired = w }
 
-      pub ready_want : IsReady (Want want) key row waiting
+      ready_want : IsReady (Want want) key row waiting
       ready_want = by row.change refl
         where
           by : (c : Option Change) → row.change ≡ c → IsReadyBy (Want want) key c waiting
           by None e = next_free rows waiting next s key
           by (Some change) e = s.listed key row change is e
 
-      pub want_stored : IsStored cmp (with_value cmp rows key (stepped (Want want) row)) (lined (Want want) key row waiting) (next + 1)
+      want_stored : IsStored cmp (with_value cmp rows key (stepped (Want want) row)) (lined (Want want) key row waiting) (next + 1)
       want_stored = by row.change refl
         where
           idle : (b : Bool) → option_eq nat_eq row.formatted w ≡ b → row.change ≡ None
-              → IsStored cmp (with_value cmp rows key (if b then Some row else Some (with_change row next w))) (if b then waiting else insert_entry nat_cmp waiting next (record { key = key; value = w })) (next + 1)
-          idle true t e = subst (λ l. IsStored cmp l waiting (next + 1)) (sym same_rows) later
+              → IsStored cmp (with_value cmp rows key (if b then quiet row.formatted else Some (with_change row next w))) (if b then waiting else insert_entry nat_cmp waiting next (record { key = key; value = w })) (next + 1)
+          idle true t e = subst (λ l. IsStored cmp l waiting (next + 1)) (sym (as_it_is e)) later
           idle false t e =
               stored total exact rows waiting next s key next (agree_free rows waiting next s key (subst IsFree (sym is) e)) (Some (with_change row next w)) (Some (record { key = key; value = w }))
               (refl, refl) (idle_owes row.formatted w row.forced t) (next + 1) (inr refl) (λ _. omega arith)
@@ -121,14 +136,14 @@ module _ {K : Type 0} {cmp : K → K → Ordering} (total : IsTotalOrder cmp) (e
           by None e = idle (option_eq nat_eq row.formatted w) refl e
           by (Some change) e = busy change (is_owed row.formatted w row.forced) refl e
 
-      pub want_view : adj_of (with_value cmp rows key (stepped (Want want) row)) (lined (Want want) key row waiting) ≡ with_desired cmp nat_eq (adj_of rows waiting) key w
+      want_view : adj_of (with_value cmp rows key (stepped (Want want) row)) (lined (Want want) key row waiting) ≡ with_desired cmp nat_eq (adj_of rows waiting) key w
       want_view = by row.change refl
         where
           idle : (b : Bool) → option_eq nat_eq row.formatted w ≡ b → row.change ≡ None
-              → adj_of (with_value cmp rows key (if b then Some row else Some (with_change row next w))) (if b then waiting else insert_entry nat_cmp waiting next (record { key = key; value = w }))
+              → adj_of (with_value cmp rows key (if b then quiet row.formatted else Some (with_change row next w))) (if b then waiting else insert_entry nat_cmp waiting next (record { key = key; value = w }))
               ≡ with_desired cmp nat_eq (adj_of rows waiting) key w
           idle true t e =
-              ap (λ l. adj_of l waiting) same_rows
+              ap (λ l. adj_of l waiting) (as_it_is e)
               ∙ want_same total exact rows waiting next s key w (ap (of_row desired_of) is ∙ idle_desired row e ∙ option_same row.formatted w t)
           idle false t e =
               want_begin total exact rows waiting next s key w row (ap (of_row formatted_of) is) (ap is_forced is) (ap pends is ∙ ap is_some e) (idle_owes row.formatted w row.forced t)
@@ -144,16 +159,16 @@ module _ {K : Type 0} {cmp : K → K → Ordering} (total : IsTotalOrder cmp) (e
           by None e = idle (option_eq nat_eq row.formatted w) refl e
           by (Some change) e = busy change (is_owed row.formatted w row.forced) refl e
 
-    pub format_stored : IsStored cmp (with_value cmp rows key (stepped Format row)) (lined Format key row waiting) next
+    format_stored : IsStored cmp (with_value cmp rows key (stepped Format row)) (lined Format key row waiting) next
     format_stored = by row.change refl
       where
         by : (c : Option Change) → row.change ≡ c → IsStored cmp (with_value cmp rows key (formatted_by row c)) (formatted_in c waiting) next
-        by None e = subst (λ l. IsStored cmp l waiting next) (sym same_rows) s
+        by None e = subst (λ l. IsStored cmp l waiting next) (sym (as_it_is e)) s
         by (Some change) e =
             stored total exact rows waiting next s key change.place (agree_listed rows waiting next s key change there (says change e)) (quiet change.desired) None
             (quiet_agrees key change.place change.desired) (quiet_sound change.desired) next (inl refl) (λ some. absurd cc)
 
-    pub format_view : pends (value_at cmp rows key) ≡ true → adj_of (with_value cmp rows key (stepped Format row)) (lined Format key row waiting) ≡ with_formatted cmp nat_eq (adj_of rows waiting) key
+    format_view : pends (value_at cmp rows key) ≡ true → adj_of (with_value cmp rows key (stepped Format row)) (lined Format key row waiting) ≡ with_formatted cmp nat_eq (adj_of rows waiting) key
     format_view waits = by row.change refl
       where
         by : (c : Option Change) → row.change ≡ c → adj_of (with_value cmp rows key (formatted_by row c)) (formatted_in c waiting) ≡ with_formatted cmp nat_eq (adj_of rows waiting) key
@@ -163,21 +178,107 @@ module _ {K : Type 0} {cmp : K → K → Ordering} (total : IsTotalOrder cmp) (e
             ap (λ z. adj_of (with_value cmp rows key (quiet z)) (remove_entry (is_at (nat_cmp change.place)) waiting)) (sym d)
             ∙ view_formatted total exact rows waiting next s key _ (keys_end total exact rows waiting next s key row change is e)
 
+-- ---- whether there is a row or not
+
 module _ {K : Type 0} {cmp : K → K → Ordering} (total : IsTotalOrder cmp) (exact : IsAntisymmetric cmp)
     (rows : List (K × Row)) (waiting : List (ℕ × Waiting K)) (next : ℕ) (s : IsStored cmp rows waiting next) (key : K) where
-  pub wanting : (w : Option ℕ) → IfSome (value_at cmp rows key) (λ row. IsReady (Want (record { place = next; desired = w })) key row waiting)
-  wanting w = by (value_at cmp rows key) refl
-    where
-      by : (o : Option Row) → value_at cmp rows key ≡ o → IfSome o (λ row. IsReady (Want (record { place = next; desired = w })) key row waiting)
-      by None e = tt
-      by (Some row) e = ready_want total exact rows waiting next s key row e w
+  abbrev row_at : Option Row
+  row_at = value_at cmp rows key
 
-  pub formatting : IfSome (value_at cmp rows key) (λ row. IsReady Format key row waiting)
-  formatting = by (value_at cmp rows key) refl
+  still_none : row_at ≡ None → remove_entry (is_at (cmp key)) rows ≡ rows
+  still_none e = with_value-same total exact rows key None s.ordered e
+
+  module _ (w : Option ℕ) where
+    abbrev wants : Option ℕ → Step
+    wants v = Want (record { place = next; desired = v })
+
+    pub wanting : IsReady (wants w) key (known row_at) waiting
+    wanting = by row_at refl
+      where
+        by : (o : Option Row) → row_at ≡ o → IsReady (wants w) key (known o) waiting
+        by None e = next_free rows waiting next s key
+        by (Some row) e = ready_want total exact rows waiting next s key row e w
+
+    pub want_kept : IsStored cmp (with_value cmp rows key (stepped (wants w) (known row_at))) (lined (wants w) key (known row_at) waiting) (next + 1)
+    want_kept = by row_at refl
+      where
+        first : (v : Option ℕ) → row_at ≡ None → IsStored cmp (with_value cmp rows key (stepped (wants v) (known None))) (lined (wants v) key (known None) waiting) (next + 1)
+        first None e = subst (λ l. IsStored cmp l waiting (next + 1)) (sym (still_none e)) (later total exact rows waiting next s)
+        first (Some v) e =
+            stored total exact rows waiting next s key next (agree_free rows waiting next s key (subst IsFree (sym e) tt)) (Some (with_change (known None) next (Some v)))
+            (Some (record { key = key; value = Some v })) (refl, refl) refl (next + 1) (inr refl) (λ _. omega arith)
+
+        by : (o : Option Row) → row_at ≡ o → IsStored cmp (with_value cmp rows key (stepped (wants w) (known o))) (lined (wants w) key (known o) waiting) (next + 1)
+        by None e = first w e
+        by (Some row) e = want_stored total exact rows waiting next s key row e w
+
+    pub want_told : adj_of (with_value cmp rows key (stepped (wants w) (known row_at))) (lined (wants w) key (known row_at) waiting) ≡ with_desired cmp nat_eq (adj_of rows waiting) key w
+    want_told = by row_at refl
+      where
+        first : (v : Option ℕ) → row_at ≡ None
+            → adj_of (with_value cmp rows key (stepped (wants v) (known None))) (lined (wants v) key (known None) waiting) ≡ with_desired cmp nat_eq (adj_of rows waiting) key v
+        first None e = ap (λ l. adj_of l waiting) (still_none e) ∙ want_same total exact rows waiting next s key None (ap (of_row desired_of) e)
+        first (Some v) e = want_begin total exact rows waiting next s key (Some v) (known None) (ap (of_row formatted_of) e) (ap is_forced e) (ap pends e) refl
+
+        by : (o : Option Row) → row_at ≡ o
+            → adj_of (with_value cmp rows key (stepped (wants w) (known o))) (lined (wants w) key (known o) waiting) ≡ with_desired cmp nat_eq (adj_of rows waiting) key w
+        by None e = first w e
+        by (Some row) e = want_view total exact rows waiting next s key row e w
+
+  pub formatting : IsReady Format key (known row_at) waiting
+  formatting = by row_at refl
     where
-      by : (o : Option Row) → value_at cmp rows key ≡ o → IfSome o (λ row. IsReady Format key row waiting)
+      by : (o : Option Row) → row_at ≡ o → IsReady Format key (known o) waiting
       by None e = tt
       by (Some row) e = ready_format total exact rows waiting next s key row e
+
+  pub format_kept : IsStored cmp (with_value cmp rows key (stepped Format (known row_at))) (lined Format key (known row_at) waiting) next
+  format_kept = by row_at refl
+    where
+      by : (o : Option Row) → row_at ≡ o → IsStored cmp (with_value cmp rows key (stepped Format (known o))) (lined Format key (known o) waiting) next
+      by None e = subst (λ l. IsStored cmp l waiting next) (sym (still_none e)) s
+      by (Some row) e = format_stored total exact rows waiting next s key row e
+
+  pub format_told : pends row_at ≡ true → adj_of (with_value cmp rows key (stepped Format (known row_at))) (lined Format key (known row_at) waiting) ≡ with_formatted cmp nat_eq (adj_of rows waiting) key
+  format_told waits = by row_at refl
+    where
+      by : (o : Option Row) → row_at ≡ o → adj_of (with_value cmp rows key (stepped Format (known o))) (lined Format key (known o) waiting) ≡ with_formatted cmp nat_eq (adj_of rows waiting) key
+      by None e = absurd (pends_none row_at waits e)
+      by (Some row) e = format_view total exact rows waiting next s key row e waits
+
+module _ {K : Type 0} {cmp : K → K → Ordering} (total : IsTotalOrder cmp) (exact : IsAntisymmetric cmp)
+    (rows : List (K × Row)) (waiting : List (ℕ × Waiting K)) (next : ℕ) (s : IsStored cmp rows waiting next) (key : K) where
+  -- nothing changes where the key doesn't wait
+  pub format_nothing : (known (value_at cmp rows key)).change ≡ None
+      → (with_value cmp rows key (stepped Format (known (value_at cmp rows key))) ≡ rows) × (lined Format key (known (value_at cmp rows key)) waiting ≡ waiting)
+  format_nothing idle = by (value_at cmp rows key) refl idle
+    where
+      by : (o : Option Row) → value_at cmp rows key ≡ o → (known o).change ≡ None → (with_value cmp rows key (stepped Format (known o)) ≡ rows) × (lined Format key (known o) waiting ≡ waiting)
+      by None e h = (with_value-same total exact rows key None s.ordered e, refl)
+      by (Some row) e h = (
+        ap (λ c. with_value cmp rows key (formatted_by row c)) h ∙ ap (with_value cmp rows key) (quiet_row row h (s.sound key row e)) ∙ with_value-same total exact rows key (Some row) s.ordered e,
+        ap (λ c. formatted_in c waiting) h,
+      )
+
+pub told_waits : (o : Option Row) → is_some (known o).change ≡ pends o
+told_waits None = refl
+told_waits (Some row) = refl
+
+pub told_formatted : (o : Option Row) → (known o).formatted ≡ of_row formatted_of o
+told_formatted None = refl
+told_formatted (Some row) = refl
+
+pub told_desired : (o : Option Row) → desired_of (known o) ≡ of_row desired_of o
+told_desired None = refl
+told_desired (Some row) = refl
+
+pub makes_none : (step : Step) → makes_row step ≡ false → stepped step (known None) ≡ None
+makes_none (Want want) m = by want.desired m
+  where
+    by : (d : Option ℕ) → is_some d ≡ false → wanted_by (known None) (record { place = want.place; desired = d }) None ≡ None
+    by None h = refl
+    by (Some v) h = absurd cc
+makes_none Format m = refl
 
 -- what holds anyway holds at an error
 pub at_error : {T E : Type 0} (r : Result T E) (P : Type 0) → P → OnErr r P

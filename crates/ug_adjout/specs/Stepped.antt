@@ -1,5 +1,6 @@
--- What becomes of a key's row, and of the list of waiting keys, where the key is desired anew or is formatted.
-use Rattle.std.specs.Prelude.{◌≡◌, ℕ, nat_eq, List, Option, Some, None, if◌then◌else◌}
+-- What becomes of a key's row, and of the list of waiting keys, where the key is desired anew or is formatted. A key without
+-- a row is one of which the row says nothing.
+use Rattle.std.specs.Prelude.{◌≡◌, ℕ, nat_eq, Bool, false, is_some, List, Option, Some, None, if◌then◌else◌}
 use Rattle.std.specs.Option.{option_eq}
 use Rattle.std.specs.Ordering.{nat_cmp}
 use Rattle.std.specs.Map.{remove_entry}
@@ -12,22 +13,27 @@ use Rattle.ug_adjout.specs.declared.step.Step.{Step}
 use Rattle.ug_adjout.specs.declared.step.Step.TheVariants.{Want, Format}
 use Rattle.ug_adjout.specs.Stored.{is_owed, with_change, quiet}
 
--- a row whose key waits keeps its place, and one whose key waits for nothing more becomes quiet
+abbrev pub known : Option Row → Row
+known None = record { formatted = None; forced = false; change = None }
+known (Some row) = row
+
+-- a row whose key waits keeps its place, and one whose key waits for nothing becomes quiet
 abbrev pub wanted_by : Row → Change → Option Change → Option Row
-wanted_by row want None = if option_eq nat_eq row.formatted want.desired then Some row else Some (with_change row want.place want.desired)
+wanted_by row want None = if option_eq nat_eq row.formatted want.desired then quiet row.formatted else Some (with_change row want.place want.desired)
 wanted_by row want (Some change) = if is_owed row.formatted want.desired row.forced then Some (with_change row change.place want.desired) else quiet row.formatted
 
 abbrev pub formatted_by : Row → Option Change → Option Row
-formatted_by row None = Some row
+formatted_by row None = quiet row.formatted
 formatted_by row (Some change) = quiet change.desired
 
 abbrev pub stepped : Step → Row → Option Row
 stepped (Want want) row = wanted_by row want row.change
 stepped Format row = formatted_by row row.change
 
-abbrev pub row_or : Option Row → Row → Row
-row_or None row = row
-row_or (Some now) row = now
+-- a key without a row gets one where it is desired
+abbrev pub makes_row : Step → Bool
+makes_row (Want want) = is_some want.desired
+makes_row Format = false
 
 module _ {K : Type 0} where
   abbrev pub wanted_in : K → Row → Change → Option Change → List (ℕ × Waiting K) → List (ℕ × Waiting K)

@@ -1,4 +1,4 @@
-ghost use Rattle.std.specs.Prelude.{◌≡◌, ◌<◌, ℕ, nat_eq, true, ◌==◌, length, Some, None, OnOk, OnErr, IfOk, IsOk, IfSome, IfNone, option_copied, slice_get, IsTrue, ◌↔◌};
+ghost use Rattle.std.specs.Prelude.{◌≡◌, ◌<◌, ℕ, nat_eq, is_some, true, ◌==◌, length, Some, None, OnOk, OnErr, IfOk, IsOk, IfSome, IfNone, option_copied, slice_get, IsTrue, ◌↔◌};
 ghost use Rattle.ug_pending.specs.Tables.{value_at, has, rows_after};
 ghost use Rattle.ug_pending.specs.Pending.{nothing_out, with_desired, with_all_forced, with_formatted};
 ghost use Rattle.ug_pending.specs.Formatting.{fitting, withdrawals, announcements, alike, value_of_first};
@@ -77,7 +77,21 @@ impl<K: OutKey> AdjOut<K> {
         ensures now { IfOk result (λ marked. marked.now ≡ value_at K.cmp self.old.desired key.now) }
         ensures ok { self.new ≡ with_formatted K.cmp nat_eq self.old key.now }
     {
-        Ok(self.table.mark(*key))
+        let Some(marked) = self.table.mark(*key) else {
+            unreachable!()
+        };
+        Ok(marked)
+    }
+
+    /// The same where the key waits; None exactly where it doesn't, and then nothing changes. It takes no memory.
+    pub fn mark_if_pending(&mut self, key: &K) -> Option<Marked>
+        ensures waits { is_some result ≡ has K.cmp self.old.pending key.now }
+        ensures was { IfSome result (λ marked. marked.was ≡ value_at K.cmp self.old.formatted key.now) }
+        ensures now { IfSome result (λ marked. marked.now ≡ value_at K.cmp self.old.desired key.now) }
+        ensures ok { IfSome result (λ _. self.new ≡ with_formatted K.cmp nat_eq self.old key.now) }
+        ensures none { IfNone result (self.new ≡ self.old) }
+    {
+        self.table.mark(*key)
     }
 
     /// The first keys that wait for their withdrawal, as many as weigh at most the budget together.

@@ -1,5 +1,6 @@
 ghost use Rattle.std.specs.Prelude.{◌≡◌};
 ghost use Rattle.ug_adjout.specs.Stored.{desired_of};
+ghost use Rattle.ug_adjout.specs.Stepped.{known};
 
 use ug_intern::AttrId;
 
@@ -27,5 +28,19 @@ impl Row {
             Some(change) => change.desired,
             None => self.formatted,
         }
+    }
+}
+
+/// The row, or else one that says nothing of its key.
+pub fn known(row: Option<Row>) -> Row
+    ensures { result ≡ known row }
+{
+    match row {
+        Some(row) => row,
+        None => Row {
+            formatted: None,
+            forced: false,
+            change: None,
+        },
     }
 }

@@ -1,20 +1,21 @@
 //! The rows by key, and how many are of formatted and of forced keys.
-ghost use Rattle.std.specs.Prelude.{◌≡◌, ◌+◌, ◌<◌, ◌≤◌, ◌^◌, [], is_some, length, IsTrue, IsOk, IfOk, IfSome, IfNone, OnOk, OnErr, None, if◌then◌else◌};
-ghost use Rattle.std.specs.Map.{remove_entry, keys_of};
-ghost use Rattle.std.specs.BTreeMap.{insert_entry, is_at};
+ghost use Rattle.std.specs.Prelude.{◌≡◌, ◌+◌, ◌<◌, ◌^◌, [], is_some, length, IsTrue, IsOk, IfOk, OnOk, OnErr, true, false, if◌then◌else◌};
+ghost use Rattle.std.specs.Map.{keys_of};
+ghost use Rattle.std.specs.BTreeMap.{insert_entry};
 ghost use Rattle.ug_pending.specs.Tables.{value_at, with_value, IsTable};
 ghost use Rattle.ug_adjout.specs.Stored.{projected, formatted_of, mark_of, of_row};
-ghost use Rattle.ug_adjout.specs.Stepped.{stepped, row_or, lined, IsReady};
+ghost use Rattle.ug_adjout.specs.Stepped.{known, makes_row, stepped, lined, IsReady};
 ghost use Rattle.ug_adjout.specs.declared.step.Step.TheVariants.{Format};
 
 use crate::copied::copied;
 use crate::kept::Kept;
 use crate::line::Line;
 use crate::out_key::OutKey;
-use crate::row::Row;
+use crate::row::{Row, known};
 use crate::step::Step;
 use std::alloc::Global;
 use std::collections::BTreeMap;
+use std::collections::btree_map::Entry;
 use std::marker::Model;
 use ug_types::{KeyList, NoMemory, Sequence};
 
@@ -111,109 +112,133 @@ impl<K: Ord + Copy + Drop> Rows<K> {
         ensures err { OnErr result (self.new ≡ self.old) }
     {
         let _len = self.rows.len();
-        let old = self.rows.insert(key, Kept::of(row))?;
-        self.formatted = recounted(self.formatted, is_formatted(&old), row.formatted.is_some());
-        self.forced = recounted(self.forced, is_forced(&old), row.forced);
+        let old = told(self.rows.insert(key, Kept::of(row))?);
+        self.formatted = recounted(self.formatted, is_formatted(old), row.formatted.is_some());
+        self.forced = recounted(self.forced, is_forced(old), row.forced);
         Ok(())
-    }
-
-    /// The key has no row now.
-    pub fn remove(&mut self, key: &K)
-        ensures entries { self.new ≡ remove_entry (is_at (K.cmp key.now)) self.old }
-    {
-        let _len = self.rows.len();
-        let old = self.rows.remove(key);
-        self.formatted = recounted(self.formatted, is_formatted(&old), false);
-        self.forced = recounted(self.forced, is_forced(&old), false);
     }
 }
 
 impl<K: OutKey> Rows<K> {
-    /// The step is done with the key's row, which one search finds, and with the list. What the row was; where the key has
-    /// none, and after want of memory, nothing has changed.
-    pub fn step(&mut self, line: &mut Line<K>, key: &K, step: Step) -> Result<Option<Row>, NoMemory>
-        requires { IfSome (value_at K.cmp self.old key.now) (λ row. IsReady step key.now row line.old) }
-        ensures was { IfOk result (λ was. was ≡ value_at K.cmp self.old key.now) }
-        ensures rows { IfOk result (λ was. IfSome was (λ row. self.new ≡ with_value K.cmp self.old key.now (stepped step row))) }
-        ensures line { IfOk result (λ was. IfSome was (λ row. line.new ≡ lined step key.now row line.old)) }
-        ensures no_rows { IfOk result (λ was. IfNone was (self.new ≡ self.old)) }
-        ensures no_line { IfOk result (λ was. IfNone was (line.new ≡ line.old)) }
+    /// The step is done with the key's row and with the list. What the row was; None where the key had none. Want of memory
+    /// changes nothing, and comes only where the key is desired anew.
+    pub fn step(&mut self, line: &mut Line<K>, key: K, step: Step) -> Result<Option<Row>, NoMemory>
+        requires { IsReady step key (known (value_at K.cmp self.old key)) line.old }
+        ensures was { IfOk result (λ was. was ≡ value_at K.cmp self.old key) }
+        ensures rows { OnOk result (self.new ≡ with_value K.cmp self.old key (stepped step (known (value_at K.cmp self.old key)))) }
+        ensures line { OnOk result (line.new ≡ lined step key (known (value_at K.cmp self.old key)) line.old) }
         ensures err_rows { OnErr result (self.new ≡ self.old) }
         ensures err_line { OnErr result (line.new ≡ line.old) }
         ensures format { step ≡ Format → IsOk result }
     {
         let _len = self.rows.len();
-        let found = step_found(&mut self.rows, line, key, step)?;
-        let Some(was) = found else {
-            return Ok(None);
-        };
-        let Some(now) = step.row(was) else {
-            self.remove(key);
-            return Ok(Some(was));
-        };
-        self.formatted = recounted(
-            self.formatted,
-            was.formatted.is_some(),
-            now.formatted.is_some(),
-        );
-        self.forced = recounted(self.forced, was.forced, now.forced);
-        Ok(Some(was))
+        let was = step_row(&mut self.rows, line, key, step)?;
+        let now = step.row(known(was));
+        self.formatted = recounted(self.formatted, is_formatted(was), is_formatted(now));
+        self.forced = recounted(self.forced, is_forced(was), is_forced(now));
+        Ok(was)
     }
 }
 
-/// The step is done with the row where the key has one, and with the list. A row that is to go stays.
-fn step_found<K: OutKey>(
+/// The step is done with the key's row and with the list. What the row was. Want of memory changes nothing.
+fn step_row<K: OutKey>(
     rows: &mut BTreeMap<K, Kept>,
     line: &mut Line<K>,
-    key: &K,
+    key: K,
     step: Step,
 ) -> Result<Option<Row>, NoMemory>
-    requires { IfSome (value_at K.cmp rows.old.entries key.now) (λ row. IsReady step key.now row line.old) }
-    ensures was { IfOk result (λ was. was ≡ value_at K.cmp rows.old.entries key.now) }
-    ensures rows { IfOk result (λ was. IfSome was (λ row. rows.new.entries ≡ insert_entry K.cmp rows.old.entries key.now (row_or (stepped step row) row))) }
-    ensures line { IfOk result (λ was. IfSome was (λ row. line.new ≡ lined step key.now row line.old)) }
-    ensures no_rows { IfOk result (λ was. IfNone was (rows.new.entries ≡ rows.old.entries)) }
-    ensures no_line { IfOk result (λ was. IfNone was (line.new ≡ line.old)) }
+    requires { IsReady step key (known (value_at K.cmp rows.old.entries key)) line.old }
+    ensures was { IfOk result (λ was. was ≡ value_at K.cmp rows.old.entries key) }
+    ensures rows { OnOk result (rows.new.entries ≡ with_value K.cmp rows.old.entries key (stepped step (known (value_at K.cmp rows.old.entries key)))) }
+    ensures line { OnOk result (line.new ≡ lined step key (known (value_at K.cmp rows.old.entries key)) line.old) }
     ensures err_rows { OnErr result (rows.new.entries ≡ rows.old.entries) }
     ensures err_line { OnErr result (line.new ≡ line.old) }
     ensures format { step ≡ Format → IsOk result }
 {
-    let Some(kept) = rows.get_mut(key) else {
-        return Ok(None);
-    };
-    let row = step_kept(kept, line, *key, step)?;
-    Ok(Some(row))
+    if step.makes_row() {
+        return step_entry(rows, line, key, step);
+    }
+    step_found(rows, line, key, step)
 }
 
-/// The same where the row is at hand. What it was.
-fn step_kept<K: OutKey>(
-    kept: &mut Kept,
+/// The same of a step that makes a row where there is none: one search finds the row or its place.
+fn step_entry<K: OutKey>(
+    rows: &mut BTreeMap<K, Kept>,
     line: &mut Line<K>,
     key: K,
     step: Step,
-) -> Result<Row, NoMemory>
-    requires { IsReady step key kept.old line.old }
-    ensures was { IfOk result (λ row. row ≡ kept.old) }
-    ensures row { OnOk result (kept.new ≡ row_or (stepped step kept.old) kept.old) }
-    ensures line { OnOk result (line.new ≡ lined step key kept.old line.old) }
-    ensures err_row { OnErr result (kept.new ≡ kept.old) }
+) -> Result<Option<Row>, NoMemory>
+    requires ready { IsReady step key (known (value_at K.cmp rows.old.entries key)) line.old }
+    requires makes { makes_row step ≡ true }
+    ensures was { IfOk result (λ was. was ≡ value_at K.cmp rows.old.entries key) }
+    ensures rows { OnOk result (rows.new.entries ≡ with_value K.cmp rows.old.entries key (stepped step (known (value_at K.cmp rows.old.entries key)))) }
+    ensures line { OnOk result (line.new ≡ lined step key (known (value_at K.cmp rows.old.entries key)) line.old) }
+    ensures err_rows { OnErr result (rows.new.entries ≡ rows.old.entries) }
+    ensures err_line { OnErr result (line.new ≡ line.old) }
+{
+    match rows.entry(key)? {
+        Entry::Vacant(entry) => {
+            let row = known(None);
+            let Some(now) = step.row(row) else {
+                unreachable!()
+            };
+            let entry = entry.insert_entry(Kept::of(now));
+            match line.step(key, row, step) {
+                Ok(()) => Ok(None),
+                Err(e) => {
+                    entry.remove();
+                    Err(e)
+                }
+            }
+        }
+        Entry::Occupied(mut entry) => {
+            let kept = entry.get_mut();
+            let row = kept.row();
+            line.step(key, row, step)?;
+            match step.row(row) {
+                Some(now) => {
+                    *kept = Kept::of(now);
+                }
+                None => {
+                    entry.remove();
+                }
+            }
+            Ok(Some(row))
+        }
+    }
+}
+
+/// The same of a step that makes no row: a key without one takes no memory. One search finds the row, and a second one takes
+/// it away where it goes.
+fn step_found<K: OutKey>(
+    rows: &mut BTreeMap<K, Kept>,
+    line: &mut Line<K>,
+    key: K,
+    step: Step,
+) -> Result<Option<Row>, NoMemory>
+    requires ready { IsReady step key (known (value_at K.cmp rows.old.entries key)) line.old }
+    requires makes { makes_row step ≡ false }
+    ensures was { IfOk result (λ was. was ≡ value_at K.cmp rows.old.entries key) }
+    ensures rows { OnOk result (rows.new.entries ≡ with_value K.cmp rows.old.entries key (stepped step (known (value_at K.cmp rows.old.entries key)))) }
+    ensures line { OnOk result (line.new ≡ lined step key (known (value_at K.cmp rows.old.entries key)) line.old) }
+    ensures err_rows { OnErr result (rows.new.entries ≡ rows.old.entries) }
     ensures err_line { OnErr result (line.new ≡ line.old) }
     ensures format { step ≡ Format → IsOk result }
 {
+    let Some(kept) = rows.get_mut(&key) else {
+        return Ok(None);
+    };
     let row = kept.row();
     line.step(key, row, step)?;
-    *kept = Kept::of(row_or(step.row(row), row));
-    Ok(row)
-}
-
-/// This row, or else that one.
-fn row_or(now: Option<Row>, row: Row) -> Row
-    ensures { result ≡ row_or now row }
-{
-    match now {
-        Some(now) => now,
-        None => row,
+    match step.row(row) {
+        Some(now) => {
+            *kept = Kept::of(now);
+        }
+        None => {
+            rows.remove(&key);
+        }
     }
+    Ok(Some(row))
 }
 
 /// A count where what was counted, or wasn't, gives way to what is, or isn't.
@@ -228,22 +253,32 @@ fn recounted(count: usize, old: bool, new: bool) -> usize
     if new { count + 1 } else { count - 1 }
 }
 
-/// Whether there is a row of a formatted key.
-fn is_formatted(kept: &Option<Kept>) -> bool
-    ensures { result ≡ is_some (of_row formatted_of kept.now) }
+/// The row that is kept.
+fn told(kept: Option<Kept>) -> Option<Row>
+    ensures { result ≡ kept }
 {
     match kept {
-        Some(kept) => kept.row().formatted.is_some(),
+        Some(kept) => Some(kept.row()),
+        None => None,
+    }
+}
+
+/// Whether there is a row of a formatted key.
+fn is_formatted(row: Option<Row>) -> bool
+    ensures { result ≡ is_some (of_row formatted_of row) }
+{
+    match row {
+        Some(row) => row.formatted.is_some(),
         None => false,
     }
 }
 
 /// Whether there is a row of a forced key.
-fn is_forced(kept: &Option<Kept>) -> bool
-    ensures { result ≡ is_some (of_row mark_of kept.now) }
+fn is_forced(row: Option<Row>) -> bool
+    ensures { result ≡ is_some (of_row mark_of row) }
 {
-    match kept {
-        Some(kept) => kept.row().forced,
+    match row {
+        Some(row) => row.forced,
         None => false,
     }
 }

@@ -1,7 +1,7 @@
-//! What is done with a key that has a row.
+//! What is done with a key.
 ghost use Rattle.std.specs.Prelude.{◌≡◌};
 ghost use Rattle.ug_adjout.specs.Stored.{is_owed, with_change, quiet};
-ghost use Rattle.ug_adjout.specs.Stepped.{wanted_by, formatted_by, stepped};
+ghost use Rattle.ug_adjout.specs.Stepped.{makes_row, wanted_by, formatted_by, stepped};
 
 use crate::row::{Change, Row};
 use ug_intern::AttrId;
@@ -15,6 +15,16 @@ pub enum Step {
 }
 
 impl Step {
+    /// Whether a key without a row gets one.
+    pub fn makes_row(self) -> bool
+        ensures { result ≡ makes_row self }
+    {
+        match self {
+            Step::Want(want) => want.desired.is_some(),
+            Step::Format => false,
+        }
+    }
+
     /// What becomes of the row; None where the key has none any more.
     pub fn row(self, row: Row) -> Option<Row>
         ensures { result ≡ stepped self row }
@@ -39,7 +49,7 @@ fn wanted(row: Row, want: Change) -> Option<Row>
 {
     let Some(change) = row.change else {
         if row.formatted == want.desired {
-            return Some(row);
+            return quiet(row.formatted);
         }
         return Some(waiting(row, want.place, want.desired));
     };
@@ -55,7 +65,7 @@ fn formatted(row: Row) -> Option<Row>
 {
     match row.change {
         Some(change) => quiet(change.desired),
-        None => Some(row),
+        None => quiet(row.formatted),
     }
 }
 

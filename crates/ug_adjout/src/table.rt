@@ -1,5 +1,5 @@
 //! The rows and the list of waiting keys, kept together.
-ghost use Rattle.std.specs.Prelude.{◌≡◌, ◌+◌, ◌<◌, ◌^◌, nat_eq, true, false, ℕ, [], ◌∷◌, ◌++◌, length, OnOk, OnErr, IfOk, IfSome, IsSome, Some, None, option_copied, slice_get, IsTrue, ◌↔◌};
+ghost use Rattle.std.specs.Prelude.{◌≡◌, ◌+◌, ◌<◌, ◌^◌, nat_eq, is_some, true, false, ℕ, [], ◌∷◌, ◌++◌, length, OnOk, OnErr, IfOk, IfSome, IfNone, IsSome, Some, None, option_copied, slice_get, IsTrue, ◌↔◌};
 ghost use Rattle.std.specs.Map.{keys_of};
 ghost use Rattle.std.specs.List.{AllByRecursion};
 ghost use Rattle.std.specs.Ordering.{nat_cmp};
@@ -15,7 +15,7 @@ use crate::after::{first_desired, first_formatted};
 use crate::line::Line;
 use crate::marked::Marked;
 use crate::out_key::OutKey;
-use crate::row::{Change, Row};
+use crate::row::{Change, Row, known};
 use crate::rows::Rows;
 use crate::step::Step;
 use crate::waiting::Waiting;
@@ -197,7 +197,7 @@ impl<K: OutKey> Table<K> {
         self.want_numbered(key, desired)
     }
 
-    /// The same where there is a place for the key. A key with a row that doesn't begin to wait leaves its place empty.
+    /// The same where there is a place for the key. A key that doesn't begin to wait leaves its place empty.
     fn want_numbered(&mut self, key: K, desired: Option<AttrId>) -> Result<Option<AttrId>, NoMemory>
         requires { self.old.next + 1 < 2 ^ 32 }
         ensures was { IfOk result (λ was. was ≡ value_at K.cmp (adj_of self.old.rows self.old.waiting).desired key) }
@@ -206,53 +206,32 @@ impl<K: OutKey> Table<K> {
     {
         let place = self.next;
         let step = Step::Want(Change { place, desired });
-        let found = self.rows.step(&mut self.line, &key, step)?;
-        let Some(row) = found else {
-            self.want_first(key, desired)?;
-            return Ok(None);
-        };
+        let was = self.rows.step(&mut self.line, key, step)?;
         self.next = place + 1;
-        Ok(row.desired())
+        Ok(known(was).desired())
     }
 
-    /// The same of a key without a row.
-    fn want_first(&mut self, key: K, desired: Option<AttrId>) -> Result<(), NoMemory>
-        requires absent { value_at K.cmp self.old.rows key ≡ None }
-        requires numbered { self.old.next + 1 < 2 ^ 32 }
-        ensures ok { OnOk result (adj_of self.new.rows self.new.waiting ≡ with_desired K.cmp nat_eq (adj_of self.old.rows self.old.waiting) key desired) }
-        ensures err { OnErr result (self.new ≡ self.old) }
+    /// A key that waits is formatted as it is desired, and forced no more. None where it doesn't wait, and then nothing
+    /// changes.
+    pub fn mark(&mut self, key: K) -> Option<Marked>
+        ensures waits { is_some result ≡ has K.cmp (waiting_keys self.old.waiting) key }
+        ensures ok { IfSome result (λ _. adj_of self.new.rows self.new.waiting ≡ with_formatted K.cmp nat_eq (adj_of self.old.rows self.old.waiting) key) }
+        ensures was { IfSome result (λ marked. marked.was ≡ value_at K.cmp (adj_of self.old.rows self.old.waiting).formatted key) }
+        ensures now { IfSome result (λ marked. marked.now ≡ value_at K.cmp (adj_of self.old.rows self.old.waiting).desired key) }
+        ensures none { IfNone result (self.new ≡ self.old) }
     {
         let _next = self.next;
-        match desired {
-            None => Ok(()),
-            Some(_) => {
-                let row = Row {
-                    formatted: None,
-                    forced: false,
-                    change: None,
-                };
-                self.begin(key, row, desired)?;
-                Ok(())
-            }
-        }
-    }
-
-    /// The key is formatted as it is desired, and forced no more.
-    pub fn mark(&mut self, key: K) -> Marked
-        requires { has K.cmp (waiting_keys self.old.waiting) key ≡ true }
-        ensures ok { adj_of self.new.rows self.new.waiting ≡ with_formatted K.cmp nat_eq (adj_of self.old.rows self.old.waiting) key }
-        ensures was { result.was ≡ value_at K.cmp (adj_of self.old.rows self.old.waiting).formatted key }
-        ensures now { result.now ≡ value_at K.cmp (adj_of self.old.rows self.old.waiting).desired key }
-    {
-        let _next = self.next;
-        let Ok(found) = self.rows.step(&mut self.line, &key, Step::Format) else {
+        let Ok(was) = self.rows.step(&mut self.line, key, Step::Format) else {
             unreachable!()
         };
-        let Some(row) = found else { unreachable!() };
-        Marked {
+        let row = known(was);
+        let Some(change) = row.change else {
+            return None;
+        };
+        Some(Marked {
             was: row.formatted,
-            now: row.desired(),
-        }
+            now: change.desired,
+        })
     }
 
     /// All keys of both tables are forced. After want of memory some are.

@@ -37,9 +37,11 @@ fn what_returns_waits_no_more(rt: HostRuntime) -> Result<(), Fail> {
     let key = key_of(2);
     let mut adj = AdjOut::new(rt.alloc());
     adj.set(key, 6)?;
-    if adj.is_pending(&key) {
-        adj.mark_formatted(&key)?;
-    }
+    assert!(rt; adj.mark_if_pending(&key).is_some());
+    assert!(rt; adj.mark_if_pending(&key).is_none());
+    assert_eq!(rt; adj.formatted(&key), Some(6));
+    assert_eq!(rt; adj.clear(&key_of(1))?, None);
+    assert!(rt; adj.mark_if_pending(&key_of(1)).is_none());
     assert_eq!(rt; adj.clear(&key)?, Some(6));
     let keys = adj.first_withdrawals(100)?;
     assert_eq!(rt; keys.as_slice(), [key].as_slice());
