@@ -23,6 +23,3 @@ pub use desired::Desired;
 pub use marked::Marked;
 pub use out_key::OutKey;
 pub use v4_key::V4Key;
-
-#[cfg(test)]
-mod tests;

@@ -8,6 +8,3 @@ mod segments;
 
 pub use laws::edits_keep_segments;
 pub use segments::{drop_private, override_as, prepend};
-
-#[cfg(test)]
-mod tests;

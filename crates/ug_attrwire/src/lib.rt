@@ -20,6 +20,3 @@ pub use head::size_around;
 pub use multiprotocol::{Multiprotocol, Placed};
 pub use reading::{read_attrs, read_attrs6};
 pub use writing::{size_but_next_hop, size_of, write_attrs, write_but_next_hop};
-
-#[cfg(test)]
-mod tests;

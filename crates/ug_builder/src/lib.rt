@@ -12,8 +12,6 @@ mod lines;
 mod reading;
 mod stop;
 mod tally;
-#[cfg(test)]
-mod tests;
 mod turns;
 
 pub use beside::read_beside;

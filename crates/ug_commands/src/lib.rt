@@ -18,6 +18,3 @@ pub use grouping::{end_refused, groups};
 pub use listing::read_world;
 pub use status::Status;
 pub use stop::Stop;
-
-#[cfg(test)]
-mod tests;

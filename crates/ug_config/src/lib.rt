@@ -23,6 +23,3 @@ pub use rule::Rule;
 pub use setup::Setup;
 pub use ug_fields::ConfigRefusal;
 pub use world::read_config;
-
-#[cfg(test)]
-mod tests;

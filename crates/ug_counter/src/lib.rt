@@ -3,8 +3,6 @@
 
 mod counter;
 mod state;
-#[cfg(test)]
-mod tests;
 
 pub use counter::Counter;
 pub use state::{Amount, Count, CounterJob, CounterSaid, Side};

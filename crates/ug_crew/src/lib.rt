@@ -5,8 +5,6 @@
 mod crew;
 mod places;
 mod serve;
-#[cfg(test)]
-mod tests;
 mod worker;
 
 pub use crew::Crew;

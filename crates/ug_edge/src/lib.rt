@@ -6,8 +6,6 @@ mod counts;
 mod cuts;
 mod gated;
 mod host;
-#[cfg(test)]
-mod host_tests;
 mod lists;
 mod outside;
 mod places;
@@ -16,8 +14,6 @@ mod sessions;
 mod sink;
 mod site;
 mod spans;
-#[cfg(test)]
-mod tests;
 mod wire;
 
 pub use gated::{GatedSite, GatedWire};

@@ -17,6 +17,3 @@ mod words;
 pub use event::{Event, Given, GivenList, Line};
 pub use line::{read_line, read_routes_line};
 pub use refusal::LineRefusal;
-
-#[cfg(test)]
-mod tests;

@@ -5,6 +5,3 @@ mod pool;
 mod seat;
 
 pub use pool::{AttrId, Pool};
-
-#[cfg(test)]
-mod tests;

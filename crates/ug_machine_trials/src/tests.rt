@@ -9,6 +9,7 @@ mod saying;
 mod sharing;
 mod slowing;
 mod steps;
+mod subgroups;
 mod turn;
 
 use crate::SlowGroups;

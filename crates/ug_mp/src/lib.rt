@@ -7,8 +7,3 @@ mod writing;
 
 pub use reader::Reader6;
 pub use writing::{write_eor6, write_update6, write_withdraw6};
-
-#[cfg(test)]
-mod read_tests;
-#[cfg(test)]
-mod tests;

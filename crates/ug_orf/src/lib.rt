@@ -13,6 +13,3 @@ pub use apply::apply_orf;
 pub use message::{OrfEntry, OrfList, OrfMessage};
 pub use reading::read_orf;
 pub use refusal::OrfRefusal;
-
-#[cfg(test)]
-mod tests;

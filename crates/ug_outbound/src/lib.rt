@@ -21,6 +21,3 @@ pub use outgoing::outbound;
 pub use peer::{Peer, PeerTable};
 pub use policy::{NamedPolicy, Policies, Policy, PolicyTable};
 pub use settings::Local;
-
-#[cfg(test)]
-mod tests;

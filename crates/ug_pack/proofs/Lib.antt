@@ -4,4 +4,3 @@ pub mod Keys
 pub mod Hops
 pub mod Runs
 pub mod Stays
-pub mod Filling

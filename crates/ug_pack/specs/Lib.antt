@@ -1,4 +1,3 @@
 pub mod Rooms
 pub mod Ready
 pub mod Packets
-pub mod Filled

@@ -15,6 +15,3 @@ pub use laws::ready_laws;
 pub use next::build;
 pub use routes::Routes;
 pub use whole::{build_eor, build_mark};
-
-#[cfg(test)]
-mod tests;

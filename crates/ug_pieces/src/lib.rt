@@ -7,8 +7,6 @@ mod line_halt;
 mod lines;
 mod pieces;
 mod taker;
-#[cfg(test)]
-mod tests;
 mod whole;
 mod writing;
 

@@ -14,6 +14,3 @@ pub use list::PrefixList;
 pub use numbered::{Numbered, in_order, is_rising};
 pub use refusal::ListRefusal;
 pub use table::{ListTable, NamedList, find_named, is_permitted};
-
-#[cfg(test)]
-mod tests;

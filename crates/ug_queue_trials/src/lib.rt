@@ -1,6 +1,9 @@
-//! Trials of the queue: a plain, slow queue that looks at every member for each packet, to compare the queue with.
+//! Tests of the queue and of the chain that it is made of, and a plain, slow queue that looks at every member for each
+//! packet, to compare the queue with.
 #![tactic(auto)]
 
+#[cfg(test)]
+mod chain;
 mod slow;
 #[cfg(test)]
 mod tests;

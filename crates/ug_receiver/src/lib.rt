@@ -11,6 +11,3 @@ mod v6_key;
 
 pub use iter::RowIter;
 pub use table::Table;
-
-#[cfg(test)]
-mod tests;

@@ -4,6 +4,3 @@
 mod message;
 
 pub use message::{RefreshRefusal, kind_refusal, length_field, read_refresh, reserved_field};
-
-#[cfg(test)]
-mod tests;

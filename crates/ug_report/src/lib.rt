@@ -6,6 +6,3 @@ mod lines;
 
 pub use endings::{Loss, write_counts, write_losses, write_lost_status};
 pub use lines::{write_marks, write_refusal};
-
-#[cfg(test)]
-mod tests;

@@ -6,6 +6,3 @@ mod packet;
 
 pub use hops::next_hop;
 pub use packet::{Packet, patch};
-
-#[cfg(test)]
-mod tests;

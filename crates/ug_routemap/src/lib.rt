@@ -17,6 +17,3 @@ pub use map::RouteMap;
 pub use mapped::Mapped;
 pub use refusal::MapRefusal;
 pub use table::{MapTable, NamedMap};
-
-#[cfg(test)]
-mod tests;

@@ -6,6 +6,3 @@ mod writer;
 
 pub use row::write_row;
 pub use writer::RowWriter;
-
-#[cfg(test)]
-mod tests;

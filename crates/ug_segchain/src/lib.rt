@@ -7,6 +7,3 @@ mod row;
 mod segment;
 
 pub use chain::SegChain;
-
-#[cfg(test)]
-mod tests;

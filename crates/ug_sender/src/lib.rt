@@ -5,8 +5,6 @@ mod asking;
 mod lane;
 mod pumped;
 mod sending;
-#[cfg(test)]
-mod tests;
 
 pub use lane::{Buffer, Lane, Returned};
 pub use pumped::Pumped;

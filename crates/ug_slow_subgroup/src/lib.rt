@@ -23,6 +23,3 @@ pub use saying::Saying;
 pub use says::Says;
 pub use shared::SharedAttrs;
 pub use subgroup::Subgroup;
-
-#[cfg(test)]
-mod tests;

@@ -7,6 +7,3 @@ mod one;
 
 pub use laws::{configurations_open, lines_are_sound, one_opens};
 pub use one::one_world;
-
-#[cfg(test)]
-mod tests;

@@ -1,11 +1,17 @@
-//! The Adj-RIB-Out beside a plain, slow one that works by lists and scans.
+//! Tests of the stores: of the pool, of packets, and of the Adj-RIB-Out, which also runs beside a plain, slow one that works
+//! by lists and scans.
 #![tactic(auto)]
 
+#[cfg(test)]
+mod adj_out;
+#[cfg(test)]
+mod packets;
+#[cfg(test)]
+mod pool;
 mod rows;
 mod slow;
+#[cfg(test)]
+mod tests;
 mod waits;
 
 pub use slow::SlowOut;
-
-#[cfg(test)]
-mod tests;

@@ -17,8 +17,3 @@ pub use cutting::{cut_at, next_piece};
 pub use list_reader::{Spelled, read_numbers, read_origin, read_path};
 pub use lists::{write_clusters, write_communities, write_numbers, write_path};
 pub use number_reader::{read_community, read_number, read_positive};
-
-#[cfg(test)]
-mod reader_tests;
-#[cfg(test)]
-mod tests;

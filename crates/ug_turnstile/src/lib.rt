@@ -12,6 +12,3 @@ pub use logged::Logged;
 pub use pass::{Pass, PassList, PassOf};
 pub use turn::Turn;
 pub use turnstile::Turnstile;
-
-#[cfg(test)]
-mod tests;

@@ -37,6 +37,3 @@ pub use route::{Learned, NhKind, OutAttrs, Path, PeerEnds, PeerId, PeerList};
 pub use sequence::{ByteList, NumberList, Sequence};
 pub use steps::Steps;
 pub use traits::{Twin, Weighed};
-
-#[cfg(test)]
-mod tests;

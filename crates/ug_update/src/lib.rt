@@ -19,8 +19,3 @@ pub use writing::{
     routes_size, start, write_eor, write_mark, write_routes, write_size, write_update,
     write_withdraw,
 };
-
-#[cfg(test)]
-mod read_tests;
-#[cfg(test)]
-mod tests;

@@ -4,8 +4,6 @@
 mod beginning;
 mod closing;
 mod lanes;
-#[cfg(test)]
-mod tests;
 mod wires;
 
 pub use beginning::{Begun, begin};

@@ -6,6 +6,3 @@ mod so_far;
 mod verb;
 
 pub use command::{CheckWords, Command, GroupsWords, OneWords, RunWords, read_command};
-
-#[cfg(test)]
-mod tests;

@@ -38,6 +38,11 @@ fn take_all(alloc: Global, world: &mut World, lines: &str) -> Result<(), Fail> {
     Ok(())
 }
 
+fn id_of(alloc: Global, world: &World, peer: &str) -> Result<PeerId, Fail> {
+    let name = Name::read(alloc, peer.as_bytes())?.ok_or("no name")?;
+    Ok(world.peer_named(&name).ok_or("no peer")?)
+}
+
 /// The rows of a peer's private table, in the order of the prefixes and of their paths.
 fn rows_of<L: Ledger>(
     alloc: Global,
@@ -45,26 +50,36 @@ fn rows_of<L: Ledger>(
     peer: &str,
     steps: &mut Steps<L>,
 ) -> Result<String, Fail> {
-    let name = Name::read(alloc, peer.as_bytes())?.ok_or("no name")?;
-    let id = world.peer_named(&name).ok_or("no peer")?;
+    let id = id_of(alloc, world, peer)?;
     let mut text = String::new(alloc);
+    add_rows(alloc, &mut text, world, id, steps)?;
+    Ok(text)
+}
+
+fn add_rows<L: Ledger>(
+    alloc: Global,
+    text: &mut String,
+    world: &World,
+    id: PeerId,
+    steps: &mut Steps<L>,
+) -> Result<(), Fail> {
     let mut last: Option<Prefix> = None;
     for _ in 0..100 {
         let Some(prefix) = world.prefix_after(last.as_ref()) else {
-            return Ok(text);
+            return Ok(());
         };
         let prefix = *prefix;
-        add_row(alloc, &mut text, world, id, Key { prefix, id: 0 }, steps)?;
+        add_row(alloc, text, world, id, Key { prefix, id: 0 }, steps)?;
         for path in world.paths(&prefix) {
             let key = Key {
                 prefix,
                 id: path.id,
             };
-            add_row(alloc, &mut text, world, id, key, steps)?;
+            add_row(alloc, text, world, id, key, steps)?;
         }
         last = Some(prefix);
     }
-    Ok(text)
+    Ok(())
 }
 
 /// Adds the row of a key, where the peer should have one.

@@ -68,9 +68,8 @@ fn address(family: Family, text: &str) -> Result<Addr, Fail> {
     Ok(read_address(family, text.as_bytes()).ok_or("no address")?)
 }
 
-/// The peer with one option more.
-fn with_option(peer: Peer, option: &str) -> Peer {
-    let mut peer = peer;
+/// Gives the peer one option more.
+fn put_option(peer: &mut Peer, option: &str) {
     match option {
         "client" => peer.client = true,
         "self" => peer.next_hop_self = true,
@@ -81,18 +80,21 @@ fn with_option(peer: Peer, option: &str) -> Peer {
         "orf" => peer.orf = true,
         _ => {}
     }
-    peer
 }
 
 fn peer_of(alloc: Global, words: &Words<'_>) -> Result<Peer, Fail> {
+    let router_id = address(Family::V4, words.router_id)?;
+    let address_of_peer = address(words.family, words.address)?;
+    let local_address = address(words.family, words.local_address)?;
+    let subnet = read_prefix(words.subnet.as_bytes()).ok_or("no subnet")?;
     let mut peer = Peer {
         name: name(alloc, words.name)?,
         asn: words.asn,
-        router_id: address(Family::V4, words.router_id)?,
+        router_id,
         family: words.family,
-        address: address(words.family, words.address)?,
-        local_address: address(words.family, words.local_address)?,
-        subnet: read_prefix(words.subnet.as_bytes()).ok_or("no subnet")?,
+        address: address_of_peer,
+        local_address,
+        subnet,
         policy: None,
         client: false,
         next_hop_self: false,
@@ -105,7 +107,7 @@ fn peer_of(alloc: Global, words: &Words<'_>) -> Result<Peer, Fail> {
         orf: false,
     };
     for option in words.options.split_whitespace() {
-        peer = with_option(peer, option);
+        put_option(&mut peer, option);
     }
     Ok(peer)
 }
@@ -135,9 +137,9 @@ fn numbers_of(alloc: Global, numbers: &[u32]) -> Result<Option<NumberList>, NoMe
     Ok(Some(Sequence::from_vec(Vec::from_slice(alloc, numbers)?)))
 }
 
-/// An entry that is always met and does what its name says.
-fn entry_of(alloc: Global, text: &str) -> Result<MapEntry, NoMemory> {
-    let mut entry = MapEntry {
+/// An entry that is always met.
+fn plain_entry() -> MapEntry {
+    MapEntry {
         seq: 1,
         permit: true,
         on_match: OnMatch::End,
@@ -153,7 +155,11 @@ fn entry_of(alloc: Global, text: &str) -> Result<MapEntry, NoMemory> {
         set_prepend: None,
         set_communities: None,
         add_communities: None,
-    };
+    }
+}
+
+/// Lets the entry do what its name says.
+fn put_set(alloc: Global, entry: &mut MapEntry, text: &str) -> Result<(), NoMemory> {
     match text {
         "med" => entry.set_med = Some(9),
         "pref" => entry.set_local_pref = Some(8),
@@ -162,6 +168,12 @@ fn entry_of(alloc: Global, text: &str) -> Result<MapEntry, NoMemory> {
         "add" => entry.add_communities = numbers_of(alloc, &[0xFFFF_FF02])?,
         _ => entry.permit = false,
     }
+    Ok(())
+}
+
+fn entry_of(alloc: Global, text: &str) -> Result<MapEntry, NoMemory> {
+    let mut entry = plain_entry();
+    put_set(alloc, &mut entry, text)?;
     Ok(entry)
 }
 
@@ -192,20 +204,21 @@ fn maps(alloc: Global) -> Result<MapTable, Fail> {
     Ok(Sequence::from_vec(maps))
 }
 
+fn name_if(alloc: Global, text: Option<&str>) -> Result<Option<Name>, Fail> {
+    match text {
+        Some(text) => Ok(Some(name(alloc, text)?)),
+        None => Ok(None),
+    }
+}
+
 fn policy_of(
     alloc: Global,
     text: &str,
     list: Option<&str>,
     map: Option<&str>,
 ) -> Result<NamedPolicy, Fail> {
-    let list = match list {
-        Some(text) => Some(name(alloc, text)?),
-        None => None,
-    };
-    let map = match map {
-        Some(text) => Some(name(alloc, text)?),
-        None => None,
-    };
+    let list = name_if(alloc, list)?;
+    let map = name_if(alloc, map)?;
     let name = name(alloc, text)?;
     Ok(NamedPolicy {
         name,
@@ -226,22 +239,35 @@ fn policies(alloc: Global) -> Result<PolicyTable, Fail> {
     Ok(Sequence::from_vec(policies))
 }
 
-/// The world of AS 65001, router 192.0.2.254, with these peers, before any event.
+/// AS 65001, router 192.0.2.254.
+fn local() -> Local {
+    Local {
+        asn: 65001,
+        router_id: Addr::v4(0xC000_02FE),
+        cluster_id: Addr::v4(0xC000_02FE),
+        queue_limit: 40,
+        coalesce: 1,
+        slow_after: 16,
+    }
+}
+
+fn parts_of(alloc: Global, peers: &[Words<'_>]) -> Result<WorldParts, Fail> {
+    let lists = lists(alloc)?;
+    let maps = maps(alloc)?;
+    let policies = policies(alloc)?;
+    let peers = peers_of(alloc, peers)?;
+    Ok(WorldParts {
+        local: local(),
+        lists,
+        maps,
+        policies,
+        peers,
+    })
+}
+
+/// The world of that speaker, with these peers, before any event.
 pub fn world_of(alloc: Global, peers: &[Words<'_>]) -> Result<World, Fail> {
-    let parts = WorldParts {
-        local: Local {
-            asn: 65001,
-            router_id: Addr::v4(0xC000_02FE),
-            cluster_id: Addr::v4(0xC000_02FE),
-            queue_limit: 40,
-            coalesce: 1,
-            slow_after: 16,
-        },
-        lists: lists(alloc)?,
-        maps: maps(alloc)?,
-        policies: policies(alloc)?,
-        peers: peers_of(alloc, peers)?,
-    };
+    let parts = parts_of(alloc, peers)?;
     if !parts.is_good() {
         return Err("no world")?;
     }

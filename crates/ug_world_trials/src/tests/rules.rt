@@ -10,6 +10,7 @@ use std::process::Abort;
 use std::sync::ledger::{Blank, Ledger};
 use std::test::Fail;
 use ug_types::{Family, Steps};
+use ug_world::World;
 
 /// Towards which family: the receiver's ends, and the route that each case is about, as an event line and as a row
 /// spell them.
@@ -92,13 +93,34 @@ fn row_in<L: Ledger>(
         internal("c9", "10.0.0.2", "client"),
     ];
     let mut world = world_of(alloc, &peers)?;
+    take_case(alloc, &mut world, side, policy, path)?;
+    rows_of(alloc, &world, "p1", steps)
+}
+
+/// The receiver's session begins, the lists get entries, and the receiver its policy and the path.
+fn take_case(
+    alloc: Global,
+    world: &mut World,
+    side: &Side,
+    policy: &str,
+    path: &str,
+) -> Result<(), Fail> {
     let prefix = side.prefix;
     let raw = side.raw;
     let lines = format!(in alloc;
         "up p1\nlist ten 5:permit:0.0.0.0/0:le=10\nlist few 5:permit:0.0.0.0/0:le=7\npolicy p1 {policy}\npaths {prefix} id=1 nh={raw} origin=igp {path}"
     )?;
-    take_all(alloc, &mut world, lines.as_str())?;
-    rows_of(alloc, &world, "p1", steps)
+    take_all(alloc, world, lines.as_str())
+}
+
+fn is_right<L: Ledger>(
+    alloc: Global,
+    side: &Side,
+    case: &Case,
+    steps: &mut Steps<L>,
+) -> Result<bool, Fail> {
+    let row = row_in(alloc, side, case, steps)?;
+    Ok(row.as_str() == row_of(alloc, side, case.4)?.as_str())
 }
 
 /// How many of the cases come out as they should before the first that doesn't.
@@ -114,8 +136,7 @@ fn right_of<L: Ledger>(
 {
     let mut steps = Steps::<L>::new(blank);
     for (i, case) in cases.iter().enumerate() {
-        let row = row_in(alloc, side, case, &mut steps)?;
-        if row.as_str() != row_of(alloc, side, case.4)?.as_str() {
+        if !is_right(alloc, side, case, &mut steps)? {
             return Ok(i);
         }
     }
