@@ -4,13 +4,12 @@ ghost use Rattle.std.specs.Prelude.{◌≡◌, true, ◌≤◌, ◌||◌, IsTrue
 ghost use Rattle.ug_types.specs.declared.family.Family.TheVariants.{V6};
 ghost use Rattle.ug_message.specs.Spellable.{is_ipv4, has_ipv4_addresses, are_of_family};
 ghost use Rattle.ug_message.specs.Lengths.{HasShortValues};
-ghost use Rattle.ug_update.specs.Updates.{have_identifiers, lack_identifiers, weight_of_all};
+ghost use Rattle.ug_update.specs.Updates.{weight_of_all};
 
-use super::updates_written::bytes_of;
+use super::updates_written::{are_alike, attrs, bytes_of, is_ipv4};
 use std::alloc::Global;
 use std::test::Fail;
 use ug_attrwire::size_but_next_hop;
-use ug_message::values_are_short;
 use ug_mp::{write_eor6, write_update6, write_withdraw6};
 use ug_types::{
     Addr, Aggregator, AttrParts, Attrs, Family, Key, NoMemory, Prefix, Segment, Sequence, Written,
@@ -46,44 +45,10 @@ pub fn plain(alloc: Global) -> Result<AttrParts, NoMemory> {
     Ok(AttrParts::plain(alloc, 0, path, next_hop))
 }
 
-fn attrs(parts: AttrParts) -> Result<Attrs, Fail>
-    ensures { IfOk result (λ a. HasShortValues a) }
-{
-    values_are_short();
-    match Attrs::new(parts) {
-        Ok(attrs) => Ok(attrs),
-        Err(_) => Err("refused")?,
-    }
-}
-
-fn have_identifiers(keys: &[Key]) -> bool
-    ensures { result ≡ have_identifiers keys.now }
-{
-    keys.iter().all(|key| key.id != 0)
-}
-
-fn lack_identifiers(keys: &[Key]) -> bool
-    ensures { result ≡ lack_identifiers keys.now }
-{
-    keys.iter().all(|key| key.id == 0)
-}
-
-fn are_alike(keys: &[Key]) -> bool
-    ensures { result ≡ (have_identifiers keys.now || lack_identifiers keys.now) }
-{
-    have_identifiers(keys) || lack_identifiers(keys)
-}
-
 fn are_ipv6(keys: &[Key]) -> bool
     ensures { result ≡ are_of_family V6 keys.now }
 {
     keys.iter().all(|key| key.prefix.family == Family::V6)
-}
-
-fn is_ipv4(addr: &Addr) -> bool
-    ensures { result ≡ is_ipv4 addr.now }
-{
-    addr.family == Family::V4
 }
 
 fn is_ipv6(addr: &Addr) -> bool

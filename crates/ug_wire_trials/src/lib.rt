@@ -8,6 +8,8 @@ mod ipv6_read;
 #[cfg(test)]
 mod ipv6_written;
 #[cfg(test)]
+mod outcome;
+#[cfg(test)]
 mod receiver;
 #[cfg(test)]
 mod updates_read;

@@ -2,6 +2,7 @@
 
 ghost use Rattle.std.specs.Prelude.{◌≡◌, ◌+◌, ◌<◌, ◌≤◌, length, OnOk};
 
+use super::outcome::{Case, Expected, Fault, Outcome, found, same_items, same_outcome};
 use super::updates_written::bytes_of;
 use std::alloc::Global;
 use std::test::Fail;
@@ -10,15 +11,6 @@ use ug_types::{
     SegmentList, Sequence, Update,
 };
 use ug_update::{Reader, read_all};
-
-/// What reading a stream gave: the messages, how many of them are End-of-RIB, the bytes that are left, and the fault.
-#[derive(Drop)]
-struct Outcome {
-    items: Vec<Item>,
-    eors: usize,
-    rest: usize,
-    bad: Option<(u8, u64)>,
-}
 
 /// Takes all messages that have come.
 fn drain(reader: &mut Reader, outcome: &mut Outcome) -> Result<(), NoMemory>
@@ -54,12 +46,7 @@ fn run(
     requires { 0 < size }
 {
     let mut reader = Reader::new(alloc, add_path, extended);
-    let mut outcome = Outcome {
-        items: Vec::new(alloc),
-        eors: 0,
-        rest: 0,
-        bad: None,
-    };
+    let mut outcome = Outcome::new(alloc);
     let mut at = 0;
     while at < stream.len() {
         let count = size.min(stream.len() - at);
@@ -68,48 +55,6 @@ fn run(
         at += count;
     }
     Ok(outcome)
-}
-
-fn same_update(one: &Update, other: &Update) -> bool {
-    one.withdrawn == other.withdrawn && one.attrs == other.attrs && one.announced == other.announced
-}
-
-fn same_item(one: &Item, other: &Item) -> bool {
-    match (one, other) {
-        (Item::Update(one), Item::Update(other)) => same_update(one, other),
-        (Item::Begin, Item::Begin) => true,
-        (Item::End, Item::End) => true,
-        (Item::Ignored, Item::Ignored) => true,
-        _ => false,
-    }
-}
-
-fn same_items(some: &[Item], others: &[Item]) -> bool {
-    some.len() == others.len()
-        && some
-            .iter()
-            .zip(others.iter())
-            .all(|(one, other)| same_item(one, other))
-}
-
-fn same_outcome(one: &Outcome, other: &Outcome) -> bool {
-    same_items(one.items.as_slice(), other.items.as_slice())
-        && one.eors == other.eors
-        && one.bad == other.bad
-}
-
-/// What `run` should give: messages, End-of-RIBs, bytes left, and the fault.
-type Expected = (usize, usize, usize, Option<(u8, u64)>);
-
-/// The row of a stream: its text, and what reading it gives.
-type Case<'a> = (&'a str, Expected);
-
-/// The row of a stream in which a fault comes first: its text, the cause, the offset, and how many bytes are left.
-type Fault<'a> = (&'a str, u8, u64, usize);
-
-fn found(outcome: &Outcome) -> Expected {
-    let count = outcome.items.len();
-    (count, outcome.eors, outcome.rest, outcome.bad)
 }
 
 /// Whether a stream in pieces of that many bytes gives the same.

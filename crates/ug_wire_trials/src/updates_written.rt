@@ -77,7 +77,7 @@ fn add(path: &mut SegmentList, segment: Segment) -> Result<(), NoMemory> {
     }
 }
 
-fn attrs(parts: AttrParts) -> Result<Attrs, Fail>
+pub fn attrs(parts: AttrParts) -> Result<Attrs, Fail>
     ensures { IfOk result (λ a. HasShortValues a) }
 {
     values_are_short();
@@ -99,7 +99,7 @@ fn lack_identifiers(keys: &[Key]) -> bool
     keys.iter().all(|key| key.id == 0)
 }
 
-fn are_alike(keys: &[Key]) -> bool
+pub fn are_alike(keys: &[Key]) -> bool
     ensures { result ≡ (have_identifiers keys.now || lack_identifiers keys.now) }
 {
     have_identifiers(keys) || lack_identifiers(keys)
@@ -111,7 +111,7 @@ fn are_ipv4(keys: &[Key]) -> bool
     keys.iter().all(|key| key.prefix.family == Family::V4)
 }
 
-fn is_ipv4(addr: &Addr) -> bool
+pub fn is_ipv4(addr: &Addr) -> bool
     ensures { result ≡ is_ipv4 addr.now }
 {
     addr.family == Family::V4
