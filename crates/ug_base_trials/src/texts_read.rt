@@ -1,3 +1,5 @@
+//! Texts of addresses, prefixes and attributes read (`ug_text`).
+
 use std::alloc::Global;
 use std::test::Fail;
 use ug_text::{

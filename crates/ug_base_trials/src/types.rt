@@ -1,3 +1,5 @@
+//! Values made, refused, copied and compared (`ug_types`).
+
 use std::alloc::Global;
 use std::process::Abort;
 use std::test::Fail;

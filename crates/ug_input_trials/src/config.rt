@@ -1,3 +1,5 @@
+//! Configurations that are read or refused (`ug_config`).
+
 use std::alloc::Global;
 use std::process::Abort;
 use std::test::Fail;

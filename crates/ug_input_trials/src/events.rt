@@ -1,3 +1,5 @@
+//! Lines of events that are read or refused (`ug_events`).
+
 use std::alloc::Global;
 use std::process::Abort;
 use std::test::Fail;

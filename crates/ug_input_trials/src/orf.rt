@@ -1,3 +1,5 @@
+//! Messages with lists of a peer's own, and what they change (`ug_orf`).
+
 ghost use Rattle.std.specs.Prelude.{◌≡◌, true};
 ghost use Rattle.ug_prefixlist.specs.Lists.{is_good};
 

@@ -1,3 +1,5 @@
+//! Requests for all routes (`ug_refresh`).
+
 use std::test::Fail;
 use ug_refresh::{RefreshRefusal, read_refresh};
 

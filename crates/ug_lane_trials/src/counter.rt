@@ -1,3 +1,5 @@
+//! Histories of a small machine (`ug_counter`, `ug_board`).
+
 ghost use Rattle.std.specs.Prelude.{◌≡◌, ◌<◌, ◌≤◌, length, IfOk};
 ghost use Rattle.std.specs.Vec.{vec_len};
 ghost use Rattle.ug_board.specs.Rules.{buffer_size};

@@ -1,3 +1,5 @@
+//! Lanes of a crew that work here (`ug_crew`).
+
 ghost use Rattle.std.specs.Prelude.{◌≡◌, ◌<◌, [], false};
 ghost use Rattle.ug_edge.specs.Told.{IsFresh};
 ghost use Rattle.ug_turnstile.specs.Passes.{Adds, IsSamePass, mine};

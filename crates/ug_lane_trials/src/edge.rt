@@ -1,3 +1,5 @@
+//! The outside in memory: what is taken, and which calls fail (`ug_edge`).
+
 use std::alloc::Global;
 use std::process::Abort;
 use std::test::Fail;

@@ -1,3 +1,5 @@
+//! Lanes over wires that are full, cut, or in a thread of their own (`ug_sender`).
+
 ghost use Rattle.std.specs.Prelude.{◌≡◌, ◌<◌, ◌∷◌, [], false, IfSome, IfOk};
 ghost use Rattle.ug_edge.specs.Told.{IsFresh};
 ghost use Rattle.ug_turnstile.specs.Passes.{Adds, IsSamePass, IsBack};

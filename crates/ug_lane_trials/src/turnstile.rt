@@ -1,3 +1,5 @@
+//! Threads that take turns (`ug_turnstile`).
+
 ghost use Rattle.std.specs.Prelude.{◌≡◌, ◌++◌, false, [], ◌∷◌, IfOk, MatchBool};
 ghost use denote.Param.Send.{IsSync};
 ghost use Rattle.ug_turnstile.specs.Passes.{IsSamePass, IsBack};

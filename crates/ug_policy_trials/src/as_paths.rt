@@ -1,3 +1,5 @@
+//! Paths edited on their way out (`ug_aspath`).
+
 use std::alloc::Global;
 use std::test::Fail;
 use ug_aspath::{drop_private, override_as, prepend};

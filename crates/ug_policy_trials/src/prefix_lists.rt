@@ -1,3 +1,5 @@
+//! Prefix lists: what they permit, and which are refused (`ug_prefixlist`).
+
 use std::alloc::Global;
 use std::test::Fail;
 use ug_prefixlist::{

@@ -1,3 +1,5 @@
+//! Route maps: what they make of a route, and which are refused (`ug_routemap`).
+
 use std::alloc::Global;
 use std::test::Fail;
 use ug_prefixlist::{ListEntry, ListTable, NamedList, PrefixList, find_named};

@@ -1,3 +1,5 @@
+//! The Adj-RIB-Out, call by call (`ug_adjout`).
+
 use std::process::Abort;
 use std::test::Fail;
 use ug_adjout::{AdjOut, Desired, Marked};

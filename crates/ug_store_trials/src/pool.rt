@@ -1,3 +1,5 @@
+//! Values that are shared (`ug_intern`).
+
 use std::test::Fail;
 use ug_intern::Pool;
 
