@@ -12,7 +12,7 @@ cp bench/lines/main.rt.txt "$work/copy/crates/lines/src/main.rt"
 for kept in crates/*/out; do
     [ ! -d "$kept" ] || cp -r "$kept" "$work/copy/$kept"
 done
-echo "lines: ug_world_trials ug_world ug_outbound ug_types" >> "$work/copy/crates.txt"
+echo "lines: ug_slow_world ug_world ug_outbound ug_types" >> "$work/copy/crates.txt"
 (cd "$work/copy/crates/lines" && rt run) > "$work/log" 2>&1 || { tail -n 20 "$work/log"; exit 1; }
 program=$work/copy/crates/lines/out/lines
 

@@ -4,8 +4,10 @@
 
 #[cfg(test)]
 mod chain;
+#[cfg(test)]
 mod slow;
 #[cfg(test)]
 mod tests;
 
+#[cfg(test)]
 pub use slow::SlowQueue;

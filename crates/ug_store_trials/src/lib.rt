@@ -8,10 +8,14 @@ mod adj_out;
 mod packets;
 #[cfg(test)]
 mod pool;
+#[cfg(test)]
 mod rows;
+#[cfg(test)]
 mod slow;
 #[cfg(test)]
 mod tests;
+#[cfg(test)]
 mod waits;
 
+#[cfg(test)]
 pub use slow::SlowOut;

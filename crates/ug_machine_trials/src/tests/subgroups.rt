@@ -12,10 +12,10 @@ use std::process::Abort;
 use std::test::Fail;
 use ug_outbound::{GroupKey, key_of};
 use ug_slow_subgroup::{Packet, Says, Subgroup};
+use ug_slow_world::{Answer, take_line};
 use ug_text::write_prefix;
 use ug_types::{Item, Key, NoMemory, PeerEnds, Update};
 use ug_world::World;
-use ug_world_trials::{Answer, take_line};
 
 /// Takes an event, which is accepted.
 fn take(alloc: Global, world: &mut World, line: &str) -> Result<(), Fail> {

@@ -2,6 +2,7 @@
 
 use super::*;
 use ug_events::{Line, LineRefusal, read_line};
+use ug_slow_world::read_slowly;
 
 /// What a reader says of a line, as text.
 fn told(alloc: Global, read: Result<Line, LineRefusal>) -> Result<String, Fail> {
