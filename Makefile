@@ -1,6 +1,6 @@
 # The commands of the repository. Each but `test` needs the toolchain alone, and that Python 3 beside it.
 
-.PHONY: build demo test bench clean
+.PHONY: build demo test wrong-bodies bench clean
 
 # Proves what the program stands on, runs it once, and leaves it at out/ug_main.
 build:
@@ -27,6 +27,10 @@ endif
 # Proves and tests everything.
 test:
 	.ci/run
+
+# Tries all wrong bodies, also those that the gate passes over, or those of the crates in CRATES. It takes hours.
+wrong-bodies:
+	tests/wrong-bodies.sh $(CRATES)
 
 # Measures the program, proved.
 bench: build
