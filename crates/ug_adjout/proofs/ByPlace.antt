@@ -12,8 +12,8 @@ use Rattle.std.specs.declared.cmp.Ordering.{Ordering}
 use Rattle.std.specs.declared.cmp.Ordering.TheVariants.{Less, Equal, Greater}
 use Rattle.std.proofs.lemmas.Bool.{cond-true, cond-false}
 use Rattle.std.proofs.lemmas.Map.Keys.{sorted_head, sorted_tail}
-use Rattle.ug_pending.specs.Tables.{value_at, IsTable}
-use Rattle.ug_pending.specs.TableLaws.{at_itself, one_key, none_above, below_all, value_at-here, value_at-other, with_value-sorted}
+use Rattle.ug_adjout_rules.specs.Tables.{value_at, IsTable}
+use Rattle.ug_adjout_rules.specs.TableLaws.{at_itself, one_key, none_above, below_all, value_at-here, value_at-other, with_value-sorted}
 use Rattle.ug_adjout.specs.declared.slot.Slot.{Slot}
 use Rattle.ug_adjout.specs.declared.waiting.Waiting.{Waiting}
 use Rattle.ug_adjout.specs.Places.{slot_cmp, key_for, by_place, IsIndexed}

@@ -17,8 +17,8 @@ use Rattle.std.specs.declared.cmp.Ordering.TheVariants.{Less, Equal, Greater}
 use Rattle.std.proofs.lemmas.Bool.{cond-true, cond-false, false_from_ne_true}
 use Rattle.std.proofs.lemmas.Bool.Decides.{nat_tests}
 use Rattle.std.proofs.lemmas.Cmp.{tied_itself}
-use Rattle.ug_pending.specs.Tables.{value_at, IsTable}
-use Rattle.ug_pending.specs.Formatting.{fitting}
+use Rattle.ug_adjout_rules.specs.Tables.{value_at, IsTable}
+use Rattle.ug_adjout_rules.specs.Formatting.{fitting}
 use Rattle.ug_adjout.specs.declared.slot.Slot.{Slot}
 use Rattle.ug_adjout.specs.declared.waiting.Waiting.{Waiting}
 use Rattle.ug_adjout.specs.Waits.{waiting_keys, keys_for}

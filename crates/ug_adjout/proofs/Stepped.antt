@@ -14,9 +14,9 @@ use Rattle.std.specs.declared.cmp.Ordering.{Ordering}
 use Rattle.std.specs.declared.cmp.Ordering.TheVariants.{Less, Equal, Greater}
 use Rattle.std.proofs.lemmas.Bool.{cond-true, cond-false}
 use Rattle.std.proofs.lemmas.Map.Keys.{sorted_head, sorted_tail}
-use Rattle.ug_pending.specs.Tables.{value_at, with_value, IsTable}
-use Rattle.ug_pending.specs.TableLaws.{below_all, none_above, with_value-same}
-use Rattle.ug_pending.specs.Pending.{with_desired, with_formatted}
+use Rattle.ug_adjout_rules.specs.Tables.{value_at, with_value, IsTable}
+use Rattle.ug_adjout_rules.specs.TableLaws.{below_all, none_above, with_value-same}
+use Rattle.ug_adjout_rules.specs.Pending.{with_desired, with_formatted}
 use Rattle.ug_adjout.specs.declared.row.Row.{Row}
 use Rattle.ug_adjout.specs.declared.row.Change.{Change}
 use Rattle.ug_adjout.specs.declared.waiting.Waiting.{Waiting}

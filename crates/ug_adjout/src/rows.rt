@@ -2,7 +2,7 @@
 ghost use Rattle.std.specs.Prelude.{◌≡◌, ◌+◌, ◌<◌, ◌^◌, [], is_some, length, IsTrue, IsOk, IfOk, OnOk, OnErr, true, false, if◌then◌else◌};
 ghost use Rattle.std.specs.Map.{keys_of};
 ghost use Rattle.std.specs.BTreeMap.{insert_entry};
-ghost use Rattle.ug_pending.specs.Tables.{value_at, with_value, IsTable};
+ghost use Rattle.ug_adjout_rules.specs.Tables.{value_at, with_value, IsTable};
 ghost use Rattle.ug_adjout.specs.Stored.{projected, formatted_of, mark_of, of_row};
 ghost use Rattle.ug_adjout.specs.Stepped.{known, makes_row, stepped, lined, IsReady};
 ghost use Rattle.ug_adjout.specs.declared.step.Step.TheVariants.{Format};

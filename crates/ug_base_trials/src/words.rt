@@ -2,7 +2,7 @@
 
 use std::alloc::Global;
 use std::test::Fail;
-use ug_words::{CheckWords, Command, GroupsWords, OneWords, RunWords, read_command};
+use ug_command_line::{CheckWords, Command, GroupsWords, OneWords, RunWords, read_command};
 
 /// The words of a line, cut at its spaces.
 fn words_of(alloc: Global, line: &str) -> Result<Vec<String>, Fail> {

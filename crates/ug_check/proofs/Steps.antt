@@ -6,7 +6,7 @@ use Rattle.std.proofs.lemmas.List.{append-nil, take-append-drop, length-take-le}
 use Rattle.std.proofs.lemmas.List.Folds.{concat-append}
 use Rattle.ug_types.specs.declared.key.Key.{Key}
 use Rattle.ug_types.specs.Messages.{Message, Updates, Begins, Ends, Ignored}
-use Rattle.ug_tables.specs.Tables.{Reading, applied, reading_from, nothing_read, among}
+use Rattle.ug_table_rules.specs.Tables.{Reading, applied, reading_from, nothing_read, among}
 use Rattle.ug_types.specs.declared.capabilities.Capabilities.{Capabilities}
 use Rattle.ug_types.specs.declared.family.Family.{Family}
 use Rattle.ug_message.specs.Reading.{message_size, Spells, ends_rib}

@@ -4,7 +4,7 @@ use Rattle.std.specs.List.{concat}
 use Rattle.ug_types.specs.declared.capabilities.Capabilities.{Capabilities}
 use Rattle.ug_types.specs.declared.key.Key.{Key}
 use Rattle.ug_types.specs.Messages.{Message}
-use Rattle.ug_tables.specs.Tables.{nothing_read, reading_from}
+use Rattle.ug_table_rules.specs.Tables.{nothing_read, reading_from}
 use Rattle.ug_edge.specs.Told.{TakesFront, IsEnded}
 use Rattle.ug_message.specs.Received.{IsUnfinished, IsFaultyAt}
 use Rattle.ug_update.specs.Readers.{ReaderState, HasRead}

@@ -10,7 +10,7 @@ use Rattle.ug_types.specs.declared.key.Key.{Key}
 use Rattle.ug_types.specs.Orders.{key_cmp}
 use Rattle.ug_types.specs.Attributes.{Attributes}
 use Rattle.ug_types.specs.Messages.{Message}
-use Rattle.ug_tables.specs.Tables.{Table, table_of}
+use Rattle.ug_table_rules.specs.Tables.{Table, table_of}
 use Rattle.ug_message.specs.Reading.{Spells, ends_rib}
 use Rattle.ug_message.specs.Received.{IsStream}
 use Rattle.ug_receiver.specs.Rows.{row_at}

@@ -3,7 +3,7 @@
 ghost use Rattle.std.specs.Prelude.{◌≡◌, ◌+◌, ◌<◌, ◌≤◌, ◌^◌, ◌++◌, List, ℕ, length, OnOk, IfOk, IfErr, IfSome, IfNone, true, false, if◌then◌else◌};
 ghost use Rattle.ug_types.specs.Messages.{Message, message_of};
 ghost use Rattle.ug_types.specs.declared.key.Key as route_keys;
-ghost use Rattle.ug_tables.specs.Tables.{applied};
+ghost use Rattle.ug_table_rules.specs.Tables.{applied};
 ghost use Rattle.ug_message.specs.Reading.{message_size};
 ghost use Rattle.ug_message.specs.Received.{IsUnfinished, Says, Awaited};
 ghost use Rattle.ug_update.specs.Readers.{new_reader, front, behind_message, HasRead};

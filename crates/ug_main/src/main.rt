@@ -6,14 +6,14 @@ ghost use Rattle.std.specs.String.{string_bytes};
 ghost use Rattle.ug_edge.specs.Told.{Rose, IsEnded, file_told, Missing};
 ghost use Rattle.ug_board.specs.Entry.{Entry};
 ghost use Rattle.ug_report.specs.Report.{names_in};
-ghost use Rattle.ug_sound.specs.One.{one_world};
-ghost use Rattle.ug_words.specs.Words.{OneCommand, RunCommand, CheckCommand, GroupsCommand, One, Run, Check, Groups, command_of, is_command};
+ghost use Rattle.ug_input_laws.specs.One.{one_world};
+ghost use Rattle.ug_command_line.specs.Words.{OneCommand, RunCommand, CheckCommand, GroupsCommand, One, Run, Check, Groups, command_of, is_command};
 ghost use Rattle.ug_wiring.specs.Wires.{HasMade};
 ghost use Rattle.ug_commands.specs.Statuses.{row_of, is_fixed, status_text};
 ghost use Rattle.ug_commands.specs.Files.{AppendsThenStatus};
 ghost use Rattle.ug_commands.specs.Checked.{IsChecked};
 ghost use Rattle.ug_commands.specs.Listed.{IsListed};
-ghost use Rattle.ug_promise.specs.Contents.{WireTold};
+ghost use Rattle.ug_run_rules.specs.Contents.{WireTold};
 ghost use Rattle.ug_run.specs.Commands.{IsOne, IsRunOf};
 
 use std::alloc::Global;

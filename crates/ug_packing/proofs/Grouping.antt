@@ -1,7 +1,7 @@
 -- Where a key joins groups.
 use Rattle.std.proofs.Common.{◌≡◌, ◌⊎◌, inl, inr, Bool, true, false, refl, sym}
 use Rattle.ug_types.specs.Attributes.{Attributes}
-use Rattle.ug_tables.specs.Decisions.{decided_attributes}
+use Rattle.ug_table_rules.specs.Decisions.{decided_attributes}
 use Rattle.ug_packing.specs.Packing.{are_same}
 
 same_by : (a b : Attributes) (d : (a ≡ b) ⊎ (a ≡ b → ⊥)) → a ≡ b → (elim d [ inl same ↦ true | inr other ↦ false ]) ≡ true

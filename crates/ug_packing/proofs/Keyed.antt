@@ -3,8 +3,8 @@ use Rattle.std.proofs.Common.{◌≡◌, ◌⊎◌, inl, inr, ℕ, zero, suc, �
 use Rattle.std.specs.Prelude.{slice_index_or, filter, is_some, is_none, not, if◌then◌else◌}
 use Rattle.ug_types.specs.declared.key.Key.{Key}
 use Rattle.ug_types.specs.Attributes.{Attributes}
-use Rattle.ug_tables.specs.Tables.{Table}
-use Rattle.ug_tables.specs.Decisions.{decided_attributes, decided_option}
+use Rattle.ug_table_rules.specs.Tables.{Table}
+use Rattle.ug_table_rules.specs.Decisions.{decided_attributes, decided_option}
 use Rattle.ug_packing.specs.Seen.{key_where}
 use Rattle.ug_packing.proofs.Running.{drop_one, all_of, length_drop}
 use Rattle.ug_packing.specs.Packing.{Shared, are_same, with_route, by_attributes, is_gone, is_new, differ}

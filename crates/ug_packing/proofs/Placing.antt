@@ -6,7 +6,7 @@ use Rattle.std.specs.Map.{lookup}
 use Rattle.std.proofs.lemmas.List.{map-append, length-map}
 use Rattle.ug_types.specs.contracts.compared.AttrsPartialEq.TheImpl as equal
 use Rattle.ug_types.specs.Attributes.{Attributes}
-use Rattle.ug_tables.specs.Decisions.{decided_attributes}
+use Rattle.ug_table_rules.specs.Decisions.{decided_attributes}
 use Rattle.ug_packing.specs.Packing.{Shared, are_same, with_key}
 use Rattle.ug_packing.specs.Seen.{IsPlace, IsNowhere}
 use Rattle.ug_packing.specs.Placed.{attributes_in, place_in, IsIndex}

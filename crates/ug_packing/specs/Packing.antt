@@ -6,8 +6,8 @@ use Rattle.ug_types.specs.declared.capabilities.Capabilities.{Capabilities}
 use Rattle.ug_types.specs.declared.key.Key.{Key}
 use Rattle.ug_types.specs.Attributes.{Attributes}
 use Rattle.ug_types.specs.Messages.{Message, Updates}
-use Rattle.ug_tables.specs.Tables.{Table}
-use Rattle.ug_tables.specs.Decisions.{decided_option, decided_attributes}
+use Rattle.ug_table_rules.specs.Tables.{Table}
+use Rattle.ug_table_rules.specs.Decisions.{decided_option, decided_attributes}
 use Rattle.ug_message.specs.Texts.{written}
 
 -- an UPDATE that announces these keys, which share these attributes (RFC 4271 section 4.3)

@@ -1,7 +1,7 @@
 //! Messages about routes under keys.
 
 ghost use Rattle.std.specs.Prelude.{◌≡◌, ◌++◌, ◌&&◌, [], length, map, filter, Some, is_some, is_none, OnOk, IfOk, if◌then◌else◌};
-ghost use Rattle.ug_tables.specs.Tables.{Table};
+ghost use Rattle.ug_table_rules.specs.Tables.{Table};
 ghost use Rattle.ug_packing.specs.Packing.{withdrawals, announcements, with_route, by_attributes, are_same, is_gone, is_new, differ};
 ghost use Rattle.ug_packing.specs.Seen.{texts_in, key_where};
 

@@ -10,7 +10,7 @@ use Rattle.ug_types.specs.Keys.{same_prefix, same_key}
 use Rattle.ug_types.specs.declared.key.Key.{Key}
 use Rattle.ug_types.specs.declared.route.Path.{Path}
 use Rattle.ug_types.specs.Attributes.{Attributes}
-use Rattle.ug_tables.specs.Tables.{Table}
+use Rattle.ug_table_rules.specs.Tables.{Table}
 use Rattle.ug_prefixlist.specs.Order.{ascending}
 use Rattle.ug_events.specs.Events.{Happening, HasPaths, HasNone, ComesUp, GoesDown, HasPolicy, HasEntries, AsksAgain, SendsRequest, SendsList}
 use Rattle.ug_world.specs.declared.peer_state.PeerState.{PeerState}

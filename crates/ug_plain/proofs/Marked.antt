@@ -4,7 +4,7 @@ use Rattle.std.specs.Prelude.{slice_get}
 use Rattle.std.specs.Option.{option_map}
 use Rattle.std.proofs.lemmas.List.{append_assoc}
 use Rattle.ug_types.specs.declared.mark.Mark.{Mark}
-use Rattle.ug_deeds.specs.Deeds.{when}
+use Rattle.ug_history_rules.specs.Deeds.{when}
 use Rattle.ug_outbound.specs.declared.peer.Peer.{Peer}
 use Rattle.ug_world.specs.declared.peer_state.PeerState.{PeerState}
 use Rattle.ug_packing.proofs.Running.{none_left}

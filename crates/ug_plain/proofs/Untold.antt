@@ -4,8 +4,8 @@ use Rattle.std.specs.Prelude.{filter, slice_get, is_some, is_none, if◌then◌e
 use Rattle.std.specs.Option.{option_map}
 use Rattle.ug_types.specs.declared.key.Key.{Key}
 use Rattle.ug_types.specs.Attributes.{Attributes}
-use Rattle.ug_tables.specs.Tables.{Table}
-use Rattle.ug_tables.specs.Decisions.{decided_attributes, decided_option}
+use Rattle.ug_table_rules.specs.Tables.{Table}
+use Rattle.ug_table_rules.specs.Decisions.{decided_attributes, decided_option}
 use Rattle.ug_types.specs.Bytes.{same_bytes}
 use Rattle.ug_outbound.specs.Tables.{Tables}
 use Rattle.ug_outbound.specs.declared.key.GroupKey.{GroupKey}

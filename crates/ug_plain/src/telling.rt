@@ -1,7 +1,7 @@
 //! What a peer is told.
 
 ghost use Rattle.std.specs.Prelude.{◌≡◌, ◌+◌, ◌<◌, ◌≤◌, ◌++◌, ◌&&◌, length, map, take, drop, Some, slice_get, OnOk};
-ghost use Rattle.ug_tables.specs.Tables.{Table};
+ghost use Rattle.ug_table_rules.specs.Tables.{Table};
 ghost use Rattle.ug_events.specs.Events.{Happening};
 ghost use Rattle.ug_world.specs.declared.peer_state.PeerState as peers;
 ghost use Rattle.ug_world.specs.World as worlds;

@@ -7,8 +7,8 @@ use Rattle.ug_types.specs.declared.key.Key.{Key}
 use Rattle.ug_types.specs.Attributes.{Attributes}
 use Rattle.ug_types.specs.Messages.{Message}
 use Rattle.ug_board.specs.History.{replay, job_entry}
-use Rattle.ug_deeds.specs.Deeds.{Deed}
-use Rattle.ug_deeds.specs.Sessions.{sessions_of}
+use Rattle.ug_history_rules.specs.Deeds.{Deed}
+use Rattle.ug_history_rules.specs.Sessions.{sessions_of}
 use Rattle.ug_events.specs.Events.{Happening}
 use Rattle.ug_world.specs.declared.peer_state.PeerState.{PeerState}
 use Rattle.ug_world.specs.World.{World}

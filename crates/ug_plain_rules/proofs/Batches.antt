@@ -7,9 +7,9 @@ use Rattle.std.proofs.lemmas.List.Elements.{filter-append}
 use Rattle.ug_types.specs.declared.key.Key.{Key}
 use Rattle.ug_types.specs.Attributes.{Attributes}
 use Rattle.ug_types.specs.Messages.{Message, Begins, Ends}
-use Rattle.ug_tables.specs.Tables.{Table, Reading, no_routes, nothing_read, applied, reading_from, tables_from, tables_after, table_of}
-use Rattle.ug_tables.specs.Climbing.{Climbs, NeverBack, values_at}
-use Rattle.ug_tables.specs.ClimbingLaws.{NeverBack-from, Follows-from, NeverBack-longer}
+use Rattle.ug_table_rules.specs.Tables.{Table, Reading, no_routes, nothing_read, applied, reading_from, tables_from, tables_after, table_of}
+use Rattle.ug_table_rules.specs.Climbing.{Climbs, NeverBack, values_at}
+use Rattle.ug_table_rules.specs.ClimbingLaws.{NeverBack-from, Follows-from, NeverBack-longer}
 use Rattle.ug_message.specs.Streams.{AreOf, IsUpdate, says_nothing}
 use Rattle.ug_outbound.specs.declared.peer.Peer.{Peer}
 use Rattle.ug_world.specs.World.{World}

@@ -15,7 +15,7 @@ use Rattle.ug_board.specs.declared.steps.LaneStep.TheVariants.{Next, Lost}
 use Rattle.ug_board.specs.declared.steps.LaneSaid.{LaneSaid}
 use Rattle.ug_board.specs.Rules.{says_more}
 use Rattle.ug_board.specs.History.{IsLegalStep, after_step, replay}
-use Rattle.ug_deeds.specs.Deeds.{Deed, Loses, lane_deeds}
+use Rattle.ug_history_rules.specs.Deeds.{Deed, Loses, lane_deeds}
 use Rattle.ug_outbound.specs.declared.peer.Peer.{Peer}
 use Rattle.ug_events.specs.Events.{Happening}
 use Rattle.ug_world.specs.declared.peer_state.PeerState.{PeerState}

@@ -8,8 +8,8 @@ use Rattle.ug_board.specs.declared.steps.BoardStep.TheVariants.{Job as DoJob, La
 use Rattle.ug_board.specs.declared.steps.BoardSaid.{BoardSaid}
 use Rattle.ug_board.specs.Entry.{Entry}
 use Rattle.ug_board.specs.History.{IsLegalStep, IsLegalFrom, after_step, replay_from, replay}
-use Rattle.ug_deeds.specs.Deeds.{Deed, when, is_to, to_peer, step_deeds}
-use Rattle.ug_deeds.proofs.Growth.{deeds_from-append}
+use Rattle.ug_history_rules.specs.Deeds.{Deed, when, is_to, to_peer, step_deeds}
+use Rattle.ug_history_rules.proofs.Growth.{deeds_from-append}
 use Rattle.ug_events.specs.Events.{Happening}
 use Rattle.ug_world.specs.World.{World}
 use Rattle.ug_world.specs.After.{after}

@@ -11,7 +11,7 @@ use Rattle.ug_types.specs.Messages.{Message}
 use Rattle.ug_board.specs.declared.steps.LaneStep.TheVariants.{Next}
 use Rattle.ug_board.specs.declared.steps.LaneSaid.{LaneSaid}
 use Rattle.ug_board.specs.Rules.{says_more, buffer_size}
-use Rattle.ug_deeds.specs.Deeds.{Each, Deed, Begins as BeginsDeed, Hands, Loses, lane_deeds}
+use Rattle.ug_history_rules.specs.Deeds.{Each, Deed, Begins as BeginsDeed, Hands, Loses, lane_deeds}
 use Rattle.ug_message.specs.Texts.{written}
 use Rattle.ug_message.specs.Reading.{read_message}
 use Rattle.ug_message.proofs.OneText.{text_within}

@@ -7,8 +7,8 @@ use Rattle.ug_types.specs.declared.mark.Mark.{Mark}
 use Rattle.ug_types.specs.Messages.{Message}
 use Rattle.ug_types.specs.Bytes.{is_empty}
 use Rattle.ug_board.specs.History.{IsLegal, replay, job_entry}
-use Rattle.ug_deeds.specs.Deeds.{Deed, when}
-use Rattle.ug_deeds.specs.Sessions.{sessions_of}
+use Rattle.ug_history_rules.specs.Deeds.{Deed, when}
+use Rattle.ug_history_rules.specs.Sessions.{sessions_of}
 use Rattle.ug_world.specs.declared.peer_state.PeerState.{PeerState}
 use Rattle.ug_world.specs.World.{World}
 use Rattle.ug_world.specs.Touches.{is_about}

@@ -1,8 +1,8 @@
 -- Values that climb from the last of a past to its next.
 use Rattle.std.proofs.Common.{◌≡◌, ℕ, zero, suc, ◌⊎◌, inl, inr, List, [], ◌∷◌, ◌++◌, drop, slice_get, Some, refl, sym, ap, subst}
 use Rattle.std.proofs.lemmas.List.{append_assoc, append-nil}
-use Rattle.ug_tables.specs.Climbing.{Climbs}
-use Rattle.ug_tables.specs.ClimbingLaws.{Climbs-longer, Climbs-push}
+use Rattle.ug_table_rules.specs.Climbing.{Climbs}
+use Rattle.ug_table_rules.specs.ClimbingLaws.{Climbs-longer, Climbs-push}
 
 -- The past ends with this value.
 abbrev pub IsLast : {V : Type 0} → V → List V → Type 0

@@ -8,9 +8,9 @@ use Rattle.ug_types.specs.declared.key.Key.{Key}
 use Rattle.ug_types.specs.Keys.{same_key}
 use Rattle.ug_types.specs.Attributes.{Attributes}
 use Rattle.ug_types.specs.Messages.{Message}
-use Rattle.ug_tables.specs.Tables.{Table, among}
-use Rattle.ug_tables.specs.Decisions.{decided_attributes}
-use Rattle.ug_deeds.specs.Deeds.{Each}
+use Rattle.ug_table_rules.specs.Tables.{Table, among}
+use Rattle.ug_table_rules.specs.Decisions.{decided_attributes}
+use Rattle.ug_history_rules.specs.Deeds.{Each}
 use Rattle.ug_plain_rules.proofs.SameKeys.{same-is}
 use Rattle.ug_message.specs.Streams.{AreOf, says_nothing}
 use Rattle.ug_packing.specs.Packing.{announcing, withdrawing, fits, runs_from, runs, withdrawals, Shared, are_same, with_key, with_route, by_attributes, announcements_of, announcements}

@@ -17,7 +17,7 @@ use Rattle.ug_board.specs.declared.steps.LaneSaid.{LaneSaid}
 use Rattle.ug_board.specs.declared.steps.LaneSaid.TheVariants.{Begun, Hand}
 use Rattle.ug_board.specs.Rules.{says_more, buffer_size}
 use Rattle.ug_board.specs.History.{IsLegalStep, after_step, replay, IsLegal}
-use Rattle.ug_deeds.specs.Deeds.{Deed, Loses, lane_deeds}
+use Rattle.ug_history_rules.specs.Deeds.{Deed, Loses, lane_deeds}
 use Rattle.ug_events.specs.Events.{Happening}
 use Rattle.ug_world.specs.declared.peer_state.PeerState.{PeerState}
 use Rattle.ug_world.specs.World.{World}

@@ -8,7 +8,7 @@ use Rattle.ug_types.specs.Keys.{same_prefix, same_key}
 use Rattle.ug_types.specs.declared.family.Family.{Family}
 use Rattle.ug_types.specs.declared.family.Family.TheVariants.{V4, V6}
 use Rattle.ug_types.specs.declared.key.Key.{Key}
-use Rattle.ug_tables.specs.Tables.{among}
+use Rattle.ug_table_rules.specs.Tables.{among}
 use Rattle.ug_plain_rules.proofs.Bools.{both_so}
 
 family_is : (f g : Family) → same_family f g ≡ true → f ≡ g

@@ -5,9 +5,9 @@ use Rattle.std.proofs.lemmas.Bool.{cases_eq, eqb-true, eq-eqb}
 use Rattle.std.proofs.lemmas.List.{append-nil, map-append}
 use Rattle.ug_types.specs.declared.capabilities.Capabilities.{Capabilities}
 use Rattle.ug_types.specs.Messages.{Message}
-use Rattle.ug_deeds.specs.Deeds.{Each, Deed, Begins as BeginsDeed, Hands, Loses}
-use Rattle.ug_deeds.specs.Sessions.{Session, hand_last, sessions_of}
-use Rattle.ug_deeds.proofs.Folding.{sessions_of-append}
+use Rattle.ug_history_rules.specs.Deeds.{Each, Deed, Begins as BeginsDeed, Hands, Loses}
+use Rattle.ug_history_rules.specs.Sessions.{Session, hand_last, sessions_of}
+use Rattle.ug_history_rules.proofs.Folding.{sessions_of-append}
 use Rattle.ug_outbound.specs.declared.peer.Peer.{Peer}
 use Rattle.ug_events.specs.Events.{Happening}
 use Rattle.ug_world.specs.declared.peer_state.PeerState.{PeerState}

@@ -9,9 +9,9 @@ use Rattle.ug_types.specs.declared.family.Family.{Family}
 use Rattle.ug_types.specs.declared.family.Family.TheVariants.{V4, V6}
 use Rattle.ug_types.specs.declared.key.Key.{Key}
 use Rattle.ug_types.specs.Messages.{Message, Updates, Begins, Ends, Ignored}
-use Rattle.ug_tables.specs.Tables.{Table, among}
-use Rattle.ug_tables.specs.Decisions.{decided_option, decided_attributes}
-use Rattle.ug_deeds.specs.Deeds.{Each}
+use Rattle.ug_table_rules.specs.Tables.{Table, among}
+use Rattle.ug_table_rules.specs.Decisions.{decided_option, decided_attributes}
+use Rattle.ug_history_rules.specs.Deeds.{Each}
 use Rattle.ug_message.specs.Streams.{AreOf}
 use Rattle.ug_message.specs.Texts.{written, framed, withdrawal}
 use Rattle.ug_message.specs.Spelling.{mp_unreach_nlri, attribute}

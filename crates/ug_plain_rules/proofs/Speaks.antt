@@ -10,7 +10,7 @@ use Rattle.ug_board.specs.declared.steps.LaneSaid.{LaneSaid}
 use Rattle.ug_board.specs.declared.steps.LaneSaid.TheVariants.{Begun, Hand}
 use Rattle.ug_board.specs.Rules.{says_more}
 use Rattle.ug_board.specs.History.{replay, job_entry}
-use Rattle.ug_deeds.specs.Deeds.{Each}
+use Rattle.ug_history_rules.specs.Deeds.{Each}
 use Rattle.ug_message.specs.Texts.{written}
 use Rattle.ug_events.specs.Events.{Happening}
 use Rattle.ug_world.specs.declared.peer_state.PeerState.{PeerState}

@@ -7,8 +7,8 @@ use Rattle.std.proofs.lemmas.List.Sums.{sum_by-append}
 use Rattle.ug_types.specs.declared.key.Key.{Key}
 use Rattle.ug_types.specs.Attributes.{Attributes}
 use Rattle.ug_types.specs.Messages.{Changes, Message, Updates, Begins, Ends, Ignored}
-use Rattle.ug_tables.specs.Tables.{Table, Reading, among, changed, applied, reading_from, tables_from}
-use Rattle.ug_tables.specs.Climbing.{values_at}
+use Rattle.ug_table_rules.specs.Tables.{Table, Reading, among, changed, applied, reading_from, tables_from}
+use Rattle.ug_table_rules.specs.Climbing.{values_at}
 use Rattle.ug_message.specs.Streams.{AreOf, IsUpdate, says_nothing}
 use Rattle.ug_speaker.specs.Right.{IsInTurn, is_refreshing}
 use Rattle.ug_plain_rules.proofs.Moving.{Moves}

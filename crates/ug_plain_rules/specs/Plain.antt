@@ -8,7 +8,7 @@ use Rattle.ug_board.specs.declared.steps.LaneStep.TheVariants.{Next, Lost}
 use Rattle.ug_board.specs.declared.steps.LaneSaid.{LaneSaid}
 use Rattle.ug_board.specs.declared.steps.LaneSaid.TheVariants.{Begun, Hand, Idle, Stop, Noted}
 use Rattle.ug_board.specs.Rules.{Rules, buffer_size}
-use Rattle.ug_deeds.specs.Deeds.{when}
+use Rattle.ug_history_rules.specs.Deeds.{when}
 use Rattle.ug_message.specs.Walking.{Fault}
 use Rattle.ug_message.specs.Reading.{read_message}
 use Rattle.ug_events.specs.Events.{Happening}

@@ -16,7 +16,7 @@ use Rattle.ug_types.specs.declared.key.Key.{Key}
 use Rattle.ug_types.specs.Keys.{same_key}
 use Rattle.ug_types.specs.Orders.{key_cmp}
 use Rattle.ug_types.specs.Attributes.{Attributes}
-use Rattle.ug_tables.specs.Tables.{among}
+use Rattle.ug_table_rules.specs.Tables.{among}
 use Rattle.ug_receiver.specs.declared.row.Announced.{Announced}
 use Rattle.ug_receiver.specs.declared.row.Row.{Row}
 use Rattle.ug_receiver.specs.Rows.{Rows, row_at}

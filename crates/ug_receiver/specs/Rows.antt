@@ -7,7 +7,7 @@ use Rattle.std.specs.declared.cmp.Ordering.{Ordering}
 use Rattle.ug_types.specs.declared.key.Key.{Key}
 use Rattle.ug_types.specs.Keys.{same_key}
 use Rattle.ug_types.specs.Attributes.{Attributes}
-use Rattle.ug_tables.specs.Tables.{Reading, among}
+use Rattle.ug_table_rules.specs.Tables.{Reading, among}
 
 pub record Rows : Type 0 where
   pub rows : List (Key × Attributes)

@@ -5,7 +5,7 @@ ghost use Rattle.std.specs.List.Sorted.{IsStrictlySortedBy};
 ghost use Rattle.ug_types.specs.declared.key.Key as route_keys;
 ghost use Rattle.ug_types.specs.Keys.{same_key};
 ghost use Rattle.ug_types.specs.Messages.{message_of, changes_of, Updates};
-ghost use Rattle.ug_tables.specs.Tables.{applied, among};
+ghost use Rattle.ug_table_rules.specs.Tables.{applied, among};
 ghost use Rattle.ug_receiver.specs.Rows.{reading_of, row_at, no_rows, IsAfter};
 
 use crate::iter::RowIter;

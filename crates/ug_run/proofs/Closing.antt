@@ -15,27 +15,27 @@ use Rattle.ug_board.specs.Entry.{Entry}
 use Rattle.ug_board.specs.Rules.{Rules}
 use Rattle.ug_board.specs.History.{IsLegalStep, IsLegalFrom, IsLegal, after_step, replay_from, replay}
 use Rattle.ug_board.proofs.Histories.{replay_from-append}
-use Rattle.ug_deeds.specs.Deeds.{Each, of_pass, to_peer, is_to}
+use Rattle.ug_history_rules.specs.Deeds.{Each, of_pass, to_peer, is_to}
 use Rattle.ug_turnstile.specs.Passes.{Held, Agrees}
 use Rattle.ug_sender.specs.Lanes.{LaneView, KeepsLane}
 use Rattle.ug_events.specs.Events.{Happening, IsEvent, Saying, SaysNothing, SaysSync, Says}
 use Rattle.ug_events.specs.Reads.{Reads}
 use Rattle.ug_events.specs.Grammar.{verb_of, routes_verb_of}
-use Rattle.ug_sound.proofs.Lines.{line_sound}
+use Rattle.ug_input_laws.proofs.Lines.{line_sound}
 use Rattle.ug_speaker.specs.Speech.{Speech}
 use Rattle.ug_speaker.specs.Ranges.{IsEventInRange}
 use Rattle.ug_speaker.specs.Owes.{StepsRight, IsOpening}
 use Rattle.ug_speaker.specs.Story.{IsSound, IsBetween, IsStory}
 use Rattle.ug_speaker.specs.StoryLaws.{story-between}
-use Rattle.ug_builder.specs.declared.grammar.Grammar.{Grammar}
-use Rattle.ug_builder.specs.declared.grammar.Grammar.TheVariants as grammars
-use Rattle.ug_builder.specs.Standing.{said_by, IsLaneStep, AreLanes, HasTaken}
-use Rattle.ug_builder.proofs.Worlds.{lanes-back, legal-back}
+use Rattle.ug_event_loop.specs.declared.grammar.Grammar.{Grammar}
+use Rattle.ug_event_loop.specs.declared.grammar.Grammar.TheVariants as grammars
+use Rattle.ug_event_loop.specs.Standing.{said_by, IsLaneStep, AreLanes, HasTaken}
+use Rattle.ug_event_loop.proofs.Worlds.{lanes-back, legal-back}
 use Rattle.ug_wiring.specs.Lanes.{AreAtPosts, AreKept}
-use Rattle.ug_promise.specs.Contents.{WireTold}
-use Rattle.ug_promise.specs.Crew.{EachLaneFrom, IsCrewed, IsClosed}
-use Rattle.ug_promise.proofs.Lists.{each-so, each-with, each-all, each-any, each-join, none-passes, get-there}
-use Rattle.ug_promise.proofs.Owned.{lane-at, own-steps}
+use Rattle.ug_run_rules.specs.Contents.{WireTold}
+use Rattle.ug_run_rules.specs.Crew.{EachLaneFrom, IsCrewed, IsClosed}
+use Rattle.ug_run_rules.proofs.Lists.{each-so, each-with, each-all, each-any, each-join, none-passes, get-there}
+use Rattle.ug_run_rules.proofs.Owned.{lane-at, own-steps}
 
 -- ---- what lines say is sound
 

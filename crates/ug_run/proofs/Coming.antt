@@ -12,7 +12,7 @@ use Rattle.ug_pieces.specs.AppendingLaws.{AppendsPiece-more, AppendsFront-more, 
 use Rattle.ug_board.specs.Entry.{Entry}
 use Rattle.ug_board.specs.Rules.{Rules, IsMachine}
 use Rattle.ug_board.specs.History.{IsLegal, replay}
-use Rattle.ug_deeds.specs.Deeds.{Each}
+use Rattle.ug_history_rules.specs.Deeds.{Each}
 use Rattle.ug_events.specs.Events.{Saying}
 use Rattle.ug_events.specs.Reads.{Reads}
 use Rattle.ug_world.specs.World.{World}
@@ -22,25 +22,25 @@ use Rattle.ug_speaker.specs.Owes.{IsOpening, IsSpeaker}
 use Rattle.ug_speaker.specs.Story.{IsSound}
 use Rattle.ug_report.specs.declared.endings.Loss.{Loss}
 use Rattle.ug_report.specs.Report.{names_in, loss_text, counts_text, accepted_count, refused_count, line_texts, end_text, losses_from, losses_status}
-use Rattle.ug_builder.specs.declared.grammar.Grammar.{Grammar}
-use Rattle.ug_builder.specs.declared.tally.Tally.{Tally}
-use Rattle.ug_builder.specs.declared.stop.Stop.TheVariants as stops
-use Rattle.ug_builder.specs.declared.reading.End.{End}
-use Rattle.ug_builder.specs.declared.reading.End.TheVariants as ends
-use Rattle.ug_builder.specs.Standing.{said_by, AreLanes, IsTally, HasTaken, StandsAt, StopsAt, Stands, Stops, BuilderView, BuilderStands, BuilderStops}
-use Rattle.ug_builder.specs.Files.{lines_read, IsPastLimits}
-use Rattle.ug_builder.specs.Turns.{IsEndedAt}
-use Rattle.ug_builder.specs.Reading.{Outside, IsNotBegun, EndsAt}
+use Rattle.ug_event_loop.specs.declared.grammar.Grammar.{Grammar}
+use Rattle.ug_event_loop.specs.declared.tally.Tally.{Tally}
+use Rattle.ug_event_loop.specs.declared.stop.Stop.TheVariants as stops
+use Rattle.ug_event_loop.specs.declared.reading.End.{End}
+use Rattle.ug_event_loop.specs.declared.reading.End.TheVariants as ends
+use Rattle.ug_event_loop.specs.Standing.{said_by, AreLanes, IsTally, HasTaken, StandsAt, StopsAt, Stands, Stops, BuilderView, BuilderStands, BuilderStops}
+use Rattle.ug_event_loop.specs.Files.{lines_read, IsPastLimits}
+use Rattle.ug_event_loop.specs.Turns.{IsEndedAt}
+use Rattle.ug_event_loop.specs.Reading.{Outside, IsNotBegun, EndsAt}
 use Rattle.ug_commands.specs.Files.{IsPartOf, AgreesWithSite, AppendsThenStatus}
 use Rattle.ug_commands.specs.Statuses.{row_of, status_text}
 use Rattle.ug_commands.specs.declared.status.Status.{Status}
 use Rattle.ug_commands.specs.declared.status.Status.TheVariants as statuses
 use Rattle.ug_commands.proofs.Ends.{rest_of, part_read, no_rest, not_missing, agrees_read, then_status, later_status}
-use Rattle.ug_promise.specs.Contents.{WireTold, Content}
-use Rattle.ug_promise.specs.Crew.{EachLaneFrom, IsCrewed, IsClosed, all_losses}
-use Rattle.ug_promise.specs.Kept.{IsKept, IsWireOf, IsWireRight, AreCounted}
-use Rattle.ug_promise.proofs.Lists.{each-front, each-join}
-use Rattle.ug_promise.proofs.Keeps.{closed-kept, each_wire_so}
+use Rattle.ug_run_rules.specs.Contents.{WireTold, Content}
+use Rattle.ug_run_rules.specs.Crew.{EachLaneFrom, IsCrewed, IsClosed, all_losses}
+use Rattle.ug_run_rules.specs.Kept.{IsKept, IsWireOf, IsWireRight, AreCounted}
+use Rattle.ug_run_rules.proofs.Lists.{each-front, each-join}
+use Rattle.ug_run_rules.proofs.Keeps.{closed-kept, each_wire_so}
 use Rattle.ug_run.specs.Ends.{last_text, IsFirst, IsConcluded, CompletesBy, IsFinished}
 use Rattle.ug_run.specs.Promise.{lines_counted, IsLimited, texts, whole_text, HasReport, IsFirstLoss, IsDoneBy, IsRun}
 use Rattle.ug_run.proofs.Closing.{lines-sound, others-lanes, IsBehind, ended-all, story-all}

@@ -7,7 +7,7 @@ use Rattle.ug_edge.specs.Told.{Rose, IsEnded, HasPicked, FileText, file_told}
 use Rattle.ug_pieces.specs.ReadingLaws.{Rose-later}
 use Rattle.ug_board.specs.Entry.{Entry}
 use Rattle.ug_board.specs.Rules.{Rules, IsMachine}
-use Rattle.ug_deeds.specs.Deeds.{Each}
+use Rattle.ug_history_rules.specs.Deeds.{Each}
 use Rattle.ug_turnstile.specs.Passes.{Gate, Held, Agrees}
 use Rattle.ug_board.specs.History.{IsLegal}
 use Rattle.ug_sender.specs.Lanes.{LaneView}
@@ -23,13 +23,13 @@ use Rattle.ug_speaker.specs.Story.{IsSound}
 use Rattle.ug_report.specs.declared.endings.Loss.{Loss}
 use Rattle.ug_report.specs.Report.{names_in, losses_from, losses_status}
 use Rattle.ug_crew.specs.Posts.{Post, post_of, posts, AreHere}
-use Rattle.ug_builder.specs.declared.grammar.Grammar.{Grammar}
-use Rattle.ug_builder.specs.declared.tally.Tally.{Tally}
-use Rattle.ug_builder.specs.declared.reading.End.{End}
-use Rattle.ug_builder.specs.declared.reading.End.TheVariants as ends
-use Rattle.ug_builder.specs.Standing.{BuilderView, IsSameBuilder, BuilderStands}
-use Rattle.ug_builder.specs.FreshLaws.{fresh-stands}
-use Rattle.ug_builder.specs.Reading.{Outside, first_of, EndsAt, HasEnded, IsRead}
+use Rattle.ug_event_loop.specs.declared.grammar.Grammar.{Grammar}
+use Rattle.ug_event_loop.specs.declared.tally.Tally.{Tally}
+use Rattle.ug_event_loop.specs.declared.reading.End.{End}
+use Rattle.ug_event_loop.specs.declared.reading.End.TheVariants as ends
+use Rattle.ug_event_loop.specs.Standing.{BuilderView, IsSameBuilder, BuilderStands}
+use Rattle.ug_event_loop.specs.FreshLaws.{fresh-stands}
+use Rattle.ug_event_loop.specs.Reading.{Outside, first_of, EndsAt, HasEnded, IsRead}
 use Rattle.ug_wiring.specs.Lanes.{AreAtPosts, AreKept, fresh_lanes}
 use Rattle.ug_wiring.specs.Run.{IsBegun, IsHistoryOf}
 use Rattle.ug_wiring.proofs.LaneLaws.{posts_fresh, posts_stay, posts_here, lanes_many}
@@ -37,11 +37,11 @@ use Rattle.ug_commands.specs.Statuses.{row_of, status_text}
 use Rattle.ug_commands.specs.declared.status.Status.{Status}
 use Rattle.ug_commands.specs.declared.status.Status.TheVariants as statuses
 use Rattle.ug_commands.proofs.Ends.{part_read, later_status}
-use Rattle.ug_promise.specs.Contents.{WireTold}
-use Rattle.ug_promise.specs.Crew.{all_losses}
+use Rattle.ug_run_rules.specs.Contents.{WireTold}
+use Rattle.ug_run_rules.specs.Crew.{all_losses}
 use Rattle.ug_run.specs.Ends.{last_text, IsConcluded, CompletesBy, IsFinished}
 use Rattle.ug_run.specs.Promise.{IsRun, IsCounted}
-use Rattle.ug_builder.proofs.Counting.{least-whole, most-whole}
+use Rattle.ug_event_loop.proofs.Counting.{least-whole, most-whole}
 use Rattle.ug_run.proofs.Closing.{crew-from, IsBehind, behind}
 use Rattle.ug_run.proofs.Coming.{comes}
 

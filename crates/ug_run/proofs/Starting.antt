@@ -6,12 +6,12 @@ use Rattle.ug_board.specs.Rules.{Rules}
 use Rattle.ug_events.specs.Events.{Saying}
 use Rattle.ug_events.specs.Reads.{Reads}
 use Rattle.ug_speaker.specs.Speech.{Speech}
-use Rattle.ug_builder.specs.declared.grammar.Grammar.{Grammar}
-use Rattle.ug_deeds.specs.Deeds.{Each}
+use Rattle.ug_event_loop.specs.declared.grammar.Grammar.{Grammar}
+use Rattle.ug_history_rules.specs.Deeds.{Each}
 use Rattle.ug_world.specs.World.{World}
 use Rattle.ug_report.specs.Report.{names_in}
 use Rattle.ug_wiring.specs.Wires.{AreNewWires, HasMade}
-use Rattle.ug_promise.specs.Contents.{WireTold}
+use Rattle.ug_run_rules.specs.Contents.{WireTold}
 use Rattle.ug_board.specs.Entry.{Entry}
 use Rattle.ug_commands.specs.Files.{AppendsThenStatus}
 use Rattle.ug_commands.specs.Statuses.{row_of, status_text, IsUnbegun}

@@ -7,14 +7,14 @@ use Rattle.ug_events.specs.Events.{Saying, Says, ComesUp}
 use Rattle.ug_events.specs.Reads.{Reads}
 use Rattle.ug_world.specs.World.{World}
 use Rattle.ug_speaker.specs.Speech.{Speech}
-use Rattle.ug_builder.specs.declared.grammar.Grammar.TheVariants.{Every, Routes}
-use Rattle.ug_sound.specs.One.{one_world}
+use Rattle.ug_event_loop.specs.declared.grammar.Grammar.TheVariants.{Every, Routes}
+use Rattle.ug_input_laws.specs.One.{one_world}
 use Rattle.ug_commands.specs.Files.{AppendsThenStatus}
 use Rattle.ug_commands.specs.Statuses.{row_of, status_text}
 use Rattle.ug_commands.specs.Listed.{IsConfigured, IsTooLong}
 use Rattle.ug_commands.specs.declared.status.Status.{Status}
 use Rattle.ug_commands.specs.declared.status.Status.TheVariants as statuses
-use Rattle.ug_promise.specs.Contents.{WireTold}
+use Rattle.ug_run_rules.specs.Contents.{WireTold}
 use Rattle.ug_report.specs.Report.{names_in}
 use Rattle.ug_wiring.specs.Wires.{HasMade}
 use Rattle.ug_run.specs.Promise.{IsPromised, IsCountedFrom}

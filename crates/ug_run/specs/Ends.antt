@@ -9,8 +9,8 @@ use Rattle.ug_commands.specs.Files.{AppendsThenStatus}
 use Rattle.ug_commands.specs.Statuses.{status_text}
 use Rattle.ug_commands.specs.declared.status.Status.{Status}
 use Rattle.ug_commands.specs.declared.status.Status.TheVariants as statuses
-use Rattle.ug_builder.specs.declared.reading.End.{End}
-use Rattle.ug_builder.specs.declared.reading.End.TheVariants as ends
+use Rattle.ug_event_loop.specs.declared.reading.End.{End}
+use Rattle.ug_event_loop.specs.declared.reading.End.TheVariants as ends
 
 -- the last lines of a run that completed, but for the status line
 abbrev pub last_text : List (List ℕ) → List Loss → ℕ → ℕ → List ℕ

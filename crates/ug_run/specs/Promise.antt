@@ -8,7 +8,7 @@ use Rattle.ug_pieces.specs.Reporting.{AppendsFront}
 use Rattle.ug_board.specs.Entry.{Entry}
 use Rattle.ug_board.specs.Rules.{Rules}
 use Rattle.ug_board.specs.History.{replay}
-use Rattle.ug_deeds.specs.Deeds.{Each}
+use Rattle.ug_history_rules.specs.Deeds.{Each}
 use Rattle.ug_events.specs.Events.{Saying}
 use Rattle.ug_events.specs.Reads.{Reads}
 use Rattle.ug_world.specs.World.{World}
@@ -16,17 +16,17 @@ use Rattle.ug_world.specs.Worlds.{last_world}
 use Rattle.ug_speaker.specs.Speech.{Speech}
 use Rattle.ug_report.specs.declared.endings.Loss.{Loss}
 use Rattle.ug_report.specs.Report.{names_in, line_texts, end_text, losses_from, losses_status}
-use Rattle.ug_builder.specs.declared.grammar.Grammar.{Grammar}
-use Rattle.ug_builder.specs.Standing.{said_by}
-use Rattle.ug_builder.specs.Counts.{least_of, most_of}
-use Rattle.ug_builder.specs.Files.{lines_read, IsPastLimits}
+use Rattle.ug_event_loop.specs.declared.grammar.Grammar.{Grammar}
+use Rattle.ug_event_loop.specs.Standing.{said_by}
+use Rattle.ug_event_loop.specs.Counts.{least_of, most_of}
+use Rattle.ug_event_loop.specs.Files.{lines_read, IsPastLimits}
 use Rattle.ug_commands.specs.Files.{IsPartOf, AgreesWithSite, AppendsThenStatus}
 use Rattle.ug_commands.specs.Statuses.{row_of, status_text}
 use Rattle.ug_commands.specs.declared.status.Status.{Status}
 use Rattle.ug_commands.specs.declared.status.Status.TheVariants as statuses
-use Rattle.ug_promise.specs.Contents.{WireTold, Content}
-use Rattle.ug_promise.specs.Crew.{IsClosed, all_losses}
-use Rattle.ug_promise.specs.Kept.{IsKept}
+use Rattle.ug_run_rules.specs.Contents.{WireTold, Content}
+use Rattle.ug_run_rules.specs.Crew.{IsClosed, all_losses}
+use Rattle.ug_run_rules.specs.Kept.{IsKept}
 use Rattle.ug_run.specs.Ends.{IsFirst}
 
 -- ---- the lines that count

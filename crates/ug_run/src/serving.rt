@@ -7,9 +7,9 @@ ghost use Rattle.ug_events.specs.Events.{IsEvent};
 ghost use Rattle.ug_events.specs.Views.{event_of};
 ghost use Rattle.ug_speaker.specs.Ranges.{IsEventInRange};
 ghost use Rattle.ug_report.specs.Report.{names_in};
-ghost use Rattle.ug_sound.specs.One.{one_world};
-ghost use Rattle.ug_words.specs.Words.{OneCommand, RunCommand, CheckCommand, GroupsCommand, One, Run, Check, Groups, command_of, is_command};
-ghost use Rattle.ug_builder.specs.Reading.{first_of};
+ghost use Rattle.ug_input_laws.specs.One.{one_world};
+ghost use Rattle.ug_command_line.specs.Words.{OneCommand, RunCommand, CheckCommand, GroupsCommand, One, Run, Check, Groups, command_of, is_command};
+ghost use Rattle.ug_event_loop.specs.Reading.{first_of};
 ghost use Rattle.ug_wiring.specs.Wires.{HasMade};
 ghost use Rattle.ug_commands.specs.Statuses.{row_of, status_text};
 ghost use Rattle.ug_commands.specs.Files.{AppendsThenStatus};
@@ -24,14 +24,14 @@ use std::alloc::Global;
 use std::sync::Wait;
 use std::sync::ledger::Ledger;
 use std::thread::Threads;
-use ug_builder::Grammar;
+use ug_command_line::{Command, OneWords, RunWords, read_command};
 use ug_commands::{Status, check, end, groups};
 use ug_edge::{Sink, Site};
+use ug_event_loop::Grammar;
 use ug_events::Event;
-use ug_sound::{configurations_open, one_opens, one_world};
+use ug_input_laws::{configurations_open, one_opens, one_world};
 use ug_speaker::Speaker;
 use ug_types::{Name, NoMemory, Sequence, Steps};
-use ug_words::{Command, OneWords, RunWords, read_command};
 
 /// Runs the command that the words are, the first of them its name.
 ///

@@ -7,11 +7,11 @@ use Rattle.ug_types.specs.declared.route.OutAttrs.{OutAttrs}
 use Rattle.ug_types.specs.Keys.{weight_of}
 use Rattle.ug_outbound.specs.declared.key.GroupKey.{GroupKey}
 use Rattle.ug_outbound.specs.Keys.{limit_of}
-use Rattle.ug_pending.specs.Tables.{value_at}
-use Rattle.ug_pending.specs.Formatting.{Due, Announces, fitting, announced_next}
+use Rattle.ug_adjout_rules.specs.Tables.{value_at}
+use Rattle.ug_adjout_rules.specs.Formatting.{Due, Announces, fitting, announced_next}
 use Rattle.ug_pack.specs.Rooms.{room, room_beside}
 use Rattle.ug_pack.specs.Ready.{key_order}
-use Rattle.ug_machine.specs.Packets.{Rows, same_out}
+use Rattle.ug_group_rules.specs.Packets.{Rows, same_out}
 use Rattle.ug_slow_subgroup.specs.Dues.{announced_in}
 
 module _ (group : GroupKey) (desired : Rows) where

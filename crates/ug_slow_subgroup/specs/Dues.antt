@@ -6,11 +6,11 @@ use Rattle.ug_types.specs.declared.route.OutAttrs.{OutAttrs}
 use Rattle.ug_types.specs.Keys.{weight_of}
 use Rattle.ug_outbound.specs.declared.key.GroupKey.{GroupKey}
 use Rattle.ug_outbound.specs.Keys.{limit_of}
-use Rattle.ug_pending.specs.Tables.{value_at}
-use Rattle.ug_pending.specs.Formatting.{Due, of_first_value, value_of_first, announced_next, withdrawn_next}
+use Rattle.ug_adjout_rules.specs.Tables.{value_at}
+use Rattle.ug_adjout_rules.specs.Formatting.{Due, of_first_value, value_of_first, announced_next, withdrawn_next}
 use Rattle.ug_pack.specs.Rooms.{room, room_beside}
 use Rattle.ug_pack.specs.Ready.{key_order}
-use Rattle.ug_machine.specs.Packets.{Rows, same_out}
+use Rattle.ug_group_rules.specs.Packets.{Rows, same_out}
 
 -- of these keys, which are all desired, the first and those of its value
 abbrev pub announced_in : GroupKey → Rows → List Key → Due Key OutAttrs

@@ -1,8 +1,8 @@
 -- What packets say and which routes are due, without where they lie in memory.
 use Rattle.ug_types.specs.declared.key.Key.{Key}
 use Rattle.ug_types.specs.declared.route.OutAttrs.{OutAttrs}
-use Rattle.ug_pending.specs.Formatting as dues
-use Rattle.ug_machine.specs.Packets as packets
+use Rattle.ug_adjout_rules.specs.Formatting as dues
+use Rattle.ug_group_rules.specs.Packets as packets
 use Rattle.ug_slow_subgroup.specs.declared.saying.Saying.{Saying}
 use Rattle.ug_slow_subgroup.specs.declared.saying.Saying.TheVariants as sayings
 use Rattle.ug_slow_subgroup.specs.declared.due.Due.{Due}

@@ -2,9 +2,9 @@
 
 ghost use Rattle.std.specs.Prelude.{◌≡◌, IfOk, OnOk, not};
 ghost use Rattle.ug_types.specs.Bytes.{is_empty};
-ghost use Rattle.ug_pending.specs.Pending.{nothing_out, with_formatted};
+ghost use Rattle.ug_adjout_rules.specs.Pending.{nothing_out, with_formatted};
 ghost use Rattle.ug_pack.specs.Ready.{key_order};
-ghost use Rattle.ug_machine.specs.Packets.{same_out, with_all_desired, all_forced, with_told, routes_due};
+ghost use Rattle.ug_group_rules.specs.Packets.{same_out, with_all_desired, all_forced, with_told, routes_due};
 ghost use Rattle.ug_slow_subgroup.specs.Views.{due_of};
 
 use crate::due::Due;
@@ -29,7 +29,7 @@ pub struct AdjOut {
 }
 
 impl Model for AdjOut {
-    ghost use Rattle.ug_machine.specs.Packets.{Out};
+    ghost use Rattle.ug_group_rules.specs.Packets.{Out};
 
     ghost Value = { Out };
 

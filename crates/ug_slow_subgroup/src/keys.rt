@@ -2,7 +2,7 @@
 
 ghost use Rattle.std.specs.Prelude.{◌≡◌, IfOk};
 ghost use Rattle.std.specs.BTreeSet.{insert_key};
-ghost use Rattle.ug_pending.specs.Tables as tables;
+ghost use Rattle.ug_adjout_rules.specs.Tables as tables;
 ghost use Rattle.ug_pack.specs.Ready.{key_order};
 
 use std::alloc::Global;

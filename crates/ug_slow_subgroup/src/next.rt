@@ -4,10 +4,10 @@ ghost use Rattle.std.specs.Prelude.{◌≡◌, not, is_some, Some, IfOk};
 ghost use Rattle.std.specs.Option.{option_eq};
 ghost use Rattle.std.specs.List.{filter};
 ghost use Rattle.ug_types.specs.Keys.{weight_of};
-ghost use Rattle.ug_pending.specs.Tables as tables;
-ghost use Rattle.ug_pending.specs.Formatting as packets;
+ghost use Rattle.ug_adjout_rules.specs.Tables as tables;
+ghost use Rattle.ug_adjout_rules.specs.Formatting as packets;
 ghost use Rattle.ug_pack.specs.Ready.{key_order};
-ghost use Rattle.ug_machine.specs.Packets.{same_out};
+ghost use Rattle.ug_group_rules.specs.Packets.{same_out};
 ghost use Rattle.ug_slow_subgroup.specs.Views.{due_of};
 ghost use Rattle.ug_slow_subgroup.specs.Dues.{announced_in, due_in};
 

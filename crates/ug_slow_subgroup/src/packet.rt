@@ -2,7 +2,7 @@
 
 ghost use Rattle.std.specs.Prelude.{◌≡◌, IfOk};
 ghost use Rattle.ug_types.specs.Messages.{message_of};
-ghost use Rattle.ug_machine.specs.Packets.{message_to};
+ghost use Rattle.ug_group_rules.specs.Packets.{message_to};
 
 use crate::says::Says;
 use std::alloc::Global;
@@ -17,7 +17,7 @@ pub struct Packet {
 }
 
 impl Model for Packet {
-    ghost use Rattle.ug_machine.specs.Packets.{Packet as Formatted};
+    ghost use Rattle.ug_group_rules.specs.Packets.{Packet as Formatted};
 
     ghost Value = { Formatted };
 

@@ -3,7 +3,7 @@
 ghost use Rattle.std.specs.Prelude.{◌≡◌, ◌++◌, ◌∷◌, [], IfOk, OnOk, option_copied};
 ghost use Rattle.std.specs.Map.{remove_entry, keys_of};
 ghost use Rattle.std.specs.BTreeMap.{insert_entry, is_at};
-ghost use Rattle.ug_pending.specs.Tables as tables;
+ghost use Rattle.ug_adjout_rules.specs.Tables as tables;
 ghost use Rattle.ug_pack.specs.Ready.{key_order};
 
 use crate::keys::with_key;

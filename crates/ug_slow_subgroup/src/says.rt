@@ -2,7 +2,7 @@
 
 ghost use Rattle.std.specs.Prelude.{◌≡◌, IfOk};
 ghost use Rattle.ug_types.specs.Messages.{message_of};
-ghost use Rattle.ug_machine.specs.Packets.{message_to};
+ghost use Rattle.ug_group_rules.specs.Packets.{message_to};
 ghost use Rattle.ug_slow_subgroup.specs.Views.{says_of};
 
 use crate::saying::Saying;
@@ -19,7 +19,7 @@ pub struct Says {
 }
 
 impl Model for Says {
-    ghost use Rattle.ug_machine.specs.Packets.{Says as Told};
+    ghost use Rattle.ug_group_rules.specs.Packets.{Says as Told};
     ghost use Rattle.ug_slow_subgroup.specs.Views.{says_of};
 
     ghost Value = { Told };

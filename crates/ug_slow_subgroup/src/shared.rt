@@ -2,7 +2,7 @@
 
 ghost use Rattle.std.specs.Prelude.{◌≡◌, IfOk, option_copied};
 ghost use Rattle.std.specs.Option.{option_eq};
-ghost use Rattle.ug_machine.specs.Packets.{same_out};
+ghost use Rattle.ug_group_rules.specs.Packets.{same_out};
 
 use std::alloc::Global;
 use std::marker::Model;

@@ -1,9 +1,9 @@
 //! A subgroup.
 
 ghost use Rattle.std.specs.Prelude.{◌≡◌, ◌+◌, ◌&&◌, IfOk, OnOk, if◌then◌else◌};
-ghost use Rattle.ug_pending.specs.Formatting.Due.{Nothing};
-ghost use Rattle.ug_machine.specs.Packets.{same_group};
-ghost use Rattle.ug_machine.specs.Machine.{is_owed, is_quiet, is_pending, owes, is_level, is_joinable, unstuck, with_routes, next_packet, formatted, fresh_subgroup, rekeyed, asked, retabled};
+ghost use Rattle.ug_adjout_rules.specs.Formatting.Due.{Nothing};
+ghost use Rattle.ug_group_rules.specs.Packets.{same_group};
+ghost use Rattle.ug_group_rules.specs.Machine.{is_owed, is_quiet, is_pending, owes, is_level, is_joinable, unstuck, with_routes, next_packet, formatted, fresh_subgroup, rekeyed, asked, retabled};
 ghost use Rattle.ug_slow_subgroup.specs.Views.{due_of};
 
 use crate::adj_out::AdjOut;
@@ -13,7 +13,7 @@ use crate::says::Says;
 use crate::wanted::wanted_rows;
 use std::alloc::Global;
 use std::marker::Model;
-use ug_machine::Phase;
+use ug_group_rules::Phase;
 use ug_outbound::GroupKey;
 use ug_types::NoMemory;
 use ug_world::World;
@@ -35,7 +35,7 @@ pub struct Subgroup {
 }
 
 impl Model for Subgroup {
-    ghost use Rattle.ug_machine.specs.Machine.{Subgroup as Members};
+    ghost use Rattle.ug_group_rules.specs.Machine.{Subgroup as Members};
 
     ghost Value = { Members };
 

@@ -2,10 +2,10 @@
 
 ghost use Rattle.std.specs.Prelude.{◌≡◌, ◌++◌, ◌&&◌, ◌||◌, not, is_some, IfOk, OnOk};
 ghost use Rattle.std.specs.List.{filter};
-ghost use Rattle.ug_pending.specs.Tables as tables;
-ghost use Rattle.ug_pending.specs.Pending as lists;
+ghost use Rattle.ug_adjout_rules.specs.Tables as tables;
+ghost use Rattle.ug_adjout_rules.specs.Pending as lists;
 ghost use Rattle.ug_pack.specs.Ready.{key_order};
-ghost use Rattle.ug_machine.specs.Packets.{same_out};
+ghost use Rattle.ug_group_rules.specs.Packets.{same_out};
 
 use crate::keys::has;
 use crate::rows::{Row, value_at};

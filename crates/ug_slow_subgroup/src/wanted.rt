@@ -4,7 +4,7 @@ ghost use Rattle.std.specs.Prelude.{◌≡◌, ◌<◌, ◌==◌, [], find, fals
 ghost use Rattle.std.specs.List.{fold};
 ghost use Rattle.ug_types.specs.declared.route.Path as stored;
 ghost use Rattle.ug_world.specs.Private.{path_at, wanted};
-ghost use Rattle.ug_machine.specs.Packets.{with_wanted, wanted_rows};
+ghost use Rattle.ug_group_rules.specs.Packets.{with_wanted, wanted_rows};
 
 use crate::rows::{Row, with_value};
 use crate::shared::SharedAttrs;
@@ -23,7 +23,7 @@ pub fn wanted_rows(alloc: Global, group: &GroupKey, world: &World) -> Result<Vec
 }
 
 /// The same, over a counter that nobody reads.
-#[tactic(auto, unfolding(ug_machine::specs::Packets::wanted_rows))]
+#[tactic(auto, unfolding(ug_group_rules::specs::Packets::wanted_rows))]
 fn counted_rows<L: Ledger>(
     alloc: Global,
     blank: Blank,

@@ -23,7 +23,7 @@ use Rattle.ug_outbound.specs.declared.settings.Local.{Local}
 use Rattle.ug_outbound.specs.declared.key.GroupKey.{GroupKey}
 use Rattle.ug_outbound.specs.Keys.{ends_of}
 use Rattle.ug_outbound.specs.Outbound.{is_let_out, out}
-use Rattle.ug_deeds.specs.Deeds.{Each}
+use Rattle.ug_history_rules.specs.Deeds.{Each}
 use Rattle.ug_message.specs.Spellable.{is_number, is_prefix, is_route, is_address, can_be_spelled}
 use Rattle.ug_message.proofs.Formed.{both, and, family_is}
 use Rattle.ug_events.specs.Events.{GivenPath, Happening, ComesUp, GoesDown, HasPaths, HasNone, HasPolicy, HasEntries, AsksAgain, SendsRequest, SendsList}

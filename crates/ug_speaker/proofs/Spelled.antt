@@ -30,7 +30,7 @@ use Rattle.ug_outbound.specs.declared.kind.Kind.TheVariants.{External, Internal,
 use Rattle.ug_outbound.specs.declared.key.GroupKey.{GroupKey}
 use Rattle.ug_outbound.specs.Outbound.{number_of_address, reflected, mapped, mapped_by_map, heeded, privates_removed, as_overridden, prepended_towards, local_pref_out, med_out, communities_out, attributes_out, out}
 use Rattle.ug_outbound.proofs.Bounds.{comes_of}
-use Rattle.ug_deeds.specs.Deeds.{Each}
+use Rattle.ug_history_rules.specs.Deeds.{Each}
 use Rattle.ug_message.specs.Spellable.{is_number, is_address, is_aggregator, has_numbers, where_there, can_be_spelled}
 use Rattle.ug_message.proofs.Formed.{both, and}
 use Rattle.ug_speaker.specs.Ranges.{IsRuleInRange, IsMapInRange}

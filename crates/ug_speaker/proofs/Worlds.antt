@@ -12,7 +12,7 @@ use Rattle.ug_types.specs.Keys.{same_prefix, prefix_cmp}
 use Rattle.ug_types.specs.declared.key.Key.{Key}
 use Rattle.ug_types.specs.declared.route.Path.{Path}
 use Rattle.ug_types.specs.declared.route.OutAttrs.{OutAttrs}
-use Rattle.ug_deeds.specs.Deeds.{Each}
+use Rattle.ug_history_rules.specs.Deeds.{Each}
 use Rattle.ug_rewrite.specs.NextHops.{told_to}
 use Rattle.ug_outbound.specs.Keys.{ends_of}
 use Rattle.ug_outbound.specs.Outbound.{out}

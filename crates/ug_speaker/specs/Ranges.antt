@@ -7,7 +7,7 @@ use Rattle.ug_types.specs.declared.family.Family.TheVariants.{V4}
 use Rattle.ug_routemap.specs.Rules.{MapRule}
 use Rattle.ug_routemap.specs.Named.{NamedMap}
 use Rattle.ug_outbound.specs.Outbound.{number_of_address}
-use Rattle.ug_deeds.specs.Deeds.{Each}
+use Rattle.ug_history_rules.specs.Deeds.{Each}
 use Rattle.ug_message.specs.Spellable.{is_number, is_prefix, is_address, where_there, can_be_spelled}
 use Rattle.ug_events.specs.Events.{GivenPath, Happening, ComesUp, GoesDown, HasPaths, HasNone, HasPolicy, HasEntries, AsksAgain, SendsRequest, SendsList}
 use Rattle.ug_world.specs.declared.peer_state.PeerState.{PeerState}

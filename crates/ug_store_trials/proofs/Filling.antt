@@ -5,9 +5,9 @@ use Rattle.std.specs.List.Sorted.{IsStrictlySortedBy}
 use Rattle.ug_types.specs.declared.family.Family.TheVariants.{V4}
 use Rattle.ug_types.specs.declared.key.Key.{Key}
 use Rattle.ug_types.specs.declared.route.OutAttrs.{OutAttrs}
-use Rattle.ug_pending.specs.Tables.{has}
-use Rattle.ug_pending.specs.TableLaws.{with_value-sorted}
-use Rattle.ug_pending.specs.Pending.{AdjRibOut, nothing_out, with_desired, with_formatted}
+use Rattle.ug_adjout_rules.specs.Tables.{has}
+use Rattle.ug_adjout_rules.specs.TableLaws.{with_value-sorted}
+use Rattle.ug_adjout_rules.specs.Pending.{AdjRibOut, nothing_out, with_desired, with_formatted}
 use Rattle.ug_pack.specs.Ready.{key_order, IsKeyOf, IsLive}
 use Rattle.ug_store_trials.specs.Filled.{IsFilled}
 use Rattle.ug_pack.proofs.Keys.{key_total, key_exact}

@@ -3,8 +3,8 @@ use Rattle.std.specs.Prelude.{ℕ, Bool, false}
 use Rattle.ug_types.specs.declared.family.Family.TheVariants.{V4}
 use Rattle.ug_types.specs.declared.key.Key.{Key}
 use Rattle.ug_types.specs.declared.route.OutAttrs.{OutAttrs}
-use Rattle.ug_pending.specs.Tables.{IsTable}
-use Rattle.ug_pending.specs.Pending.{AdjRibOut}
+use Rattle.ug_adjout_rules.specs.Tables.{IsTable}
+use Rattle.ug_adjout_rules.specs.Pending.{AdjRibOut}
 use Rattle.ug_intern.specs.Pools.{Pooled, held}
 use Rattle.ug_pack.specs.Ready.{key_order, IsLive, IsReady}
 

@@ -1,9 +1,9 @@
 //! The plain, slow Adj-RIB-Out.
 ghost use Rattle.std.specs.Prelude.{◌≡◌, ◌<◌, nat_eq, length, IfOk, OnOk, IsTrue, ◌↔◌, None, Some};
 ghost use Rattle.ug_types.specs.Keys.{weight_of};
-ghost use Rattle.ug_pending.specs.Tables as tables;
-ghost use Rattle.ug_pending.specs.Pending.{nothing_out, with_desired, with_all_forced, with_formatted};
-ghost use Rattle.ug_pending.specs.Formatting as packets;
+ghost use Rattle.ug_adjout_rules.specs.Tables as tables;
+ghost use Rattle.ug_adjout_rules.specs.Pending.{nothing_out, with_desired, with_all_forced, with_formatted};
+ghost use Rattle.ug_adjout_rules.specs.Formatting as packets;
 ghost use Rattle.ug_store_trials.specs.Orders.{key_order};
 
 use crate::rows::{has, keys_of_both, value_at, with_value, without};
@@ -26,7 +26,7 @@ pub struct SlowOut {
 impl Model for SlowOut {
     ghost use Rattle.std.specs.Prelude.{ℕ};
     ghost use Rattle.ug_types.specs.declared.key.Key.{Key as Route};
-    ghost use Rattle.ug_pending.specs.Pending.{AdjRibOut};
+    ghost use Rattle.ug_adjout_rules.specs.Pending.{AdjRibOut};
 
     ghost Value = { AdjRibOut Route ℕ };
 

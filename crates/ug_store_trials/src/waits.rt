@@ -3,9 +3,9 @@ ghost use Rattle.std.specs.Prelude.{◌≡◌, ◌++◌, ◌&&◌, ◌||◌, not
 ghost use Rattle.std.specs.Option.{option_eq};
 ghost use Rattle.std.specs.List.{filter};
 ghost use Rattle.ug_types.specs.Keys.{weight_of};
-ghost use Rattle.ug_pending.specs.Tables as tables;
-ghost use Rattle.ug_pending.specs.Pending as lists;
-ghost use Rattle.ug_pending.specs.Formatting as packets;
+ghost use Rattle.ug_adjout_rules.specs.Tables as tables;
+ghost use Rattle.ug_adjout_rules.specs.Pending as lists;
+ghost use Rattle.ug_adjout_rules.specs.Formatting as packets;
 ghost use Rattle.ug_store_trials.specs.Orders.{key_order};
 
 use crate::rows::{has, value_at};

@@ -2,9 +2,9 @@ use Rattle.std.proofs.Common.{ℕ, List, sym, subst, length, map, take}
 use Rattle.std.proofs.lemmas.List.{length-map}
 use Rattle.ug_edge.specs.Told.{WiresMade}
 use Rattle.ug_report.specs.Report.{names_in}
-use Rattle.ug_sound.specs.One.{one_world}
+use Rattle.ug_input_laws.specs.One.{one_world}
 use Rattle.ug_wiring.specs.Wires.{HasMade}
-use Rattle.ug_promise.specs.Contents.{WireTold}
+use Rattle.ug_run_rules.specs.Contents.{WireTold}
 use Rattle.ug_main.proofs.run.Goals as goal
 
 -- as many wires tell something as were given back

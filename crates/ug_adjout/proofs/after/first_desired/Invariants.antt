@@ -1,6 +1,6 @@
 use Rattle.std.proofs.Common.{◌≡◌, slice_get}
 use Rattle.std.specs.Option.{option_copied}
-use Rattle.ug_pending.specs.Tables.{rows_after}
+use Rattle.ug_adjout_rules.specs.Tables.{rows_after}
 use Rattle.ug_adjout.specs.Stored.{projected, desired_of}
 use Rattle.ug_adjout.proofs.after.first_desired.Given as goal
 

@@ -1,7 +1,7 @@
 use Rattle.std.proofs.Common.{rules, ◌≡◌, Some, None, sym, ap, ◌∙◌}
 use Rattle.std.specs.BTreeMap.Entry.{entry_map_ref, entry_value, map_with_value, map_without_entry}
-use Rattle.ug_pending.specs.Tables.{value_at}
-use Rattle.ug_pending.specs.TableLaws.{with_value-same}
+use Rattle.ug_adjout_rules.specs.Tables.{value_at}
+use Rattle.ug_adjout_rules.specs.TableLaws.{with_value-same}
 use Rattle.ug_adjout.proofs.Stepped.{at_error}
 use Rattle.ug_adjout.proofs.rows.step_entry.Goals as goal
 

@@ -2,8 +2,8 @@ use Rattle.std.proofs.Common.{◌≡◌, is_some, Some, None, sym, ap, ◌∙◌
 use Rattle.std.specs.Map.{remove_entry}
 use Rattle.std.specs.BTreeMap.{is_at}
 use Rattle.std.proofs.lemmas.Map.Steps.{set_value_same}
-use Rattle.ug_pending.specs.Tables.{value_at, with_value}
-use Rattle.ug_pending.specs.TableLaws.{with_value-same}
+use Rattle.ug_adjout_rules.specs.Tables.{value_at, with_value}
+use Rattle.ug_adjout_rules.specs.TableLaws.{with_value-same}
 use Rattle.ug_adjout.specs.Stepped.{known, stepped}
 use Rattle.ug_adjout.proofs.Stepped.{written_there, at_error, makes_none}
 use Rattle.ug_adjout.proofs.rows.step_found.Goals as goal

@@ -1,5 +1,5 @@
 use Rattle.std.proofs.Common.{◌≡◌, [], map, drop}
-use Rattle.ug_tables.specs.Tables.{Table}
+use Rattle.ug_table_rules.specs.Tables.{Table}
 use Rattle.ug_packing.specs.Packing.{by_attributes}
 use Rattle.ug_packing.proofs.putting.all_grouped.Given as goal
 

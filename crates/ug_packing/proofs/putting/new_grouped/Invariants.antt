@@ -1,6 +1,6 @@
 use Rattle.std.proofs.Common.{◌≡◌, [], map, drop}
 use Rattle.std.specs.Prelude.{filter}
-use Rattle.ug_tables.specs.Tables.{Table}
+use Rattle.ug_table_rules.specs.Tables.{Table}
 use Rattle.ug_packing.specs.Packing.{by_attributes, is_new}
 use Rattle.ug_packing.proofs.putting.new_grouped.Given as goal
 

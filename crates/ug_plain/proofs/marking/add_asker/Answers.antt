@@ -1,6 +1,6 @@
 use Rattle.std.proofs.Common.{Bool, ◌&&◌, List, ◌++◌, [], ◌∷◌, sym, ap, ◌∙◌}
 use Rattle.ug_types.specs.declared.mark.Mark.{Mark}
-use Rattle.ug_deeds.specs.Deeds.{when}
+use Rattle.ug_history_rules.specs.Deeds.{when}
 use Rattle.ug_plain_rules.specs.Plain.{is_live, mark_at}
 use Rattle.ug_plain.specs.Seated.{seats_of}
 use Rattle.ug_events.specs.Views.{event_of}

@@ -2,8 +2,8 @@ use Rattle.std.proofs.Common.{◌≡◌, Some, length, map, sym, ◌∙◌, ap, 
 use Rattle.ug_pieces.specs.ReadingLaws.{Rose-later}
 use Rattle.ug_crew.specs.Posts.{posts}
 use Rattle.std.proofs.lemmas.List.{length-map}
-use Rattle.ug_builder.specs.Reading.{Outside, first_of}
-use Rattle.ug_builder.specs.declared.reading.End.TheVariants as ends
+use Rattle.ug_event_loop.specs.Reading.{Outside, first_of}
+use Rattle.ug_event_loop.specs.declared.reading.End.TheVariants as ends
 use Rattle.ug_wiring.specs.Lanes.{AreAtPosts, fresh_lanes}
 use Rattle.ug_wiring.proofs.LaneLaws.{lanes_many}
 use Rattle.ug_commands.specs.Statuses.{row_of}

@@ -1,6 +1,6 @@
 use Rattle.std.proofs.Common.{[], inl, inr, refl, ◌∙◌, ap, arith}
 use Rattle.ug_report.specs.Report.{names_in}
-use Rattle.ug_sound.specs.One.{one_world}
+use Rattle.ug_input_laws.specs.One.{one_world}
 use Rattle.ug_commands.specs.declared.status.Status.TheVariants as statuses
 use Rattle.ug_run.proofs.Starting.{early-home, made-idle}
 use Rattle.ug_run.proofs.serving.one.Goals as goal

@@ -1,7 +1,7 @@
 use Rattle.std.proofs.Common.{◌≡◌, ℕ, Some, slice_get, sym, ap, ◌∙◌}
 use Rattle.std.specs.Prelude.{option_copied}
 use Rattle.ug_types.specs.declared.route.OutAttrs.{OutAttrs}
-use Rattle.ug_pending.specs.Tables.{value_at}
+use Rattle.ug_adjout_rules.specs.Tables.{value_at}
 use Rattle.ug_pack.specs.Rooms.{room_beside}
 use Rattle.ug_pack.specs.Ready.{key_order}
 use Rattle.ug_outbound.specs.Keys.{limit_of}

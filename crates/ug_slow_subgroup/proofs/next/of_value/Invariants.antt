@@ -1,8 +1,8 @@
 use Rattle.std.proofs.Common.{◌≡◌, ◌++◌, drop, Some}
 use Rattle.std.specs.List.{filter}
-use Rattle.ug_machine.specs.Packets.{same_out}
+use Rattle.ug_group_rules.specs.Packets.{same_out}
 use Rattle.std.specs.Option.{option_eq}
-use Rattle.ug_pending.specs.Tables.{value_at}
+use Rattle.ug_adjout_rules.specs.Tables.{value_at}
 use Rattle.ug_pack.specs.Ready.{key_order}
 use Rattle.ug_slow_subgroup.proofs.next.of_value.Given as goal
 

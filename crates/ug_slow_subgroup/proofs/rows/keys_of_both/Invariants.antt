@@ -1,6 +1,6 @@
 use Rattle.std.proofs.Common.{◌≡◌, drop}
 use Rattle.std.specs.Map.{keys_of}
-use Rattle.ug_pending.specs.Tables.{joined}
+use Rattle.ug_adjout_rules.specs.Tables.{joined}
 use Rattle.ug_pack.specs.Ready.{key_order}
 use Rattle.ug_slow_subgroup.proofs.rows.keys_of_both.Given as goal
 

@@ -1,5 +1,5 @@
 use Rattle.std.proofs.Common.{◌≡◌, drop}
-use Rattle.ug_pending.specs.Tables.{value_at}
+use Rattle.ug_adjout_rules.specs.Tables.{value_at}
 use Rattle.ug_pack.specs.Ready.{key_order}
 use Rattle.ug_slow_subgroup.proofs.rows.value_at.Given as goal
 

@@ -1,9 +1,9 @@
 use Rattle.std.proofs.Common.{◌≡◌, ◌++◌, drop}
 use Rattle.std.specs.List.{filter}
 use Rattle.std.specs.Prelude.{not, ◌&&◌}
-use Rattle.ug_machine.specs.Packets.{same_out}
-use Rattle.ug_pending.specs.Tables.{has}
-use Rattle.ug_pending.specs.Pending.{waits}
+use Rattle.ug_group_rules.specs.Packets.{same_out}
+use Rattle.ug_adjout_rules.specs.Tables.{has}
+use Rattle.ug_adjout_rules.specs.Pending.{waits}
 use Rattle.ug_pack.specs.Ready.{key_order}
 use Rattle.ug_slow_subgroup.proofs.waits.add_pending.Given as goal
 

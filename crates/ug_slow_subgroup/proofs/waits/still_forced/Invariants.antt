@@ -1,5 +1,5 @@
 use Rattle.std.proofs.Common.{◌≡◌, ◌++◌, drop}
-use Rattle.ug_pending.specs.Pending.{still_forced}
+use Rattle.ug_adjout_rules.specs.Pending.{still_forced}
 use Rattle.ug_pack.specs.Ready.{key_order}
 use Rattle.ug_slow_subgroup.proofs.waits.still_forced.Given as goal
 

@@ -1,6 +1,6 @@
 use Rattle.std.proofs.Common.{◌≡◌, [], drop}
 use Rattle.std.specs.List.{fold}
-use Rattle.ug_machine.specs.Packets.{with_wanted}
+use Rattle.ug_group_rules.specs.Packets.{with_wanted}
 use Rattle.ug_slow_subgroup.proofs.wanted.rows_under.Given as goal
 
 -- those so far with those that are left

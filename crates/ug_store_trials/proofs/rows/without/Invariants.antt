@@ -1,5 +1,5 @@
 use Rattle.std.proofs.Common.{◌≡◌, ◌++◌, drop}
-use Rattle.ug_pending.specs.Tables.{without}
+use Rattle.ug_adjout_rules.specs.Tables.{without}
 use Rattle.ug_store_trials.specs.Orders.{key_order}
 use Rattle.ug_store_trials.proofs.rows.without.Given as goal
 

@@ -1,8 +1,8 @@
 use Rattle.std.proofs.Common.{◌≡◌, ◌++◌, drop}
 use Rattle.std.specs.List.{filter}
 use Rattle.std.specs.Prelude.{nat_eq, not, ◌&&◌}
-use Rattle.ug_pending.specs.Tables.{has}
-use Rattle.ug_pending.specs.Pending.{waits}
+use Rattle.ug_adjout_rules.specs.Tables.{has}
+use Rattle.ug_adjout_rules.specs.Pending.{waits}
 use Rattle.ug_store_trials.specs.Orders.{key_order}
 use Rattle.ug_store_trials.proofs.waits.add_pending.Given as goal
 

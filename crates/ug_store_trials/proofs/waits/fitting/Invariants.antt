@@ -1,6 +1,6 @@
 use Rattle.std.proofs.Common.{◌≡◌, ◌++◌, drop}
 use Rattle.ug_types.specs.Keys.{weight_of}
-use Rattle.ug_pending.specs.Formatting.{fitting}
+use Rattle.ug_adjout_rules.specs.Formatting.{fitting}
 use Rattle.ug_store_trials.proofs.waits.fitting.Given as goal
 
 -- those so far, and then as many of those that are left as have room

@@ -2,7 +2,7 @@ use Rattle.std.proofs.Common.{◌≡◌, ◌++◌, drop}
 use Rattle.std.specs.List.{filter}
 use Rattle.std.specs.Prelude.{nat_eq}
 use Rattle.std.specs.Option.{option_eq}
-use Rattle.ug_pending.specs.Tables.{value_at}
+use Rattle.ug_adjout_rules.specs.Tables.{value_at}
 use Rattle.ug_store_trials.specs.Orders.{key_order}
 use Rattle.ug_store_trials.proofs.waits.of_value.Given as goal
 

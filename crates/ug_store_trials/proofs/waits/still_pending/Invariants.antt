@@ -1,7 +1,7 @@
 use Rattle.std.proofs.Common.{◌≡◌, ◌++◌, drop}
 use Rattle.std.specs.List.{filter}
 use Rattle.std.specs.Prelude.{nat_eq}
-use Rattle.ug_pending.specs.Pending.{waits}
+use Rattle.ug_adjout_rules.specs.Pending.{waits}
 use Rattle.ug_store_trials.specs.Orders.{key_order}
 use Rattle.ug_store_trials.proofs.waits.still_pending.Given as goal
 

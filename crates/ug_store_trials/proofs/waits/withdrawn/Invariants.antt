@@ -1,7 +1,7 @@
 use Rattle.std.proofs.Common.{◌≡◌, ◌++◌, drop}
 use Rattle.std.specs.List.{filter}
 use Rattle.std.specs.Prelude.{is_some, not}
-use Rattle.ug_pending.specs.Tables.{value_at}
+use Rattle.ug_adjout_rules.specs.Tables.{value_at}
 use Rattle.ug_store_trials.specs.Orders.{key_order}
 use Rattle.ug_store_trials.proofs.waits.withdrawn.Given as goal
 

@@ -1,6 +1,6 @@
 use Rattle.std.proofs.Common.{◌≡◌, None, Some, refl, sym, ap, ◌∙◌}
 use Rattle.std.specs.Ordering.{nat_cmp}
-use Rattle.ug_pending.specs.Tables.{with_value}
+use Rattle.ug_adjout_rules.specs.Tables.{with_value}
 use Rattle.ug_adjout.proofs.Steps.{put_back}
 use Rattle.ug_adjout.proofs.Slots.{slot, slot_total, slot_exact, indexed_added, free_slot}
 use Rattle.ug_adjout.proofs.ByPlace.{placed_is}

@@ -1,5 +1,5 @@
 use Rattle.std.proofs.Common.{◌≡◌, ◌++◌, map}
-use Rattle.ug_pending.specs.Formatting.{fitting}
+use Rattle.ug_adjout_rules.specs.Formatting.{fitting}
 use Rattle.ug_adjout.specs.Waits.{keys_for}
 use Rattle.ug_adjout.specs.Places.{of_value}
 use Rattle.ug_adjout.proofs.line.Line.first_for.Given as goal

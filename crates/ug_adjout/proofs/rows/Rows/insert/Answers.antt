@@ -1,6 +1,6 @@
 use Rattle.std.proofs.Common.{◌<◌, is_some, sym, ap, subst, ◌∙◌}
 use Rattle.std.specs.BTreeMap.{insert_entry}
-use Rattle.ug_pending.specs.Tables.{IsTable}
+use Rattle.ug_adjout_rules.specs.Tables.{IsTable}
 use Rattle.ug_adjout.specs.Stored.{formatted_of, mark_of, of_row}
 use Rattle.ug_adjout.proofs.Counts.{some_counted, few_counted, put_counted}
 use Rattle.ug_adjout.proofs.Views.{marked}

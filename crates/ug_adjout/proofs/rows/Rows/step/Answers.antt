@@ -1,5 +1,5 @@
 use Rattle.std.proofs.Common.{◌<◌, is_some, ap, subst, ◌∙◌}
-use Rattle.ug_pending.specs.TableLaws.{with_value-sorted}
+use Rattle.ug_adjout_rules.specs.TableLaws.{with_value-sorted}
 use Rattle.ug_adjout.specs.Stored.{formatted_of, mark_of, of_row}
 use Rattle.ug_adjout.specs.Stepped.{known, stepped}
 use Rattle.ug_adjout.proofs.Counts.{some_counted, few_counted, step_counted}

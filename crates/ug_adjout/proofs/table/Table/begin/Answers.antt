@@ -3,7 +3,7 @@ use Rattle.std.specs.BTreeMap.{is_at}
 use Rattle.std.specs.Cmp.{nat_cmp_total}
 use Rattle.std.specs.FinMap.{nat_cmp-IsAntisymmetric}
 use Rattle.std.proofs.Common.{◌≡◌, nat_cmp, ◌+◌, arith, refl, ap, inr, Some, ◌∙◌}
-use Rattle.ug_pending.specs.TableLaws.{value_at-here}
+use Rattle.ug_adjout_rules.specs.TableLaws.{value_at-here}
 use Rattle.ug_adjout.specs.Stored.{with_change}
 use Rattle.ug_adjout.proofs.Steps.{stored, agree_free, next_free, put_back}
 use Rattle.ug_adjout.proofs.table.Table.begin.Goals as goal

@@ -2,7 +2,7 @@ use Rattle.std.proofs.Common.{Some, sym, ap, ◌∙◌}
 use Rattle.std.specs.Ordering.{is_eq}
 use Rattle.std.specs.Cmp.{nat_cmp_total}
 use Rattle.std.specs.FinMap.{nat_cmp-IsAntisymmetric}
-use Rattle.ug_pending.specs.TableLaws.{value_at-other}
+use Rattle.ug_adjout_rules.specs.TableLaws.{value_at-other}
 use Rattle.ug_adjout.proofs.Numbers.{greater, nothing_at, first_waits, first_is_from, behind_first, row_known, passed_same, stored_moved, view_moved, passed_moved}
 use Rattle.ug_adjout.proofs.table.Table.bring.Goals as goal
 

@@ -1,7 +1,7 @@
 use Rattle.std.proofs.Common.{◌≡◌, None, false, drop}
 use Rattle.std.specs.Prelude.{if◌then◌else◌}
 use Rattle.ug_types.specs.declared.key.Key.{Key}
-use Rattle.ug_tables.specs.Tables.{among}
+use Rattle.ug_table_rules.specs.Tables.{among}
 use Rattle.ug_receiver.specs.Rows.{row_at}
 use Rattle.ug_receiver.proofs.table.Table.withdraw.Given as goal
 

@@ -1,8 +1,8 @@
 use Rattle.std.proofs.Common.{◌≡◌, List, IfOk, ap, subst, ◌∙◌}
 use Rattle.ug_types.specs.declared.key.Key.{Key}
 use Rattle.ug_types.specs.declared.route.OutAttrs.{OutAttrs}
-use Rattle.ug_pending.specs.Formatting.{Due}
-use Rattle.ug_machine.specs.Packets.{Rows, Out, routes_due}
+use Rattle.ug_adjout_rules.specs.Formatting.{Due}
+use Rattle.ug_group_rules.specs.Packets.{Rows, Out, routes_due}
 use Rattle.ug_slow_subgroup.specs.Views.{due_of}
 use Rattle.ug_slow_subgroup.specs.Dues.{due_in}
 use Rattle.ug_slow_subgroup.proofs.adj_out.AdjOut.due.Goals as goal

@@ -1,5 +1,5 @@
 use Rattle.std.proofs.Common.{◌≡◌, drop}
-use Rattle.ug_machine.specs.Packets.{with_told}
+use Rattle.ug_group_rules.specs.Packets.{with_told}
 use Rattle.ug_slow_subgroup.proofs.adj_out.AdjOut.tell.Given as goal
 
 -- those so far with those that are left

@@ -1,0 +1,127 @@
+-- Where a builder stands, or stops, after a line.
+use Rattle.std.proofs.Common.{◌≡◌, ℕ, ◌+◌, List, [], ◌∷◌, ◌++◌, Option, refl, sym, ◌∙◌, ap, subst}
+use Rattle.std.specs.List.{concat}
+use Rattle.ug_edge.specs.Told.{AppendsPiece}
+use Rattle.ug_pieces.specs.Reporting.{AppendsFront}
+use Rattle.ug_board.specs.Entry.{Entry}
+use Rattle.ug_board.specs.Rules.{Rules}
+use Rattle.ug_turnstile.specs.Passes.{Held, IsSamePass}
+use Rattle.ug_events.specs.Events.{Saying}
+use Rattle.ug_events.specs.Reads.{Reads}
+use Rattle.ug_speaker.specs.Speech.{Speech}
+use Rattle.ug_speaker.specs.Owes.{StepsRight}
+use Rattle.ug_report.specs.Report.{Answer, answer_texts}
+use Rattle.ug_event_loop.specs.declared.came.Came.{Came}
+use Rattle.ug_event_loop.specs.declared.stop.Stop.{Stop}
+use Rattle.ug_event_loop.specs.declared.stop.Stop.TheVariants as stops
+use Rattle.ug_event_loop.specs.declared.tally.Tally.{Tally}
+use Rattle.ug_event_loop.specs.Turns.{GoesOn, AnswersAt, IsLegalAt, answer_of, is_taken, is_refused}
+use Rattle.ug_event_loop.specs.Standing.{said_by, Stands, Stops, BuilderView, IsSameBuilder, BuilderStands, BuilderStops, TakesLines, StopsWithin}
+use Rattle.ug_event_loop.proofs.Standings.{stands-still, stops-still, stops-before, takes-line, takes-untold, takes-stopped, admits}
+
+module _ {Opening State Job Said : Type 0} (rules : Rules Opening State Job Said) (speech : Speech Opening State Job Said) where
+  stands_as : (b : BuilderView Opening Job Said) (root : Option Opening) (first lines : List (Reads Saying)) (names : List (List ℕ)) (seen : List (Entry Job Said)) (before held : Option (List ℕ)) (tally : Tally)
+      → b.pass.root ≡ root → b.names ≡ names → b.pass.seen ≡ seen → b.tally ≡ tally
+      → Stands rules speech root first lines names seen before held tally → BuilderStands rules speech b first lines before held
+  stands_as b root first lines names seen before held tally r n s t stands =
+      subst (λ (x : Option Opening). Stands rules speech x first lines b.names b.pass.seen before held b.tally) (sym r)
+      (subst (λ (x : List (List ℕ)). Stands rules speech root first lines x b.pass.seen before held b.tally) (sym n)
+      (subst (λ (x : List (Entry Job Said)). Stands rules speech root first lines names x before held b.tally) (sym s)
+      (subst (λ (x : Tally). Stands rules speech root first lines names seen before held x) (sym t) stands)))
+
+  stops_as : (stop : Stop) (b : BuilderView Opening Job Said) (root : Option Opening) (first lines : List (Reads Saying)) (names : List (List ℕ)) (seen : List (Entry Job Said)) (before held : Option (List ℕ))
+      → b.pass.root ≡ root → b.names ≡ names → b.pass.seen ≡ seen
+      → Stops rules speech stop root first lines names seen before held → BuilderStops rules speech stop b first lines before held
+  stops_as stop b root first lines names seen before held r n s stops =
+      subst (λ (x : Option Opening). Stops rules speech stop x first lines b.names b.pass.seen before held) (sym r)
+      (subst (λ (x : List (List ℕ)). Stops rules speech stop root first lines x b.pass.seen before held) (sym n)
+      (subst (λ (x : List (Entry Job Said)). Stops rules speech stop root first lines names x before held) (sym s) stops))
+
+  -- what no line asks for leaves where a builder stands, and where it stopped
+  pub builder-still : (old new : BuilderView Opening Job Said) → IsSameBuilder old new → new.tally ≡ old.tally → GoesOn rules speech old.pass.seen new.pass.seen
+      → IsLegalAt rules speech new.pass.root new.pass.seen → (first lines : List (Reads Saying)) (before held : Option (List ℕ)) → BuilderStands rules speech old first lines before held → BuilderStands rules speech new first lines before held
+  builder-still old new same tally goes legal first lines before held stands =
+      stands_as new old.pass.root first lines old.names new.pass.seen before held old.tally same.pass.2 same.names refl tally
+      (stands-still rules speech old.pass.root first lines old.names old.pass.seen new.pass.seen before held old.tally goes
+      (λ _. subst (λ (r : Option Opening). IsLegalAt rules speech r new.pass.seen) same.pass.2 legal) stands)
+
+  pub builder-stays-stopped : (stop : Stop) (old new : BuilderView Opening Job Said) → IsSameBuilder old new → GoesOn rules speech old.pass.seen new.pass.seen
+      → IsLegalAt rules speech new.pass.root new.pass.seen → (first lines : List (Reads Saying)) (before held : Option (List ℕ)) → BuilderStops rules speech stop old first lines before held → BuilderStops rules speech stop new first lines before held
+  builder-stays-stopped stop old new same goes legal first lines before held stops =
+      stops_as stop new old.pass.root first lines old.names new.pass.seen before held same.pass.2 same.names refl
+      (stops-still rules speech stop old.pass.root first lines old.names old.pass.seen new.pass.seen before held goes
+      (subst (λ (r : Option Opening). IsLegalAt rules speech r new.pass.seen) same.pass.2 legal) stops)
+
+  -- memory was wanting, for the next of these lines or for what follows all
+  pub builder-starved : (old new : BuilderView Opening Job Said) → IsSameBuilder old new → GoesOn rules speech old.pass.seen new.pass.seen
+      → (IsLegalAt rules speech old.pass.root old.pass.seen → IsLegalAt rules speech new.pass.root new.pass.seen)
+      → (first lines more : List (Reads Saying)) (before held : Option (List ℕ)) → BuilderStands rules speech old first lines before held
+      → BuilderStops rules speech stops.NoMemory new first (lines ++ more) before held
+  builder-starved old new same goes legal first lines more before held stands =
+      stops_as stops.NoMemory new old.pass.root first (lines ++ more) old.names new.pass.seen before held same.pass.2 same.names refl
+      (stops-before rules speech old.pass.root first lines more old.names old.pass.seen new.pass.seen before held old.tally goes
+      (λ l. subst (λ (r : Option Opening). IsLegalAt rules speech r new.pass.seen) same.pass.2 (legal l)) stands)
+
+  module _ (steps : StepsRight rules speech) (old mid : BuilderView Opening Job Said) (held : Option (List ℕ)) (line : List ℕ) (came : Came Said) (same : IsSameBuilder old mid)
+      (answers : AnswersAt rules speech mid.pass.root (said_by old.grammar line) (answer_of speech.marks came) old.pass.seen mid.pass.seen)
+      (legal : IsLegalAt rules speech old.pass.root old.pass.seen → IsLegalAt rules speech mid.pass.root mid.pass.seen) where
+    answers_here : AnswersAt rules speech old.pass.root (said_by old.grammar line) (answer_of speech.marks came) old.pass.seen mid.pass.seen
+    answers_here = subst (λ (r : Option Opening). AnswersAt rules speech r (said_by old.grammar line) (answer_of speech.marks came) old.pass.seen mid.pass.seen) same.pass.2 answers
+
+    legal_here : IsLegalAt rules speech old.pass.root old.pass.seen → IsLegalAt rules speech old.pass.root mid.pass.seen
+    legal_here l = subst (λ (r : Option Opening). IsLegalAt rules speech r mid.pass.seen) same.pass.2 (legal l)
+
+    -- ---- what is told of the line, with the names and the count that the builder has
+
+    module _ (names : List (List ℕ)) (tally tally' : Tally) (new : BuilderView Opening Job Said) (held' : Option (List ℕ)) (names_is : names ≡ old.names) (tally_is : tally ≡ old.tally)
+        (lines' : tally'.lines ≡ tally.lines + 1) (pass_is : new.pass ≡ mid.pass) (new_names : new.names ≡ old.names) where
+      number_is : tally'.lines ≡ old.tally.lines + 1
+      number_is = lines' ∙ ap (λ (t : Tally). t.lines + 1) tally_is
+
+      texts_are : concat (answer_texts names tally'.lines (answer_of speech.marks came)) ≡ concat (answer_texts old.names (old.tally.lines + 1) (answer_of speech.marks came))
+      texts_are =
+          ap (λ (ns : List (List ℕ)). concat (answer_texts ns tally'.lines (answer_of speech.marks came))) names_is
+          ∙ ap (λ (n : ℕ). concat (answer_texts old.names n (answer_of speech.marks came))) number_is
+
+      root_is : new.pass.root ≡ old.pass.root
+      root_is = ap (λ (p : Held (Entry Job Said) Opening). p.root) pass_is ∙ same.pass.2
+
+      seen_is : new.pass.seen ≡ mid.pass.seen
+      seen_is = ap (λ (p : Held (Entry Job Said) Opening). p.seen) pass_is
+
+      pub builder-takes : AppendsPiece held held' (concat (answer_texts names tally'.lines (answer_of speech.marks came)))
+          → new.tally ≡ tally' → tally'.accepted ≡ tally.accepted + is_taken came → tally'.refused ≡ tally.refused + is_refused came
+          → TakesLines rules speech old held new held' (line ∷ [])
+      builder-takes told new_tally accepted' refused' first lines before stands =
+          stands_as new old.pass.root first (lines ++ said_by old.grammar line ∷ []) old.names mid.pass.seen before held' tally' root_is new_names seen_is new_tally
+          (takes-line rules speech steps old.pass.root old.names old.pass.seen mid.pass.seen held old.tally (said_by old.grammar line) came answers_here legal_here held' tally'
+          (subst (λ (text : List ℕ). AppendsPiece held held' text) texts_are told) number_is
+          (accepted' ∙ ap (λ (t : Tally). t.accepted + is_taken came) tally_is) (refused' ∙ ap (λ (t : Tally). t.refused + is_refused came) tally_is)
+          first lines before stands)
+
+      pub builder-stopped : (stop : Stop) → (stop ≡ stops.NoMemory → held' ≡ held)
+          → (stop ≡ stops.Report → AppendsFront held held' (concat (answer_texts names tally'.lines (answer_of speech.marks came))))
+          → StopsWithin rules speech stop old held new held' (line ∷ [])
+      builder-stopped stop starved failed first lines before stands =
+          stops_as stop new old.pass.root first (lines ++ said_by old.grammar line ∷ []) old.names mid.pass.seen before held' root_is new_names seen_is
+          (takes-stopped rules speech steps old.pass.root old.names old.pass.seen mid.pass.seen held old.tally (said_by old.grammar line) came answers_here legal_here stop held' starved
+          (λ is. subst (λ (text : List ℕ). AppendsFront held held' text) texts_are (failed is))
+          first lines before stands)
+
+    -- the line was taken, and no more can be counted
+    pub builder-uncounted : (new : BuilderView Opening Job Said) → new.pass ≡ mid.pass → new.names ≡ old.names → StopsWithin rules speech stops.NoMemory old held new held (line ∷ [])
+    builder-uncounted new pass_is new_names first lines before stands =
+        stops_as stops.NoMemory new old.pass.root first (lines ++ said_by old.grammar line ∷ []) old.names mid.pass.seen before held
+        (ap (λ (p : Held (Entry Job Said) Opening). p.root) pass_is ∙ same.pass.2) new_names (ap (λ (p : Held (Entry Job Said) Opening). p.seen) pass_is)
+        (takes-untold rules speech steps old.pass.root old.names old.pass.seen mid.pass.seen held old.tally (said_by old.grammar line) came answers_here legal_here first lines before stands)
+
+  pub builder-admits : (old new : BuilderView Opening Job Said) (pass : Held (Entry Job Said) Opening) (line : Reads Saying) (answer : Answer)
+      → IsSamePass old.pass pass → AnswersAt rules speech pass.root line answer old.pass.seen pass.seen → IsLegalAt rules speech pass.root pass.seen
+      → new.pass ≡ pass → new.names ≡ old.names → new.tally ≡ old.tally
+      → (held : Option (List ℕ)) → BuilderStands rules speech old [] [] held held → BuilderStands rules speech new (line ∷ []) [] held held
+  builder-admits old new pass line answer same answers legal pass_is names_is tally_is held stands =
+      stands_as new old.pass.root (line ∷ []) [] old.names pass.seen held held old.tally
+      (ap (λ (p : Held (Entry Job Said) Opening). p.root) pass_is ∙ same.2) names_is (ap (λ (p : Held (Entry Job Said) Opening). p.seen) pass_is) tally_is
+      (admits rules speech old.pass.root old.names old.pass.seen pass.seen held old.tally line answer
+      (subst (λ (r : Option Opening). AnswersAt rules speech r line answer old.pass.seen pass.seen) same.2 answers)
+      (subst (λ (r : Option Opening). IsLegalAt rules speech r pass.seen) same.2 legal) stands)

@@ -1,0 +1,9 @@
+use Rattle.std.proofs.Common.{◌≡◌}
+use Rattle.std.specs.Vec.{vec_len}
+use Rattle.ug_event_loop.proofs.beside.fn.beside.scope.Given as goal
+
+-- the posts are as they were, there is room for the lanes, and what is lent is as it was
+abbrev pub invariant-loop-place : goal.invariant-loop-place
+invariant-loop-place g l =
+    (l.workers.items ≡ l.initial.workers.items) × (vec_len l.workers ≡ vec_len l.initial.workers)
+    × (l.place-end ≡ l.initial.place-end) × (l.room ≡ l.initial.room) × (l.lent ≡ l.initial.lent)

@@ -1,0 +1,73 @@
+-- What a builder does on a board in its turns.
+use Rattle.std.specs.Prelude.{◌≡◌, ℕ, true, List, [], ◌++◌, Option, Some, None}
+use Rattle.ug_types.specs.declared.mark.Mark.{Mark}
+use Rattle.ug_board.specs.Entry.{Entry}
+use Rattle.ug_board.specs.Rules.{Rules}
+use Rattle.ug_board.specs.History.{IsLegal, replay}
+use Rattle.ug_history_rules.specs.Deeds.{Each}
+use Rattle.ug_events.specs.Events.{Saying}
+use Rattle.ug_events.specs.Reads.{Reads}
+use Rattle.ug_speaker.specs.Speech.{Speech}
+use Rattle.ug_speaker.specs.Told.{world_at}
+use Rattle.ug_report.specs.Report.{Answer, Passed, Refused, Took, Synced, answer_to}
+use Rattle.ug_speaker.specs.Story.{IsBetween, Does}
+use Rattle.ug_event_loop.specs.declared.came.Came.{Came}
+use Rattle.ug_event_loop.specs.declared.came.Came.TheVariants as cames
+
+-- what a line came to, with the marks that a reply tells
+abbrev pub answer_of : {Said : Type 0} → (Said → List Mark) → Came Said → Answer
+answer_of marks cames.Passed = Passed
+answer_of marks (cames.Refused number inner) = Refused (record { number = number; inner = inner })
+answer_of marks (cames.Took said) = Took (marks said)
+answer_of marks (cames.Synced said) = Synced (marks said)
+
+-- the marks in it
+abbrev pub marks_of : Answer → List Mark
+marks_of Passed = []
+marks_of (Refused refusal) = []
+marks_of (Took ms) = ms
+marks_of (Synced ms) = ms
+
+-- one where an event was taken, and one where the line was refused
+abbrev pub is_taken : {Said : Type 0} → Came Said → ℕ
+is_taken cames.Passed = 0
+is_taken (cames.Refused number inner) = 0
+is_taken (cames.Took said) = 1
+is_taken (cames.Synced said) = 0
+
+abbrev pub is_refused : {Said : Type 0} → Came Said → ℕ
+is_refused cames.Passed = 0
+is_refused (cames.Refused number inner) = 1
+is_refused (cames.Took said) = 0
+is_refused (cames.Synced said) = 0
+
+module _ {Opening State Job Said : Type 0} (rules : Rules Opening State Job Said) (speech : Speech Opening State Job Said) where
+  -- What no line asks for was done, and nothing else.
+  pub record GoesOn (old new : List (Entry Job Said)) : Type 0 where
+    pub more : List (Entry Job Said)
+    pub parts : new ≡ old ++ more
+    pub between : Each (IsBetween rules speech) more
+
+  -- For a line this was done, and this is what it came to.
+  pub record Answers (opening : Opening) (line : Reads Saying) (answer : Answer) (old new : List (Entry Job Said)) : Type 0 where
+    pub quiet : List (Entry Job Said)
+    pub did : List (Entry Job Said)
+    pub parts : new ≡ old ++ (quiet ++ did)
+    pub between : Each (IsBetween rules speech) quiet
+    pub does : Does rules speech line opening (old ++ quiet) (marks_of answer) did
+    pub is : answer_to (world_at rules speech opening (old ++ quiet)) line (marks_of answer) ≡ answer
+
+  -- the same of a pass, whose root is known
+  abbrev pub AnswersAt : Option Opening → Reads Saying → Answer → List (Entry Job Said) → List (Entry Job Said) → Type 0
+  AnswersAt None line answer old new = Unit {0}
+  AnswersAt (Some opening) line answer old new = Answers opening line answer old new
+
+  -- the same of the replay: the history is legal
+  abbrev pub IsLegalAt : Option Opening → List (Entry Job Said) → Type 0
+  IsLegalAt None seen = Unit {0}
+  IsLegalAt (Some opening) seen = IsLegal rules opening seen
+
+  -- and the work is ended: everything is told, and no job may be done any more
+  abbrev pub IsEndedAt : Option Opening → List (Entry Job Said) → Type 0
+  IsEndedAt None seen = Unit {0}
+  IsEndedAt (Some opening) seen = (speech.drained (replay rules opening seen) ≡ true) × (speech.closed (replay rules opening seen) ≡ true)

@@ -1,0 +1,353 @@
+//! The builder: it takes lines of events in turns of its own, and reports on them.
+
+ghost use Rattle.std.specs.Prelude.{◌≡◌, ◌≤◌, ◌∷◌, ◌+◌, ℕ, [], List, Option, false, true, Ok, Some, None, OnOk, OnErr, IfOk, IfErr, IsErrOf};
+ghost use Rattle.std.specs.List.{concat};
+ghost use Rattle.std.specs.String.{string_bytes};
+ghost use Rattle.ug_edge.specs.Told.{Rose, AppendsPiece};
+ghost use Rattle.ug_pieces.specs.Reporting.{AppendsFront};
+ghost use Rattle.ug_events.specs.Events.{IsEvent, Says, SaysSync};
+ghost use Rattle.ug_events.specs.Views.{event_of};
+ghost use Rattle.ug_report.specs.Report.{answer_texts};
+ghost use Rattle.ug_crew.specs.Posts.{AreHere};
+ghost use Rattle.ug_event_loop.specs.Turns.{GoesOn, AnswersAt, IsLegalAt, IsEndedAt, answer_of};
+ghost use Rattle.ug_event_loop.specs.Counts.{least_at, most_at, RisesBy, RisesWithin};
+ghost use Rattle.ug_event_loop.specs.Standing.{said_by, IsSameBuilder, BuilderStands, TakesLines, StopsWithin};
+
+use crate::came::Came;
+use crate::grammar::{Grammar, read};
+use crate::stop::Stop;
+use crate::tally::Tally;
+use crate::turns::{break_off_in_turn, conclude_in_turn, mark_in_turn, offer_in_turn};
+use std::alloc::Global;
+use std::marker::Model;
+use std::sync::Wait;
+use std::sync::ledger::Ledger;
+use ug_board::Board;
+use ug_crew::Crew;
+use ug_edge::{Sink, Wire};
+use ug_events::{Event, Line, LineRefusal};
+use ug_pieces::write_all;
+use ug_report::{write_marks, write_refusal};
+use ug_speaker::Speaker;
+use ug_turnstile::{Pass, Turnstile};
+use ug_types::{NameList, NoMemory, Steps};
+
+/// A builder. Contracts see its pass, which has number 0 and no turn, the names of the peers, the verbs that it knows,
+/// and how many lines it took.
+#[derive(Drop)]
+pub struct Builder<S: Speaker> {
+    alloc: Global,
+    pass: Pass<Board<S>>,
+    names: NameList,
+    grammar: Grammar,
+    coalesce: u32,
+    tally: Tally,
+}
+
+impl<S: Speaker> Model for Builder<S> {
+    ghost use Rattle.std.specs.Prelude.{◌≡◌, false};
+    ghost use Rattle.ug_event_loop.specs.Standing.{BuilderView};
+
+    ghost Value = { BuilderView S.Opening S.Job S.Said };
+
+    ghost view = { λ b. record { pass = b.pass; names = b.names.items; grammar = b.grammar; tally = b.tally } };
+
+    ghost invariant = { λ b. (b.pass.holds ≡ false) × (b.pass.number ≡ 0) };
+}
+
+impl<S: Speaker> Builder<S> {
+    /// A builder that has taken no lines. It pumps the lanes that work here after so many accepted events.
+    pub fn new(
+        alloc: Global,
+        pass: Pass<Board<S>>,
+        names: NameList,
+        grammar: Grammar,
+        coalesce: u32,
+    ) -> Self
+        requires free { pass.holds ≡ false }
+        requires number { pass.number ≡ 0 }
+        ensures { result ≡ record { pass = pass; names = names.items; grammar = grammar; tally = record { lines = 0; accepted = 0; refused = 0 } } }
+    {
+        Builder {
+            alloc,
+            pass,
+            names,
+            grammar,
+            coalesce,
+            tally: Tally {
+                lines: 0,
+                accepted: 0,
+                refused: 0,
+            },
+        }
+    }
+
+    /// How many lines were taken.
+    pub fn tally(&self) -> Tally
+        ensures { result ≡ self.now.tally }
+    {
+        self.tally
+    }
+
+    /// The pass, and the names of the peers.
+    pub fn into_parts(self) -> (Pass<Board<S>>, NameList)
+        ensures pass { result.0 ≡ self.pass }
+        ensures names { result.1.items ≡ self.names }
+        ensures free { self.pass.holds ≡ false }
+        ensures number { self.pass.number ≡ 0 }
+    {
+        let Builder {
+            alloc: _,
+            pass,
+            names,
+            grammar: _,
+            coalesce: _,
+            tally: _,
+        } = self;
+        (pass, names)
+    }
+
+    /// Marks how much each live peer was told, once everything is told.
+    fn sync<R: Wait, W: Wire, L: Ledger>(
+        &mut self,
+        rt: &R,
+        turnstile: &Turnstile<Board<S>>,
+        crew: &mut Crew<W, S>,
+        steps: &mut Steps<L>,
+    ) -> Result<Came<S::Said>, NoMemory>
+        requires here { self.old.pass.turnstile ≡ turnstile.now.id }
+        requires crew { AreHere turnstile.now.id crew.old }
+        ensures same { IsSameBuilder self.old self.new }
+        ensures tally { self.new.tally ≡ self.old.tally }
+        ensures posts { crew.new ≡ crew.old }
+        ensures answers { IfOk result (λ came. AnswersAt S.Machine.rules S.speech self.new.pass.root (Ok SaysSync) (answer_of S.speech.marks came) self.old.pass.seen self.new.pass.seen) }
+        ensures stopped { OnErr result (GoesOn S.Machine.rules S.speech self.old.pass.seen self.new.pass.seen) }
+        ensures legal { IsLegalAt S.Machine.rules S.speech self.new.pass.root self.new.pass.seen }
+        ensures steps_least { RisesBy steps.old steps.new (least_at S.Machine.rules self.old.pass.root self.old.pass.seen) (least_at S.Machine.rules self.old.pass.root self.new.pass.seen) }
+        ensures steps_most { OnOk result (RisesWithin steps.old steps.new (most_at S.Machine.rules self.old.pass.root self.old.pass.seen) (most_at S.Machine.rules self.old.pass.root self.new.pass.seen)) }
+    {
+        for _ in rt.forever() {
+            let marked = mark_in_turn(rt, turnstile, &mut self.pass, steps)?;
+            if let Some(came) = marked {
+                return Ok(came);
+            }
+            wait_for(rt, turnstile, crew);
+        }
+        unreachable!()
+    }
+
+    /// What a line comes to.
+    fn come<R: Wait, W: Wire, L: Ledger>(
+        &mut self,
+        rt: &R,
+        turnstile: &Turnstile<Board<S>>,
+        crew: &mut Crew<W, S>,
+        steps: &mut Steps<L>,
+        line: &[u8],
+    ) -> Result<Came<S::Said>, NoMemory>
+        requires here { self.old.pass.turnstile ≡ turnstile.now.id }
+        requires crew { AreHere turnstile.now.id crew.old }
+        ensures same { IsSameBuilder self.old self.new }
+        ensures tally { self.new.tally ≡ self.old.tally }
+        ensures posts { crew.new ≡ crew.old }
+        ensures answers { IfOk result (λ came. AnswersAt S.Machine.rules S.speech self.new.pass.root (said_by self.old.grammar line.now) (answer_of S.speech.marks came) self.old.pass.seen self.new.pass.seen) }
+        ensures stopped { OnErr result (GoesOn S.Machine.rules S.speech self.old.pass.seen self.new.pass.seen) }
+        ensures legal { IsLegalAt S.Machine.rules S.speech self.old.pass.root self.old.pass.seen → IsLegalAt S.Machine.rules S.speech self.new.pass.root self.new.pass.seen }
+        ensures steps_least { RisesBy steps.old steps.new (least_at S.Machine.rules self.old.pass.root self.old.pass.seen) (least_at S.Machine.rules self.old.pass.root self.new.pass.seen) }
+        ensures steps_most { OnOk result (RisesWithin steps.old steps.new (most_at S.Machine.rules self.old.pass.root self.old.pass.seen) (most_at S.Machine.rules self.old.pass.root self.new.pass.seen)) }
+    {
+        match read(self.grammar, self.alloc, line) {
+            Ok(Line::Blank) => Ok(Came::Passed),
+            Ok(Line::Sync) => self.sync(rt, turnstile, crew, steps),
+            Ok(Line::Happened(event)) => {
+                offer_in_turn(rt, self.alloc, turnstile, &mut self.pass, event, steps)
+            }
+            Err(LineRefusal::Refused { number, inner }) => Ok(Came::Refused { number, inner }),
+            Err(LineRefusal::NoMemory) => Err(NoMemory),
+        }
+    }
+
+    /// Tells the report what the line of this number came to.
+    fn tell<K: Sink>(&self, number: u64, came: &Came<S::Said>, report: &mut K) -> Result<(), Stop>
+        ensures ok { OnOk result (AppendsPiece (K.held report.old) (K.held report.new) (concat (answer_texts self.now.names number (answer_of S.speech.marks came.now)))) }
+        ensures starved { IsErrOf result Stop.NoMemory → K.held report.new ≡ K.held report.old }
+        ensures failed { IsErrOf result Stop.Report → AppendsFront (K.held report.old) (K.held report.new) (concat (answer_texts self.now.names number (answer_of S.speech.marks came.now))) }
+        ensures rose { IsErrOf result Stop.Report → Rose (K.faults report.old) (K.faults report.new) }
+        ensures faults { K.faults report.old ≤ K.faults report.new }
+    {
+        let Ok(text) = self.text_of(number, came) else {
+            return Err(Stop::NoMemory);
+        };
+        match write_all(report, text.as_bytes()) {
+            Ok(()) => Ok(()),
+            Err(_) => Err(Stop::Report),
+        }
+    }
+
+    /// What the report says of what the line of this number came to.
+    fn text_of(&self, number: u64, came: &Came<S::Said>) -> Result<String, NoMemory>
+        ensures { IfOk result (λ text. string_bytes text ≡ concat (answer_texts self.now.names number (answer_of S.speech.marks came.now))) }
+    {
+        let mut text = String::new(self.alloc);
+        match came {
+            Came::Passed => {}
+            Came::Refused {
+                number: refusal,
+                inner,
+            } => write_refusal(&mut text, number, *refusal, *inner)?,
+            Came::Took(said) => {
+                write_marks(&mut text, "refresh", self.names.as_slice(), S::marks(said))?
+            }
+            Came::Synced(said) => {
+                write_marks(&mut text, "sync", self.names.as_slice(), S::marks(said))?
+            }
+        }
+        Ok(text)
+    }
+
+    /// Takes a line, and tells the report what it came to. After each so many accepted events the lanes that work here are
+    /// pumped.
+    pub(crate) fn take<R: Wait, W: Wire, L: Ledger, K: Sink>(
+        &mut self,
+        rt: &R,
+        turnstile: &Turnstile<Board<S>>,
+        crew: &mut Crew<W, S>,
+        steps: &mut Steps<L>,
+        line: &[u8],
+        report: &mut K,
+    ) -> Result<(), Stop>
+        requires here { self.old.pass.turnstile ≡ turnstile.now.id }
+        requires crew { AreHere turnstile.now.id crew.old }
+        ensures same { IsSameBuilder self.old self.new }
+        ensures posts { crew.new ≡ crew.old }
+        ensures taken { OnOk result (TakesLines S.Machine.rules S.speech self.old (K.held report.old) self.new (K.held report.new) (line.now ∷ [])) }
+        ensures stopped { IfErr result (λ stop. StopsWithin S.Machine.rules S.speech stop self.old (K.held report.old) self.new (K.held report.new) (line.now ∷ [])) }
+        ensures rose { IsErrOf result Stop.Report → Rose (K.faults report.old) (K.faults report.new) }
+        ensures faults { K.faults report.old ≤ K.faults report.new }
+        ensures steps_least { RisesBy steps.old steps.new (least_at S.Machine.rules self.old.pass.root self.old.pass.seen) (least_at S.Machine.rules self.old.pass.root self.new.pass.seen) }
+        ensures steps_most { OnOk result (RisesWithin steps.old steps.new (most_at S.Machine.rules self.old.pass.root self.old.pass.seen) (most_at S.Machine.rules self.old.pass.root self.new.pass.seen)) }
+    {
+        let Ok(came) = self.come(rt, turnstile, crew, steps, line) else {
+            return Err(Stop::NoMemory);
+        };
+        let Some(tally) = self.tally.with(&came) else {
+            return Err(Stop::NoMemory);
+        };
+        let is_due = is_multiple(tally.accepted, self.coalesce);
+        match self.tell(tally.lines, &came, report) {
+            Ok(()) => {}
+            Err(stop) => return Err(stop),
+        }
+        self.tally = tally;
+        if let Came::Took(_) = came {
+            pump_where(rt, turnstile, crew, is_due);
+        }
+        Ok(())
+    }
+
+    /// Takes an event before all lines, of which no report speaks.
+    pub(crate) fn admit<R: Wait, W: Wire, L: Ledger>(
+        &mut self,
+        rt: &R,
+        turnstile: &Turnstile<Board<S>>,
+        crew: &mut Crew<W, S>,
+        steps: &mut Steps<L>,
+        event: Event,
+    ) -> Result<(), NoMemory>
+        requires here { self.old.pass.turnstile ≡ turnstile.now.id }
+        requires crew { AreHere turnstile.now.id crew.old }
+        requires form { IsEvent (event_of event) }
+        ensures same { IsSameBuilder self.old self.new }
+        ensures posts { crew.new ≡ crew.old }
+        ensures taken { OnOk result ((held : Option (List ℕ)) → BuilderStands S.Machine.rules S.speech self.old [] [] held held → BuilderStands S.Machine.rules S.speech self.new (Ok (Says (event_of event)) ∷ []) [] held held) }
+        ensures stopped { OnErr result ((held : Option (List ℕ)) → BuilderStands S.Machine.rules S.speech self.old [] [] held held → BuilderStands S.Machine.rules S.speech self.new [] [] held held) }
+        ensures steps_least { RisesBy steps.old steps.new (least_at S.Machine.rules self.old.pass.root self.old.pass.seen) (least_at S.Machine.rules self.old.pass.root self.new.pass.seen) }
+        ensures steps_most { OnOk result (RisesWithin steps.old steps.new (most_at S.Machine.rules self.old.pass.root self.old.pass.seen) (most_at S.Machine.rules self.old.pass.root self.new.pass.seen)) }
+    {
+        let Ok(_came) = offer_in_turn(rt, self.alloc, turnstile, &mut self.pass, event, steps)
+        else {
+            return Err(NoMemory);
+        };
+        crew.pump_here(rt, turnstile);
+        Ok(())
+    }
+
+    /// Ends the work on the board, once everything is told.
+    pub(crate) fn conclude<R: Wait, W: Wire, L: Ledger>(
+        &mut self,
+        rt: &R,
+        turnstile: &Turnstile<Board<S>>,
+        crew: &mut Crew<W, S>,
+        steps: &mut Steps<L>,
+    ) -> Result<(), NoMemory>
+        requires here { self.old.pass.turnstile ≡ turnstile.now.id }
+        requires crew { AreHere turnstile.now.id crew.old }
+        ensures same { IsSameBuilder self.old self.new }
+        ensures tally { self.new.tally ≡ self.old.tally }
+        ensures posts { crew.new ≡ crew.old }
+        ensures history { GoesOn S.Machine.rules S.speech self.old.pass.seen self.new.pass.seen }
+        ensures ended { OnOk result (IsEndedAt S.Machine.rules S.speech self.new.pass.root self.new.pass.seen) }
+        ensures legal { IsLegalAt S.Machine.rules S.speech self.new.pass.root self.new.pass.seen }
+        ensures steps_least { RisesBy steps.old steps.new (least_at S.Machine.rules self.old.pass.root self.old.pass.seen) (least_at S.Machine.rules self.old.pass.root self.new.pass.seen) }
+        ensures steps_most { OnOk result (RisesWithin steps.old steps.new (most_at S.Machine.rules self.old.pass.root self.old.pass.seen) (most_at S.Machine.rules self.old.pass.root self.new.pass.seen)) }
+    {
+        for _ in rt.forever() {
+            if conclude_in_turn(rt, turnstile, &mut self.pass, steps)? {
+                return Ok(());
+            }
+            wait_for(rt, turnstile, crew);
+        }
+        unreachable!()
+    }
+
+    /// Ends the work on the board at once.
+    pub(crate) fn break_off<R: Wait, L: Ledger>(
+        &mut self,
+        rt: &R,
+        turnstile: &Turnstile<Board<S>>,
+        steps: &mut Steps<L>,
+    )
+        requires here { self.old.pass.turnstile ≡ turnstile.now.id }
+        ensures same { IsSameBuilder self.old self.new }
+        ensures tally { self.new.tally ≡ self.old.tally }
+        ensures history { GoesOn S.Machine.rules S.speech self.old.pass.seen self.new.pass.seen }
+        ensures legal { IsLegalAt S.Machine.rules S.speech self.new.pass.root self.new.pass.seen }
+        ensures steps_least { RisesBy steps.old steps.new (least_at S.Machine.rules self.old.pass.root self.old.pass.seen) (least_at S.Machine.rules self.old.pass.root self.new.pass.seen) }
+    {
+        break_off_in_turn(rt, turnstile, &mut self.pass, steps);
+    }
+}
+
+/// Whether so many events are a multiple of that number.
+fn is_multiple(accepted: u64, coalesce: u32) -> bool {
+    accepted % u64::from(coalesce.max(1)) == 0
+}
+
+/// Pumps the lanes that work here, where that is due.
+fn pump_where<R: Wait, W: Wire, S: Speaker>(
+    rt: &R,
+    turnstile: &Turnstile<Board<S>>,
+    crew: &mut Crew<W, S>,
+    is_due: bool,
+)
+    requires crew { AreHere turnstile.now.id crew.old }
+    ensures posts { crew.new ≡ crew.old }
+{
+    if is_due {
+        crew.pump_here(rt, turnstile);
+    }
+}
+
+/// Pumps the lanes that work here, and where that did nothing pauses for a moment, in which others may have their turn.
+fn wait_for<R: Wait, W: Wire, S: Speaker>(
+    rt: &R,
+    turnstile: &Turnstile<Board<S>>,
+    crew: &mut Crew<W, S>,
+)
+    requires crew { AreHere turnstile.now.id crew.old }
+    ensures posts { crew.new ≡ crew.old }
+{
+    if !crew.pump_here(rt, turnstile) {
+        turnstile.nap(rt);
+    }
+}

@@ -1,0 +1,11 @@
+use Rattle.std.proofs.Common.{◌≡◌, ◌++◌, ◌&&◌, drop}
+use Rattle.ug_events.specs.Views.{event_of}
+use Rattle.ug_world.specs.Touches.{is_about}
+use Rattle.ug_speaker.specs.Speech.{is_request}
+use Rattle.ug_world.specs.declared.peer_state.PeerState.{PeerState}
+use Rattle.ug_group_rules.specs.Machine.{marks_at}
+use Rattle.ug_group_trials.proofs.groups.SlowGroups.marks_of_asker.Given as goal
+
+-- the marks so far and those that are left make up all
+abbrev pub invariant-loop-id : goal.invariant-loop-id
+invariant-loop-id l = l.marks.items ++ marks_at (λ (s : PeerState). is_request (event_of l.event) && is_about (event_of l.event) s) l.id (drop l.id l.self.world.peers) l.self ≡ marks_at (λ (s : PeerState). is_request (event_of l.event) && is_about (event_of l.event) s) 0 l.self.world.peers l.self

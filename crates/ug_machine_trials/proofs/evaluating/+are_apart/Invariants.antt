@@ -1,5 +1,0 @@
-use Rattle.std.proofs.Common.{length}
-use Rattle.ug_machine_trials.proofs.evaluating.+are_apart.Given as goal
-
-abbrev pub decreases-are_apart : goal.decreases-are_apart
-decreases-are_apart l = length l.keys.now

@@ -1,5 +1,0 @@
-use Rattle.std.proofs.Common.{length}
-use Rattle.ug_machine_trials.proofs.groups.SlowGroups.+any_mover.Given as goal
-
-abbrev pub decreases-any_mover : goal.decreases-any_mover
-decreases-any_mover l = length l.slots.now

@@ -1,5 +1,0 @@
-use Rattle.std.proofs.Common.{length}
-use Rattle.ug_machine_trials.proofs.groups.SlowGroups.+evaluations_of.Given as goal
-
-abbrev pub decreases-evaluations_of : goal.decreases-evaluations_of
-decreases-evaluations_of l = length l.keys.now

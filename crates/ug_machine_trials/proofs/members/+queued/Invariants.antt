@@ -1,5 +1,0 @@
-use Rattle.std.proofs.Common.{length}
-use Rattle.ug_machine_trials.proofs.members.+queued.Given as goal
-
-abbrev pub decreases-queued : goal.decreases-queued
-decreases-queued l = length l.members.now

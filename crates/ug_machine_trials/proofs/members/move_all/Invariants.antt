@@ -1,7 +1,0 @@
-use Rattle.std.proofs.Common.{◌≡◌, ◌++◌, map, take, drop}
-use Rattle.ug_machine.specs.Machine.{reseated, moved}
-use Rattle.ug_machine_trials.proofs.members.move_all.Given as goal
-
--- those so far, and then those that are left
-abbrev pub invariant-loop-member : goal.invariant-loop-member
-invariant-loop-member l = take l.member-index l.members ++ map (reseated (moved l.from l.to)) (drop l.member-index l.members) ≡ map (reseated (moved l.from l.to)) l.fn.members
