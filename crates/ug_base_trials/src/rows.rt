@@ -3,7 +3,7 @@
 use std::alloc::Global;
 use std::process::Abort;
 use std::test::Fail;
-use ug_rows::write_row;
+use ug_text::write_row;
 use ug_types::{
     Addr, Aggregator, AttrParts, Attrs, Family, Key, NoMemory, NumberList, Prefix, Segment,
     SegmentList, Sequence,

@@ -14,7 +14,7 @@ use Rattle.ug_table_rules.specs.Tables.{Table, table_of}
 use Rattle.ug_message.specs.Reading.{Spells, ends_rib}
 use Rattle.ug_message.specs.Received.{IsStream}
 use Rattle.ug_receiver.specs.Rows.{row_at}
-use Rattle.ug_rows.specs.Rows.{row_text}
+use Rattle.ug_text.specs.Rows.{row_text}
 
 -- The texts spell these messages, one each.
 abbrev pub EachSpells : Capabilities → List (List ℕ) → List Message → Type 0

@@ -6,7 +6,7 @@ ghost use Rattle.std.specs.List.Sorted.{IsStrictlySortedBy};
 ghost use Rattle.std.specs.Map.{keys_of};
 ghost use Rattle.std.specs.String.{string_bytes};
 ghost use Rattle.ug_edge.specs.Told.{Rose, AppendsPiece};
-ghost use Rattle.ug_rows.specs.Rows.{row_text};
+ghost use Rattle.ug_text.specs.Rows.{row_text};
 ghost use Rattle.ug_check.specs.Decoded.{row_texts, totals_text};
 ghost use Rattle.ug_check.specs.Checks.{IsReportedUntil};
 ghost use Rattle.ug_check.specs.Written.{HasWritten};
@@ -17,7 +17,7 @@ use std::alloc::Global;
 use ug_edge::{Failed, Sink};
 use ug_pieces::write_all;
 use ug_receiver::Table;
-use ug_rows::RowWriter;
+use ug_text::RowWriter;
 use ug_types::{Attrs, Key, NoMemory};
 
 /// How many bytes are written at once, as nearly as whole lines come.

@@ -6,3 +6,4 @@ pub mod Addresses
 pub mod Grouped
 pub mod Paths
 pub mod Lists
+pub mod Rows

@@ -10,8 +10,8 @@ mod slowly;
 use std::alloc::Global;
 use std::sync::ledger::Ledger;
 use std::test::Fail;
-use ug_rows::write_row;
 use ug_slow_world::{Answer, private_route, take_line};
+use ug_text::write_row;
 use ug_types::{Key, Name, PeerId, Prefix, Steps};
 use ug_world::World;
 

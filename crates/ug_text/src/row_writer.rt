@@ -3,7 +3,7 @@
 ghost use Rattle.std.specs.Prelude.{◌≡◌, ◌++◌, OnOk, IsTrue, Some, option_copied};
 ghost use Rattle.std.specs.String.{string_bytes};
 ghost use Rattle.ug_types.specs.Attributes.{Attributes};
-ghost use Rattle.ug_rows.specs.Rows.{ending_text, row_text};
+ghost use Rattle.ug_text.specs.Rows.{ending_text, row_text};
 
 use crate::row::{write_ending, write_route};
 use std::alloc::Global;

@@ -2,9 +2,10 @@
 
 ghost use Rattle.std.specs.Prelude.{◌≡◌, ◌++◌, OnOk};
 ghost use Rattle.std.specs.String.{string_bytes};
-ghost use Rattle.ug_rows.specs.Rows.{route_text, ending_text, row_text};
+ghost use Rattle.ug_text.specs.Rows.{route_text, ending_text, row_text};
 
-use ug_text::{write_attributes, write_prefix};
+use crate::address::write_prefix;
+use crate::attributes::write_attributes;
 use ug_types::{Attrs, Key, NoMemory};
 
 /// Adds the row of a route, with its newline. After want of memory a part of it may be there.
