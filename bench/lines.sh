@@ -1,7 +1,8 @@
 #!/bin/bash
 # Runs 200,000 and 1,000,000 lines of `paths`, ten prefixes an attribute set, through reading, judging and taking, and prints
-# how long a line takes, without the making of its text, and the peak memory a line; then how the time grows. Of five runs the
-# shortest counts. The program, bench/lines, is no part of the gate: it is proved and built in a copy of the repository.
+# how long a line takes, without the making of its text, the peak memory a line in the world, and how much more an event takes
+# where it is kept, as the history of a run keeps it, without the entry that points at it; then how the time grows. Of five runs
+# the shortest counts. The program, bench/lines, is no part of the gate: it is proved and built in a copy of the repository.
 set -e
 cd "$(dirname "${BASH_SOURCE[0]}")/.."
 work=$(mktemp -d)
@@ -12,7 +13,7 @@ cp bench/lines/main.rt.txt "$work/copy/crates/lines/src/main.rt"
 for kept in crates/*/out; do
     [ ! -d "$kept" ] || cp -r "$kept" "$work/copy/$kept"
 done
-echo "lines: ug_slow_world ug_world ug_outbound ug_types" >> "$work/copy/crates.txt"
+echo "lines: ug_world ug_events ug_outbound ug_types" >> "$work/copy/crates.txt"
 (cd "$work/copy/crates/lines" && rt run) > "$work/log" 2>&1 || { tail -n 20 "$work/log"; exit 1; }
 program=$work/copy/crates/lines/out/lines
 
@@ -38,7 +39,9 @@ for lines in 200000 1000000; do
     [ "$lines" = 200000 ] || words=(many)
     least[$lines]=$(nanos "${words[@]}")
     kib=$(peak "${words[@]}")
-    awk -v n="$lines" -v s="${least[$lines]}" -v k="$kib" 'BEGIN {
-        printf "%d lines: %d ns a line, peak %d KiB, %.0f bytes a line\n", n, s, k, k * 1024 / n }'
+    kept=$(peak "${words[@]}" keep)
+    awk -v n="$lines" -v s="${least[$lines]}" -v k="$kib" -v h="$kept" 'BEGIN {
+        printf "%d lines: %d ns a line, peak %d KiB, %.0f bytes a line in the world, %.0f an event kept\n",
+            n, s, k, k * 1024 / n, (h - k) * 1024 / n - 8 }'
 done
 awk -v a="${least[200000]}" -v b="${least[1000000]}" 'BEGIN { printf "growth from 200000 to 1000000 lines: %.2f times\n", 5 * b / a }'

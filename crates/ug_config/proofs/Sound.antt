@@ -26,7 +26,7 @@ use Rattle.ug_fields.specs.Kinds.{family_at, tables_at}
 use Rattle.ug_fields.specs.Tables.{Entry, entry, fields, unknown, where_known}
 use Rattle.ug_fields.specs.Looks.{value_at, as_number, as_octet, as_flag, as_address}
 use Rattle.ug_config.specs.Rows.{local_rows, named_rows, list_entry_rows, map_entry_rows, peer_rows}
-use Rattle.ug_config.specs.Readings.{local, local_of, list_entry, list_entry_of, where_good, last_bound, rule, rule_of, where_ahead, named, own_name, with_entries, peer, peer_of}
+use Rattle.ug_config.specs.Readings.{local, local_of, list_entry, list_entry_of, where_good, last_bound, rule, rule_of, where_ahead, named, own_name, with_entries, address, peer, peer_of}
 use Rattle.ug_config.proofs.Inverting.{ok, ok_is, some_is, bound, both, second_of, all_read}
 use Rattle.ug_config.proofs.Fitting.{within, is_no_local, is_of, lies_in, may, fits, FitsRow, row_named, found}
 
@@ -158,6 +158,16 @@ is_peer_right p =
 name_right : (o : Option (List ℕ)) (field name : List ℕ) → is_no_local o ≡ true → or_refused missing field o ≡ ok name → not (same_bytes name (codes "local")) ≡ true
 name_right None field name e h = absurd cc
 name_right (Some x) field name e h = subst (λ (n : List ℕ). not (same_bytes n (codes "local")) ≡ true) (ok_is x name h) e
+
+-- the router id of a peer is an IPv4 address
+is_v4 : (f : Family) → same_family f V4 ≡ true → f ≡ V4
+is_v4 V4 e = refl
+is_v4 V6 e = absurd cc
+
+pub router_read : (f : Family) (way : List ℕ) (d : Data) (es : List Entry) → fields f way peer_rows d ≡ ok es → (address (codes "router_id") es).family ≡ V4
+unfolding peer_rows
+router_read f way d es h =
+    is_v4 _ (from_of V4 _ (required f kinds.Ipv4 (codes "router_id") _ (found f way d (codes "router_id") peer_rows es _ (rows_read f way peer_rows d es h) refl)))
 
 pub peer_good : (way : List ℕ) (d : Data) (p : Peer) → peer way d ≡ ok p → is_peer_right p ≡ true
 unfolding peer peer_rows

@@ -8,6 +8,7 @@ mod limits;
 mod local;
 mod named;
 mod names;
+mod one;
 mod options;
 mod peers;
 mod policies;
@@ -18,6 +19,7 @@ mod rule;
 mod setup;
 mod world;
 
+pub use one::one_world;
 pub use read::read_setup;
 pub use rule::Rule;
 pub use setup::Setup;

@@ -1,7 +1,8 @@
 //! Peers.
 
-ghost use Rattle.std.specs.Prelude.{◌≡◌, IfOk};
-ghost use Rattle.ug_config.specs.Readings.{peer, peer_of};
+ghost use Rattle.std.specs.Prelude.{◌≡◌, codes, IfOk};
+ghost use Rattle.ug_types.specs.declared.family.Family.TheVariants.{V4};
+ghost use Rattle.ug_config.specs.Readings.{address, peer, peer_of};
 
 use crate::local::{address, flag, number, prefix};
 use crate::named::own_name;
@@ -10,7 +11,7 @@ use std::alloc::Global;
 use toml::Value;
 use ug_fields::{ConfigRefusal, Field, TableReader, family_at, name_at};
 use ug_outbound::Peer;
-use ug_types::{Family, Name, NoMemory};
+use ug_types::{Family, Name, NoMemory, RouterId};
 
 /// The peers.
 pub struct Peers;
@@ -20,7 +21,7 @@ impl TableReader for Peers {
 
     ghost reading = { peer };
 
-    #[tactic(auto, unfolding(crate::specs::Readings::peer))]
+    #[tactic(auto, using(crate::proofs::Sound::router_read), unfolding(crate::specs::Readings::peer))]
     fn read(alloc: Global, way: &str, table: &Value) -> Result<Peer, ConfigRefusal> {
         let family = family_at(table);
         let fields = peer_fields(alloc, family, way, table)?;
@@ -31,12 +32,13 @@ impl TableReader for Peers {
 }
 
 fn peer_of(alloc: Global, family: Family, fields: &[Field], name: Name) -> Result<Peer, NoMemory>
+    requires router { (address (codes "router_id") fields.now).family ≡ V4 }
     ensures { IfOk result (λ peer. peer ≡ peer_of family fields.now name) }
 {
     Ok(Peer {
         name,
         asn: number(fields, "as"),
-        router_id: address(fields, "router_id"),
+        router_id: RouterId::of(address(fields, "router_id")),
         family,
         address: address(fields, "address"),
         local_address: address(fields, "local_address"),

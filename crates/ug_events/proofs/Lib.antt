@@ -2,5 +2,5 @@ pub mod Lines
 pub mod Each
 pub mod Runs
 pub mod Bounds
-pub mod Addresses
-pub mod Families
+pub mod Values
+pub mod InRange

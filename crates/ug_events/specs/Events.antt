@@ -1,9 +1,10 @@
 -- Events, and the lines of a file that say them, as plain data.
-use Rattle.std.specs.Prelude.{◌≡◌, ℕ, ◌<◌, Bool, true, false, ◌&&◌, List, [], ◌∷◌, Option, Some, None, is_none}
+use Rattle.std.specs.Prelude.{◌≡◌, ℕ, ◌<◌, Bool, true, false, ◌&&◌, List, [], ◌∷◌, Option, None}
 use Rattle.std.specs.List.{list_all}
 use Rattle.ug_types.specs.declared.family.Family.{Family}
-use Rattle.ug_types.specs.Ip.{IpPrefix, same_family}
+use Rattle.ug_types.specs.Ip.{IpPrefix}
 use Rattle.ug_types.specs.Attributes.{Attributes, refusal_of}
+use Rattle.ug_message.specs.Spellable.{is_number, is_prefix, has_ipv4_addresses, can_be_spelled}
 use Rattle.ug_prefixlist.specs.declared.entry.ListEntry.{ListEntry}
 use Rattle.ug_prefixlist.specs.Lists.{list_refusal}
 use Rattle.ug_orf.specs.Changes.{OrfRequest, is_change}
@@ -34,9 +35,10 @@ pub data Saying : Type 0 where
   SaysSync : Saying
   Says : Happening → Saying
 
--- a path has an identifier, and attributes within the bounds of those from within
+-- A path has an identifier, and attributes within the bounds of those from within. Its AGGREGATOR and ORIGINATOR_ID are
+-- IPv4 addresses (RFC 4271 section 4.3, RFC 4456 section 8).
 abbrev pub IsGiven : GivenPath → Type 0
-IsGiven g = (0 < g.id) × (refusal_of g.attrs ≡ None)
+IsGiven g = (0 < g.id) × (refusal_of g.attrs ≡ None) × (has_ipv4_addresses g.attrs ≡ true)
 
 abbrev pub AreGiven : List GivenPath → Type 0
 AreGiven [] = Unit {0}
@@ -46,18 +48,19 @@ abbrev pub is_some_path : List GivenPath → Bool
 is_some_path [] = false
 is_some_path (g ∷ given) = true
 
--- the next hop of each path is of that family
-abbrev pub has_next_hop_in : Family → GivenPath → Bool
-has_next_hop_in family g = same_family g.attrs.next_hop.family family
+-- A message can tell the path to a prefix of that family: its numbers have 32 bits, its next hop is of the family, and no
+-- address has a bit past its family's width.
+abbrev pub is_in_range : Family → GivenPath → Bool
+is_in_range family g = is_number g.id && can_be_spelled family g.attrs
 
-abbrev pub have_next_hops_in : Family → List GivenPath → Bool
-have_next_hops_in family given = list_all (has_next_hop_in family) given
+-- so it is of a prefix and the paths to it
+abbrev pub are_in_range : IpPrefix → List GivenPath → Bool
+are_in_range prefix given = is_prefix prefix.family prefix && list_all (is_in_range prefix.family) given
 
--- What each event keeps: a prefix that has paths has at least one, each as above and with a next hop of the prefix's
--- family; the entries of a list are
--- ones that a prefix list is made of; each entry that a peer adds to its own list is good.
+-- What each event keeps: a prefix that has paths has at least one, each as above, and a message can tell each; the
+-- entries of a list are ones that a prefix list is made of; each entry that a peer adds to its own list is good.
 abbrev pub IsEvent : Happening → Type 0
-IsEvent (HasPaths prefix paths) = (is_some_path paths ≡ true) × (AreGiven paths × (have_next_hops_in prefix.family paths ≡ true))
+IsEvent (HasPaths prefix paths) = (is_some_path paths ≡ true) × (AreGiven paths × (are_in_range prefix paths ≡ true))
 IsEvent (HasEntries name entries) = list_refusal entries ≡ None
 IsEvent (SendsList peer request) = list_all (λ c. is_change c.action c.entry) request.entries ≡ true
 IsEvent (ComesUp peer) = Unit {0}

@@ -1,7 +1,6 @@
 -- The fields of a path: words such as `id=1`, in any order, each at most once.
-use Rattle.std.specs.Prelude.{ℕ, Bool, true, false, List, [], Option, Some, None, is_some, codes, unwrap_or, Ok, Err, if◌then◌else◌}
+use Rattle.std.specs.Prelude.{ℕ, Bool, true, false, ◌&&◌, List, [], Option, Some, None, is_some, codes, unwrap_or, Ok, if◌then◌else◌}
 use Rattle.ug_types.specs.declared.family.Family.{Family}
-use Rattle.ug_types.specs.declared.family.Family.TheVariants.{V4}
 use Rattle.ug_types.specs.declared.attrs.Aggregator.{Aggregator}
 use Rattle.ug_types.specs.Ip.{IpAddress}
 use Rattle.ug_types.specs.Names.{is_name}
@@ -12,6 +11,7 @@ use Rattle.ug_text.specs.Cutting.{cut_at}
 use Rattle.ug_text.specs.Numbers.{any_number, positive_number}
 use Rattle.ug_text.specs.Addresses.{address_in, ipv4_address, aggregator}
 use Rattle.ug_text.specs.Paths.{numbers_as, path, origin}
+use Rattle.ug_message.specs.Spellable.{is_ipv4, where_there}
 use Rattle.ug_events.specs.declared.field.Field.{Field}
 use Rattle.ug_events.specs.declared.field.Field.TheVariants as fields
 use Rattle.ug_events.specs.Events.{GivenPath}
@@ -129,6 +129,10 @@ with_new family field value f = if has field f then refused bad_words else with_
 -- The fields with that of a word: an unknown or repeated one is refused before its value is looked at.
 unfoldable pub with_word : Family → List ℕ → Fields → Reads Fields
 with_word family word f = or_refused bad_words (field_of word) >>= λ x. with_new family x.0 x.1 f
+
+-- the aggregator and the originator, where they are there, are IPv4 addresses
+abbrev pub are_ipv4 : Fields → Bool
+are_ipv4 f = where_there (λ (g : Aggregator). is_ipv4 g.addr) f.aggregator && where_there is_ipv4 f.originator
 
 -- ---- the path of all its fields
 

@@ -9,3 +9,4 @@ pub mod SeenEntries
 pub mod Messages
 pub mod Grammar
 pub mod Views
+pub mod Facts

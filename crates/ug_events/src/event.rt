@@ -3,32 +3,35 @@
 use std::marker::Model;
 use ug_orf::OrfMessage;
 use ug_prefixlist::EntryList;
-use ug_types::{Attrs, Name, Prefix, Sequence};
+use ug_types::{Attrs, Name, Prefix, Sequence, Shared};
 
 /// A path as an event gives it: its identifier, which isn't 0, the peer that it is from, or None where it is the
-/// speaker's own, and its attributes, which are within the bounds of attributes from within.
+/// speaker's own, and its attributes, which are within the bounds of attributes from within, and whose AGGREGATOR and
+/// ORIGINATOR_ID are IPv4 addresses.
 #[derive(Debug, Drop)]
 pub struct Given {
     pub id: u32,
     pub from: Option<Name>,
-    pub attrs: Attrs,
+    pub attrs: Shared<Attrs>,
 }
 
 impl Model for Given {
-    ghost use Rattle.std.specs.Prelude.{◌≡◌, ◌<◌, None};
+    ghost use Rattle.std.specs.Prelude.{◌≡◌, ◌<◌, true, None};
     ghost use Rattle.ug_types.specs.Attributes.{refusal_of};
+    ghost use Rattle.ug_message.specs.Spellable.{has_ipv4_addresses};
     ghost use Rattle.ug_events.specs.Events.{GivenPath};
 
     ghost Value = { GivenPath };
 
     ghost view = { λ g. record { id = g.id; from = g.from; attrs = g.attrs } };
 
-    ghost invariant = { λ g. (0 < g.id) × (refusal_of g.attrs ≡ None) };
+    ghost invariant = { λ g. (0 < g.id) × (refusal_of g.attrs ≡ None) × (has_ipv4_addresses g.attrs ≡ true) };
 
     ghost inverse = { λ g. record { id = g.id; from = g.from; attrs = g.attrs } };
 }
 
-pub type GivenList = Sequence<Given>;
+/// Paths in memory that the events of equal ones share.
+pub type GivenList = Shared<Sequence<Given>>;
 
 /// What happened.
 #[derive(Debug, Drop)]

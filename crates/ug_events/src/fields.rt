@@ -1,9 +1,9 @@
 //! The fields of a path that have been read.
 
-ghost use Rattle.std.specs.Prelude.{◌≡◌, [], IfOk, unwrap_or};
+ghost use Rattle.std.specs.Prelude.{◌≡◌, true, [], IfOk, unwrap_or};
 ghost use Rattle.std.specs.Option.{option_map};
 ghost use Rattle.ug_events.specs.Events.{IsGiven};
-ghost use Rattle.ug_events.specs.Fields.{no_fields, has, with_field, with_word, path_of_fields};
+ghost use Rattle.ug_events.specs.Fields.{no_fields, has, with_field, with_word, are_ipv4, path_of_fields};
 ghost use Rattle.ug_text.specs.Lists.{items_of};
 ghost use Rattle.ug_events.specs.Reads.{bad_words, bad_attribute, or_refused};
 ghost use Rattle.ug_events.specs.Views.{Gives, fields_seen};
@@ -13,6 +13,7 @@ use crate::field::{Field, field_of};
 use crate::names::source_of;
 use crate::path_fields::PathFields;
 use crate::refusal::LineRefusal;
+use crate::sharing::share_path;
 use std::alloc::Global;
 use ug_text::{
     Spelled, read_address, read_aggregator, read_ipv4, read_number, read_numbers, read_origin,
@@ -125,9 +126,11 @@ impl PathFields {
         self.put(alloc, family, field, value)
     }
 
-    /// The path of all its fields, where those that it must have are there and its attributes are within their bounds.
-    #[tactic(auto, unfolding(crate::specs::Fields::path_of_fields))]
-    pub fn into_path(self, alloc: Global) -> Result<Given, LineRefusal>
+    /// The path of all its fields, where those that it must have are there and its attributes are within their bounds. It
+    /// shares the attributes of a path near it that has equal ones.
+    #[tactic(auto, unfolding(crate::specs::Fields::path_of_fields, ug_message::specs::Spellable::has_ipv4_addresses))]
+    pub fn into_path(self, alloc: Global, near: &[Given]) -> Result<Given, LineRefusal>
+        requires ipv4 { are_ipv4 (fields_seen self) ≡ true }
         ensures read { Gives (λ given. given) result (path_of_fields (fields_seen self)) }
         ensures given { IfOk result IsGiven }
     {
@@ -149,7 +152,7 @@ impl PathFields {
             clusters: or_none(alloc, self.clusters),
         };
         match Attrs::new(parts) {
-            Ok(attrs) => Ok(Given { id, from, attrs }),
+            Ok(attrs) => Ok(share_path(alloc, near, id, from, attrs)?),
             Err(_) => Err(LineRefusal::of(24)),
         }
     }

@@ -10,10 +10,12 @@ mod line;
 mod names;
 mod path_fields;
 mod paths;
+mod recent;
 mod refusal;
+mod sharing;
 mod verb;
 mod words;
 
 pub use event::{Event, Given, GivenList, Line};
-pub use line::{read_line, read_routes_line};
+pub use line::{LineReader, read_line, read_routes_line};
 pub use refusal::LineRefusal;

@@ -13,13 +13,67 @@ use crate::entries::read_entries;
 use crate::event::{Event, Line};
 use crate::hexadecimal::{list_of, request_of};
 use crate::names::{name_of, policy_of};
-use crate::paths::read_paths;
+use crate::recent::Recent;
 use crate::refusal::LineRefusal;
 use crate::verb::{Verb, routes_verb_of, verb_of};
 use crate::words::{next_word, without_return};
 use std::alloc::Global;
 use ug_text::read_prefix;
 use ug_types::{Name, Prefix};
+
+/// A reader of the lines of a file, one by one. It remembers the paths that it read last: lines near each other that give
+/// equal paths share them.
+#[derive(Drop)]
+pub struct LineReader {
+    alloc: Global,
+    recent: Recent,
+}
+
+impl LineReader {
+    /// A reader that has read nothing. It takes no memory.
+    pub fn new(alloc: Global) -> LineReader {
+        LineReader {
+            alloc,
+            recent: Recent::new(),
+        }
+    }
+
+    /// What a line says, as `read_line` tells.
+    pub fn read(&mut self, bytes: &[u8]) -> Result<Line, LineRefusal>
+        ensures read { IfOk result (λ line. line_of bytes.now ≡ Ok (saying_of line)) }
+        ensures refused { IfErr result (λ e. IsRefusedBy e (line_of bytes.now)) }
+        ensures keeps { IfOk result (λ line. KeepsItsRules (saying_of line)) }
+    {
+        let Some(line) = short_line(bytes) else {
+            return Err(LineRefusal::of(20));
+        };
+        let Some((word, rest)) = first_word(line) else {
+            return Ok(Line::Blank);
+        };
+        match verb_of(word) {
+            Some(verb) => said(self.alloc, &mut self.recent, verb, rest),
+            None => Err(LineRefusal::of(21)),
+        }
+    }
+
+    /// What a line says where the verbs of routes alone are known, as `read_routes_line` tells.
+    pub fn read_routes(&mut self, bytes: &[u8]) -> Result<Line, LineRefusal>
+        ensures read { IfOk result (λ line. routes_line_of bytes.now ≡ Ok (saying_of line)) }
+        ensures refused { IfErr result (λ e. IsRefusedBy e (routes_line_of bytes.now)) }
+        ensures keeps { IfOk result (λ line. KeepsItsRules (saying_of line)) }
+    {
+        let Some(line) = short_line(bytes) else {
+            return Err(LineRefusal::of(20));
+        };
+        let Some((word, rest)) = first_word(line) else {
+            return Ok(Line::Blank);
+        };
+        match routes_verb_of(word) {
+            Some(verb) => said(self.alloc, &mut self.recent, verb, rest),
+            None => Err(LineRefusal::of(21)),
+        }
+    }
+}
 
 /// What a line says, without its newline. A line of over 4,096 bytes is refused as 20. A line without words, or whose
 /// first word begins with `#`, says nothing; a first word that is no verb is 21. Then the words are read from left to
@@ -29,16 +83,7 @@ pub fn read_line(alloc: Global, bytes: &[u8]) -> Result<Line, LineRefusal>
     ensures refused { IfErr result (λ e. IsRefusedBy e (line_of bytes.now)) }
     ensures keeps { IfOk result (λ line. KeepsItsRules (saying_of line)) }
 {
-    let Some(line) = short_line(bytes) else {
-        return Err(LineRefusal::of(20));
-    };
-    let Some((word, rest)) = first_word(line) else {
-        return Ok(Line::Blank);
-    };
-    match verb_of(word) {
-        Some(verb) => said(alloc, verb, rest),
-        None => Err(LineRefusal::of(21)),
-    }
+    LineReader::new(alloc).read(bytes)
 }
 
 /// The same where the verbs of routes alone are known, `paths` and `withdraw`: any other is refused as 21.
@@ -47,16 +92,7 @@ pub fn read_routes_line(alloc: Global, bytes: &[u8]) -> Result<Line, LineRefusal
     ensures refused { IfErr result (λ e. IsRefusedBy e (routes_line_of bytes.now)) }
     ensures keeps { IfOk result (λ line. KeepsItsRules (saying_of line)) }
 {
-    let Some(line) = short_line(bytes) else {
-        return Err(LineRefusal::of(20));
-    };
-    let Some((word, rest)) = first_word(line) else {
-        return Ok(Line::Blank);
-    };
-    match routes_verb_of(word) {
-        Some(verb) => said(alloc, verb, rest),
-        None => Err(LineRefusal::of(21)),
-    }
+    LineReader::new(alloc).read_routes(bytes)
 }
 
 /// A line that isn't too long, without its final carriage return.
@@ -84,7 +120,7 @@ fn first_word(line: &[u8]) -> Option<(&[u8], &[u8])>
 
 /// What the words behind a verb say.
 #[tactic(auto, unfolding(crate::specs::Grammar::said))]
-fn said(alloc: Global, verb: Verb, rest: &[u8]) -> Result<Line, LineRefusal>
+fn said(alloc: Global, recent: &mut Recent, verb: Verb, rest: &[u8]) -> Result<Line, LineRefusal>
     ensures read { Gives saying_of result (said verb (words rest.now)) }
     ensures keeps { IfOk result (λ line. KeepsItsRules (saying_of line)) }
 {
@@ -95,7 +131,7 @@ fn said(alloc: Global, verb: Verb, rest: &[u8]) -> Result<Line, LineRefusal>
         Verb::Down => Event::Down {
             peer: one_name(alloc, rest)?,
         },
-        Verb::Paths => return paths_line(alloc, rest),
+        Verb::Paths => return paths_line(alloc, recent, rest),
         Verb::Withdraw => Event::Withdraw {
             prefix: one_prefix(rest)?,
         },
@@ -142,8 +178,8 @@ fn one_prefix(rest: &[u8]) -> Result<Prefix, LineRefusal>
 }
 
 /// A prefix and its paths.
-#[tactic(auto, unfolding(crate::specs::Grammar::said))]
-fn paths_line(alloc: Global, rest: &[u8]) -> Result<Line, LineRefusal>
+#[tactic(auto, unfolding(crate::specs::Grammar::said), using(crate::proofs::InRange::event_in_range))]
+fn paths_line(alloc: Global, recent: &mut Recent, rest: &[u8]) -> Result<Line, LineRefusal>
     ensures read { Gives saying_of result (said verbs.Paths (words rest.now)) }
     ensures keeps { IfOk result (λ line. KeepsItsRules (saying_of line)) }
 {
@@ -153,7 +189,7 @@ fn paths_line(alloc: Global, rest: &[u8]) -> Result<Line, LineRefusal>
     let Some(prefix) = read_prefix(word) else {
         return Err(LineRefusal::of(23));
     };
-    let paths = read_paths(alloc, prefix.family, rest)?;
+    let paths = recent.read(alloc, prefix.family, rest)?;
     Ok(Line::Happened(Event::Paths { prefix, paths }))
 }
 

@@ -19,7 +19,7 @@ use std::sync::ledger::Ledger;
 use ug_prefixlist::{find_named, is_permitted};
 use ug_routemap::Mapped;
 use ug_types::{
-    Addr, AttrParts, Attrs, Family, Learned, Name, NoMemory, OutAttrs, Path, Prefix, Steps,
+    Addr, AttrParts, Attrs, Family, Learned, Name, NoMemory, OutAttrs, Path, Prefix, Shared, Steps,
 };
 
 /// What goes out of a path to the peers of a key; None exactly where nothing does. A prefix list that isn't there
@@ -47,7 +47,7 @@ pub fn outbound<L: Ledger>(
     let Some(mapped) = mapped(alloc, policies, &key.map, &path.attrs, prefix)? else {
         return Ok(None);
     };
-    let mapped = heeded(key.family, path.attrs.parts().next_hop, mapped);
+    let mapped = heeded(key.family, path.attrs.get().parts().next_hop, mapped);
     Ok(Some(finished(alloc, key, local, &path.learned, mapped)?))
 }
 
@@ -56,7 +56,7 @@ pub fn outbound<L: Ledger>(
 fn is_let_out(key: &GroupKey, policies: &Policies, prefix: &Prefix, path: &Path) -> bool
     ensures { result ≡ is_let_out key.now policies.now prefix.now path.now }
 {
-    let communities = path.attrs.parts().communities.as_slice();
+    let communities = path.attrs.get().parts().communities.as_slice();
     key.family == prefix.family
         && communities_allow(key.kind, communities)
         && reflection_allows(key.kind, &path.learned)
@@ -69,7 +69,7 @@ fn mapped(
     alloc: Global,
     policies: &Policies,
     name: &Option<Name>,
-    attrs: &Attrs,
+    attrs: &Shared<Attrs>,
     prefix: &Prefix,
 ) -> Result<Option<Mapped>, NoMemory>
     ensures exact { IfOk result (λ m. m ≡ mapped policies.now name.now attrs.now prefix.now) }
@@ -77,13 +77,13 @@ fn mapped(
 {
     let Some(name) = name else {
         return Ok(Some(Mapped {
-            attrs: attrs.copy(alloc)?,
+            attrs: attrs.get().copy(alloc)?,
             set_next_hop: false,
             set_med: false,
         }));
     };
     match find_named(policies.maps.as_slice(), name) {
-        Some(map) => map.apply(alloc, &policies.lists, attrs, prefix),
+        Some(map) => map.apply(alloc, &policies.lists, attrs.get(), prefix),
         None => Ok(None),
     }
 }

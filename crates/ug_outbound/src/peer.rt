@@ -1,7 +1,7 @@
 ghost use Rattle.std.specs.Prelude.{◌≡◌};
 ghost use Rattle.ug_outbound.specs.Keys.{ends_of};
 
-use ug_types::{Addr, Family, Name, PeerEnds, Prefix, Sequence};
+use ug_types::{Addr, Family, Name, PeerEnds, Prefix, RouterId, Sequence};
 
 /// A peer as it is configured, with its present policy.
 #[derive(Debug, Drop)]
@@ -9,7 +9,7 @@ pub struct Peer {
     pub name: Name,
     /// Its AS: an internal peer has the local one.
     pub asn: u32,
-    pub router_id: Addr,
+    pub router_id: RouterId,
     /// The family of its addresses and of the routes that it is sent.
     pub family: Family,
     /// Its own address.

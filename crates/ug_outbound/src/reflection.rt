@@ -34,7 +34,7 @@ pub fn reflected(
             if kind == Kind::External {
                 return Ok(without_reflection(alloc, parts));
             }
-            reflected_from(local, router, parts)
+            reflected_from(local, router.address(), parts)
         }
         Learned::Local | Learned::External => Ok(without_reflection(alloc, parts)),
     }

@@ -1,13 +1,15 @@
 //! The fields of a path, each read by a function of its own: one that was there before is refused. Only the next hop is
 //! read by the family of the path's prefix; of the others the contracts speak as of IPv4.
 
-ghost use Rattle.std.specs.Prelude.{◌≡◌, [], None, unwrap_or};
+ghost use Rattle.std.specs.Prelude.{◌≡◌, ◌<◌, true, [], None, unwrap_or, IfOk};
+ghost use Rattle.ug_types.specs.Attributes.{refusal_of};
+ghost use Rattle.ug_message.specs.Spellable.{has_ipv4_addresses};
 ghost use Rattle.ug_types.specs.declared.family.Family.TheVariants.{V4};
 ghost use Rattle.std.specs.Option.{option_map};
 ghost use Rattle.ug_text.specs.Lists.{items_of};
 ghost use Rattle.ug_events.specs.declared.field.Field.TheVariants as fields;
 ghost use Rattle.ug_events.specs.Reads.{bad_words, bad_attribute, or_refused};
-ghost use Rattle.ug_events.specs.Fields.{name_of, source_of, no_fields, valued_field, with_value, with_new, with_word, path_of_fields};
+ghost use Rattle.ug_events.specs.Fields.{name_of, source_of, no_fields, valued_field, with_value, with_new, with_word, are_ipv4, path_of_fields};
 ghost use Rattle.ug_events.specs.Views.{Gives};
 ghost use Rattle.ug_events.specs.declared.refusal.LineRefusal.TheVariants as refusals;
 ghost use Rattle.ug_slow_world.specs.Slow.{found_seen, with_valued};
@@ -19,7 +21,7 @@ use ug_text::{
     Spelled, cut_at, read_address, read_aggregator, read_ipv4, read_number, read_numbers,
     read_origin, read_path, read_positive,
 };
-use ug_types::{Addr, AttrParts, Attrs, Family, Name, NumberList, Sequence};
+use ug_types::{Addr, AttrParts, Attrs, Family, Name, NoMemory, NumberList, Sequence, Shared};
 
 /// A refusal from 20 to 25.
 pub fn refused(number: u8) -> LineRefusal
@@ -280,8 +282,9 @@ fn with_value(
 }
 
 /// The path of all its fields: those that it must have are there, and its attributes are within their bounds.
-#[tactic(auto, unfolding(ug_events::specs::Fields::path_of_fields))]
+#[tactic(auto, unfolding(ug_events::specs::Fields::path_of_fields, ug_message::specs::Spellable::has_ipv4_addresses))]
 pub fn path_of_found(alloc: Global, found: Found) -> Result<Given, LineRefusal>
+    requires ipv4 { are_ipv4 (found_seen found) ≡ true }
     ensures { Gives (λ given. given) result (path_of_fields (found_seen found)) }
 {
     let id = required(found.id)?;
@@ -302,9 +305,20 @@ pub fn path_of_found(alloc: Global, found: Found) -> Result<Given, LineRefusal>
         clusters: or_none(alloc, found.clusters),
     };
     match Attrs::new(parts) {
-        Ok(attrs) => Ok(Given { id, from, attrs }),
+        Ok(attrs) => Ok(given_path(alloc, id, from, attrs)?),
         Err(_) => Err(refused(24)),
     }
+}
+
+/// A path with these attributes, in memory of their own.
+fn given_path(alloc: Global, id: u32, from: Option<Name>, attrs: Attrs) -> Result<Given, NoMemory>
+    requires id { 0 < id }
+    requires attrs { refusal_of attrs ≡ None }
+    requires ipv4 { has_ipv4_addresses attrs ≡ true }
+    ensures { IfOk result (λ path. path ≡ record { id = id; from = from; attrs = attrs }) }
+{
+    let attrs = Shared::new(alloc, attrs)?;
+    Ok(Given { id, from, attrs })
 }
 
 /// The numbers of a field, none where it isn't there.

@@ -21,7 +21,7 @@ use ug_events::{Event, Line, LineRefusal};
 use ug_orf::{OrfMessage, OrfRefusal, read_orf};
 use ug_refresh::read_refresh;
 use ug_text::read_prefix;
-use ug_types::{ByteList, Name, Prefix};
+use ug_types::{ByteList, Name, Prefix, Shared};
 
 /// What a line says, without its newline, or why it is refused.
 pub fn read_slowly(alloc: Global, line: &[u8]) -> Result<Line, LineRefusal>
@@ -146,7 +146,7 @@ fn paths_line(alloc: Global, words: &[ByteList]) -> Result<Line, LineRefusal>
         return Err(refused(22));
     };
     let prefix = prefix_of(word.as_slice())?;
-    let paths = paths_of(alloc, prefix.family, others)?;
+    let paths = Shared::new(alloc, paths_of(alloc, prefix.family, others)?)?;
     Ok(Line::Happened(Event::Paths { prefix, paths }))
 }
 

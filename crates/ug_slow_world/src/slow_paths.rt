@@ -10,7 +10,7 @@ use crate::found::Found;
 use crate::slow_fields::{none, path_of_found, with_word};
 use crate::slow_words::run_len;
 use std::alloc::Global;
-use ug_events::{Given, GivenList, LineRefusal};
+use ug_events::{Given, LineRefusal};
 use ug_types::{ByteList, Family, Sequence};
 
 /// The fields with those of the words, one by one.
@@ -40,7 +40,11 @@ fn path_of(alloc: Global, family: Family, words: &[ByteList]) -> Result<Given, L
 
 /// The path of the words up to a bar, and the paths of those behind it.
 #[tactic(auto, using(ug_events::proofs::Runs::runs_are))]
-pub fn paths_of(alloc: Global, family: Family, words: &[ByteList]) -> Result<GivenList, LineRefusal>
+pub fn paths_of(
+    alloc: Global,
+    family: Family,
+    words: &[ByteList],
+) -> Result<Sequence<Given>, LineRefusal>
     ensures { Gives (λ list. list.items) result (paths_of family (texts words.now)) }
 {
     let len = run_len(words);
@@ -53,7 +57,7 @@ pub fn paths_of(alloc: Global, family: Family, words: &[ByteList]) -> Result<Giv
 }
 
 /// The paths with one in front.
-fn in_front(first: Given, others: GivenList) -> Result<GivenList, LineRefusal>
+fn in_front(first: Given, others: Sequence<Given>) -> Result<Sequence<Given>, LineRefusal>
     ensures paths { IfOk result (λ paths. paths.items ≡ first ∷ others.items) }
     ensures err { IfErr result (λ e. e ≡ refusals.NoMemory) }
 {

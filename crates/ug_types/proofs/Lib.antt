@@ -1,3 +1,4 @@
 pub mod NameText
 pub mod BareLemmas
 pub mod Orders
+pub mod Routers

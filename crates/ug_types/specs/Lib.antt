@@ -1,6 +1,7 @@
 pub mod Bytes
 pub mod Listed
 pub mod Ip
+pub mod Routers
 pub mod Keys
 pub mod Names
 pub mod Attributes

@@ -16,7 +16,9 @@ mod name;
 mod named;
 mod prefix;
 mod route;
+mod router_id;
 mod sequence;
+mod shared;
 mod steps;
 mod traits;
 
@@ -34,6 +36,8 @@ pub use name::{Name, NameList};
 pub use named::Named;
 pub use prefix::Prefix;
 pub use route::{Learned, NhKind, OutAttrs, Path, PeerEnds, PeerId, PeerList};
+pub use router_id::RouterId;
 pub use sequence::{ByteList, NumberList, Sequence};
+pub use shared::Shared;
 pub use steps::Steps;
 pub use traits::{Twin, Weighed};

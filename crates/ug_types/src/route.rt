@@ -6,7 +6,9 @@ use crate::address::Addr;
 use crate::attrs::Attrs;
 use crate::memory::NoMemory;
 use crate::prefix::Prefix;
+use crate::router_id::RouterId;
 use crate::sequence::Sequence;
+use crate::shared::Shared;
 use std::alloc::Global;
 
 /// The place of a peer among the configured ones, counted from 0.
@@ -41,19 +43,19 @@ pub struct PeerEnds {
 }
 
 /// Where a path comes from: the speaker itself, an external peer, or an internal one with its router id.
-#[derive(Clone, Copy, Debug, PartialEq, Eq)]
+#[derive(Clone, Copy, Debug)]
 pub enum Learned {
     Local,
     External,
-    Internal { client: bool, router: Addr },
+    Internal { client: bool, router: RouterId },
 }
 
-/// A path to a prefix.
+/// A path to a prefix. Its attributes are shared with whoever has the same.
 #[derive(Debug, Drop)]
 pub struct Path {
     pub id: u32,
     pub learned: Learned,
-    pub attrs: Attrs,
+    pub attrs: Shared<Attrs>,
 }
 
 impl OutAttrs {

@@ -1,13 +1,13 @@
 -- How many prefixes and paths there are after a change of one prefix.
 use Rattle.std.proofs.Common.{◌≡◌, ℕ, ◌+◌, ◌-◌, ◌<◌, ◌≤◌, false, List, [], ◌∷◌, length, Bool, Option, Some, None, refl, ap, sym, ◌∙◌, arith}
-use Rattle.std.specs.Prelude.{nat_lt, unwrap_or, is_some, if◌then◌else◌, sum_by}
+use Rattle.std.specs.Prelude.{true, ◌||◌, nat_lt, unwrap_or, is_some, if◌then◌else◌, sum_by}
 use Rattle.std.specs.Option.{option_map}
 use Rattle.std.specs.Map.{lookup, remove_entry, keys_of, values_of}
 use Rattle.std.specs.BTreeMap.{insert_entry, is_at}
 use Rattle.std.specs.List.Sorted.{IsStrictlySortedBy}
 use Rattle.std.proofs.lemmas.Map.Entries.{sum_by-insert_entry, sum_by-remove_entry, length-values_of}
 use Rattle.std.proofs.lemmas.List.Sums.{sum_by-cons}
-use Rattle.std.proofs.lemmas.Bool.{le-ltb}
+use Rattle.std.proofs.lemmas.Bool.{le-ltb, ltb-false}
 use Rattle.ug_types.specs.Ip.{IpPrefix}
 use Rattle.ug_types.specs.Keys.{prefix_cmp, prefix_cmp_total, same_prefix}
 use Rattle.ug_types.specs.declared.route.Path.{Path}
@@ -73,3 +73,14 @@ not_over routes k given count prefixes paths sorted are hold few some is =
     let a : nat_lt 1048576 (length (insert_entry prefix_cmp routes k given)) ≡ false = le-ltb _ _ (omega arith) in
     let b : nat_lt 2097152 (path_count (insert_entry prefix_cmp routes k given)) ≡ false = le-ltb _ _ (omega arith) in
     rw (a, b) refl
+
+-- the paths of a table that isn't overfull
+pub few_in_all : (rows paths : ℕ) → (nat_lt 1048576 rows || nat_lt 2097152 paths) ≡ false → paths ≤ 2097152
+few_in_all rows paths e = ltb-false 2097152 paths (second (nat_lt 1048576 rows) (nat_lt 2097152 paths) e)
+  where
+    second : (a b : Bool) → (a || b) ≡ false → b ≡ false
+    second true b e = absurd cc
+    second false b e = e
+
+pub counted : (paths count before all given there after : ℕ) → paths ≡ all → given ≡ count → before ≡ there → there ≤ all → after + there ≡ all + given → paths - before + count ≡ after
+counted paths count before all given there after p g b few e = omega (arith, p, g, b, few, e)

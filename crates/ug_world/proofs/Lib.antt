@@ -8,3 +8,7 @@ pub mod Counting
 pub mod Filtering
 pub mod Staying
 pub mod Starting
+pub mod Spelled
+pub mod GoodRoutes
+pub mod GoodWorlds
+pub mod Sendable

@@ -1,60 +1,59 @@
--- The order of prefixes that the code derives is that of the definitions.
-use Rattle.std.proofs.Common.{◌≡◌, ℕ, Bool, List, Option, Some, None, refl, ap, sym, subst, ◌∙◌}
-use Rattle.std.specs.Prelude.{IsSome, IfSome, IfNone}
-use Rattle.std.specs.Map.{lookup, remove_entry, keys_of}
-use Rattle.std.specs.List.Sorted.{IsStrictlySortedBy}
-use Rattle.std.specs.BTreeMap.{insert_entry, is_at}
-use Rattle.std.specs.BTreeMap.Range.{IsLeBy}
-use Rattle.std.specs.declared.cmp.Ordering.{Ordering}
+-- The rows of a map by prefix are routes: what is found, put in, taken out and stands behind a prefix.
+use Rattle.std.proofs.Common.{◌≡◌, Bool, List, Option, Some, None, refl, ap, sym, subst, ◌∙◌}
+use Rattle.std.specs.Prelude.{IsSome, IfSome, IfNone, [], unwrap_or}
+use Rattle.std.specs.List.{filter}
+use Rattle.std.specs.Ordering.{is_lt}
+use Rattle.std.proofs.Math.Bool.{and-true}
+use Rattle.std.specs.declared.ops.Bound.{Bound}
+use Rattle.std.specs.declared.ops.Bound.TheVariants.{Unbounded}
+use Rattle.std.specs.Map.{lookup, remove_entry}
+use Rattle.std.specs.BTreeMap.{is_at}
+use Rattle.std.specs.BTreeMap.Range.{range_contains, entries_between}
 use Rattle.ug_types.specs.Ip.{IpPrefix}
 use Rattle.ug_types.specs.Keys.{prefix_cmp, same_prefix}
-use Rattle.ug_types.specs.declared.family.Family.{Family}
-use Rattle.ug_types.specs.declared.family.Family.TheVariants.{V4, V6}
-use Rattle.ug_types.specs.contracts.prefix.PrefixOrd.TheImpl as prefix_ord
-use Rattle.ug_world.specs.Orders.{IsAfterBy, IsAfter, IsNotAfter}
+use Rattle.ug_types.specs.declared.route.Path.{Path}
+use Rattle.ug_world.specs.World.{Routes, paths_to}
+use Rattle.ug_world.specs.Orders.{IsAfter, IsNotAfter}
+use Rattle.ug_world.specs.Rows.{is_behind, rows_behind, start_behind}
 use Rattle.ug_world.proofs.Lookups.{tied}
 
-cmp_parts : (f g : Family) (a b c d : ℕ) → prefix_ord.ghosts.cmp (record { family = f; bits = a; len = c }) (record { family = g; bits = b; len = d }) ≡ prefix_cmp (record { family = f; bits = a; len = c }) (record { family = g; bits = b; len = d })
-cmp_parts V4 V4 a b c d = refl
-cmp_parts V6 V6 a b c d = refl
-cmp_parts V4 V6 a b c d = refl
-cmp_parts V6 V4 a b c d = refl
-
-pub derived : ◌≡◌ {A = IpPrefix → IpPrefix → Ordering} prefix_ord.ghosts.cmp prefix_cmp
-derived = λ i a b. cmp_parts a.family b.family a.bits b.bits a.len b.len i
-
 -- a query finds the same prefix, and no other
-pub found_same : (q : IpPrefix) → ◌≡◌ {A = IpPrefix → Bool} (is_at (prefix_ord.ghosts.cmp q)) (same_prefix q)
-found_same q = ap (λ (cmp : IpPrefix → IpPrefix → Ordering). is_at (cmp q)) derived ∙ (λ i k. tied q k i)
+pub found_same : (q : IpPrefix) → ◌≡◌ {A = IpPrefix → Bool} (is_at (prefix_cmp q)) (same_prefix q)
+found_same q = λ i k. tied q k i
 
--- the rows of a map stand in the order of their prefixes
-pub in_order : {V : Type 0} (rows routes : List (IpPrefix × V)) → rows ≡ routes → IsStrictlySortedBy prefix_ord.ghosts.cmp (keys_of rows) → IsStrictlySortedBy prefix_cmp (keys_of routes)
-in_order {V} rows routes is sorted =
-    subst (λ (es : List (IpPrefix × V)). IsStrictlySortedBy prefix_cmp (keys_of es)) is
-    (subst (λ (cmp : IpPrefix → IpPrefix → Ordering). IsStrictlySortedBy cmp (keys_of rows)) derived sorted)
-
--- a row that is put in by the derived order is put in by that of the definitions
-pub inserted_same : {V : Type 0} (rows routes new : List (IpPrefix × V)) (k : IpPrefix) (v : V) → rows ≡ routes → new ≡ insert_entry prefix_ord.ghosts.cmp rows k v → new ≡ insert_entry prefix_cmp routes k v
-inserted_same {V} rows routes new k v is e =
-    e ∙ ap (λ (cmp : IpPrefix → IpPrefix → Ordering). insert_entry cmp rows k v) derived ∙ ap (λ (es : List (IpPrefix × V)). insert_entry prefix_cmp es k v) is
-
-pub removed_same : {V : Type 0} (rows new : List (IpPrefix × V)) (k : IpPrefix) → new ≡ remove_entry (is_at (prefix_ord.ghosts.cmp k)) rows → new ≡ remove_entry (same_prefix k) rows
+pub removed_same : {V : Type 0} (rows new : List (IpPrefix × V)) (k : IpPrefix) → new ≡ remove_entry (is_at (prefix_cmp k)) rows → new ≡ remove_entry (same_prefix k) rows
 removed_same {V} rows new k e = e ∙ ap (λ (test : IpPrefix → Bool). remove_entry test rows) (found_same k)
 
-module _ {V : Type 0} (rows routes : List (IpPrefix × V)) (is : rows ≡ routes) where
-  pub least_same : {A : Type 0} (prefix_of : A → IpPrefix) (from : Option IpPrefix) (found : Option A)
-      → IfSome found (λ p. (q : IpPrefix) → IsAfterBy prefix_ord.ghosts.cmp from q → IsSome (lookup (is_at (prefix_ord.ghosts.cmp q)) rows) → IsLeBy prefix_ord.ghosts.cmp (prefix_of p) q)
-      → IfSome found (λ p. (q : IpPrefix) → IsAfter from q → IsSome (lookup (same_prefix q) routes) → IsNotAfter (prefix_of p) q)
-  least_same prefix_of from None h = tt
-  least_same prefix_of from (Some p) h = λ q after there.
-      subst (λ (cmp : IpPrefix → IpPrefix → Ordering). IsLeBy cmp (prefix_of p) q) derived
-      (h q (subst (λ (cmp : IpPrefix → IpPrefix → Ordering). IsAfterBy cmp from q) (sym derived) after)
-      (subst (λ (test : IpPrefix → Bool). IsSome (lookup test rows)) (sym (found_same q)) (subst (λ (es : List (IpPrefix × V)). IsSome (lookup (same_prefix q) es)) (sym is) there)))
+-- the paths that a prefix had
+pub were_paths : (rows routes : Routes) (k key : IpPrefix) (old : Option (List Path)) → rows ≡ routes → key ≡ k → old ≡ lookup (is_at (prefix_cmp key)) rows → unwrap_or old [] ≡ paths_to routes k
+were_paths rows routes k key old is same e =
+    ap (λ (o : Option (List Path)). unwrap_or o [])
+    (e ∙ ap (λ (q : IpPrefix). lookup (is_at (prefix_cmp q)) rows) same ∙ ap (λ (test : IpPrefix → Bool). lookup test rows) (found_same k) ∙ ap (lookup (same_prefix k)) is)
 
-  pub none_same : {A : Type 0} (from : Option IpPrefix) (found : Option A)
-      → IfNone found ((q : IpPrefix) → IsAfterBy prefix_ord.ghosts.cmp from q → lookup (is_at (prefix_ord.ghosts.cmp q)) rows ≡ None)
+module _ {V : Type 0} (rows routes : List (IpPrefix × V)) (is : rows ≡ routes) where
+  pub least_same : (from found : Option IpPrefix)
+      → IfSome found (λ p. (q : IpPrefix) → IsAfter from q → IsSome (lookup (is_at (prefix_cmp q)) rows) → IsNotAfter p q)
+      → IfSome found (λ p. (q : IpPrefix) → IsAfter from q → IsSome (lookup (same_prefix q) routes) → IsNotAfter p q)
+  least_same from None h = tt
+  least_same from (Some p) h = λ q after there.
+      h q after (subst (λ (test : IpPrefix → Bool). IsSome (lookup test rows)) (sym (found_same q)) (subst (λ (es : List (IpPrefix × V)). IsSome (lookup (same_prefix q) es)) (sym is) there))
+
+  pub none_same : (from found : Option IpPrefix)
+      → IfNone found ((q : IpPrefix) → IsAfter from q → lookup (is_at (prefix_cmp q)) rows ≡ None)
       → IfNone found ((q : IpPrefix) → IsAfter from q → lookup (same_prefix q) routes ≡ None)
   none_same from None h = λ q after.
       subst (λ (es : List (IpPrefix × V)). lookup (same_prefix q) es ≡ None) is
-      (subst (λ (test : IpPrefix → Bool). lookup test rows ≡ None) (found_same q) (h q (subst (λ (cmp : IpPrefix → IpPrefix → Ordering). IsAfterBy cmp from q) (sym derived) after)))
+      (subst (λ (test : IpPrefix → Bool). lookup test rows ≡ None) (found_same q) (h q after))
   none_same from (Some p) h = tt
+
+-- what lies between a prefix and the end stands behind the prefix
+between_same : (from : Option IpPrefix) (q : IpPrefix) → range_contains prefix_cmp (start_behind from) Unbounded q ≡ is_behind from q
+between_same None q = refl
+between_same (Some p) q = and-true (is_lt (prefix_cmp p q))
+
+pub behind_same : (rows routes : Routes) (from : Option IpPrefix) (start : Bound IpPrefix) → rows ≡ routes → start ≡ start_behind from
+    → entries_between prefix_cmp start Unbounded rows ≡ rows_behind from routes
+behind_same rows routes from start is starts =
+    ap (λ (s : Bound IpPrefix). entries_between prefix_cmp s Unbounded rows) starts
+    ∙ (λ i. filter (λ (row : IpPrefix × List Path). between_same from row.0 i) rows)
+    ∙ ap (rows_behind from) is

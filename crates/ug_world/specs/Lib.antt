@@ -4,8 +4,12 @@ pub mod Private
 pub mod Verdicts
 pub mod After
 pub mod Orders
+pub mod Rows
+pub mod Stored
 pub mod Kept
 pub mod Filtered
 pub mod Parts
 pub mod Touches
 pub mod Worlds
+pub mod Good
+pub mod Sendable

@@ -5,10 +5,10 @@ use Rattle.std.specs.BTreeMap.Range.{IsLtBy, IsLeBy}
 use Rattle.ug_types.specs.Ip.{IpPrefix}
 use Rattle.ug_types.specs.Keys.{prefix_cmp}
 
--- a prefix that stands after another, or after none
-abbrev pub IsAfterBy : (IpPrefix → IpPrefix → Ordering) → Option IpPrefix → IpPrefix → Type 0
+-- a key that stands after another, or after none
+abbrev pub IsAfterBy : {K : Type 0} → (K → K → Ordering) → Option K → K → Type 0
 IsAfterBy cmp None q = Unit {0}
-IsAfterBy cmp (Some p) q = IsLtBy cmp p q
+IsAfterBy cmp (Some k) q = IsLtBy cmp k q
 
 abbrev pub IsAfter : Option IpPrefix → IpPrefix → Type 0
 IsAfter from q = IsAfterBy prefix_cmp from q

@@ -52,7 +52,7 @@ impl Clone for Best {
     }
 }
 
-/// Equal paths.
+/// Equal paths, which share the attributes.
 fn copy_paths(alloc: Global, paths: &[Path]) -> Result<Vec<Path>, NoMemory>
     ensures { IfOk result (λ copy. copy.items ≡ paths.now) }
 {
@@ -61,7 +61,7 @@ fn copy_paths(alloc: Global, paths: &[Path]) -> Result<Vec<Path>, NoMemory>
         copy.push(Path {
             id: path.id,
             learned: path.learned,
-            attrs: path.attrs.copy(alloc)?,
+            attrs: path.attrs.share()?,
         })?;
     }
     Ok(copy)

@@ -184,7 +184,7 @@ fn is_peer_good(policies: &[NamedPolicy], peer: &Peer) -> bool
 {
     peer.name.text() != "local"
         && peer.asn >= 1
-        && is_ipv4(peer.router_id)
+        && is_ipv4(peer.router_id.address())
         && peer.address.family == peer.family
         && peer.local_address.family == peer.family
         && peer.subnet.family == peer.family

@@ -53,7 +53,9 @@ impl World {
                     6,
                 )
             }
-            Event::Paths { prefix, paths } => self.paths_refusal(prefix, paths.as_slice()),
+            Event::Paths { prefix, paths } => {
+                self.paths_refusal(prefix, paths.get().as_slice())
+            },
             Event::Withdraw { prefix } => unless_known(self.routes.contains(prefix), 4),
         }
     }

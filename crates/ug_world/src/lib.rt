@@ -15,12 +15,15 @@ mod parts;
 mod peer_state;
 mod peers;
 mod readers;
+mod rows;
 mod seats;
+mod stored_prefix;
 mod take;
 mod world;
 
 pub use judge::Refusal;
-pub use laws::world_laws;
+pub use laws::{sendable_laws, world_laws};
 pub use parts::WorldParts;
 pub use peer_state::PeerState;
+pub use rows::Rows;
 pub use world::World;

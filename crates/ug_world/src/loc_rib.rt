@@ -1,7 +1,9 @@
 //! The routes that a speaker has.
 
-ghost use Rattle.std.specs.Prelude.{◌≡◌, ◌≤◌, ◌||◌, nat_lt, if◌then◌else◌, List, [], length, is_some, true, false, None, IsSome, IfSome, IfNone, IfOk, OnOk, OnErr, option_copied};
+ghost use Rattle.std.specs.Prelude.{◌≡◌, ◌≤◌, ◌||◌, nat_lt, if◌then◌else◌, List, [], length, is_some, true, false, None, IsSome, IfSome, IfNone, IfOk, OnOk, OnErr, option_copied, unwrap_or};
+ghost use Rattle.std.specs.List.Sorted.{IsStrictlySortedBy};
 ghost use Rattle.std.specs.Map.{lookup, remove_entry};
+ghost use Rattle.std.specs.Map as maps;
 ghost use Rattle.std.specs.BTreeMap.{insert_entry, get};
 ghost use Rattle.std.specs.BTreeMap.Range.{IsLeBy};
 ghost use Rattle.ug_types.specs.Ip.{IpPrefix};
@@ -11,9 +13,12 @@ ghost use Rattle.ug_world.specs.World.{paths_to};
 ghost use Rattle.ug_world.specs.Private.{keys_of};
 ghost use Rattle.ug_world.specs.Verdicts.{path_count, is_overfull};
 ghost use Rattle.ug_world.specs.Orders.{IsAfterBy, IsAfter, IsNotAfter};
+ghost use Rattle.ug_world.specs.Rows.{rows_behind, start_behind};
 
 use crate::best::Best;
 use crate::keys::put_keys;
+use crate::rows::Rows;
+use crate::stored_prefix::StoredPrefix;
 use std::alloc::Global;
 use std::collections::BTreeMap;
 use std::marker::Model;
@@ -23,7 +28,7 @@ use ug_types::{Key, NoMemory, Path, Prefix};
 /// The Loc-RIB: each prefix that has paths, with them. Contracts see the prefixes in their order, each with its paths.
 #[derive(Drop)]
 pub struct LocRib {
-    rows: BTreeMap<Prefix, Best>,
+    rows: BTreeMap<StoredPrefix, Best>,
     /// How many paths there are in all.
     paths: u64,
 }
@@ -56,7 +61,7 @@ impl LocRib {
     pub fn paths(&self, prefix: &Prefix) -> &[Path]
         ensures { result.now ≡ paths_to self.now prefix.now }
     {
-        match self.rows.get(prefix) {
+        match self.rows.get(&StoredPrefix::narrow(prefix)) {
             Some(best) => best.as_slice(),
             None => &[],
         }
@@ -66,7 +71,7 @@ impl LocRib {
     pub fn contains(&self, prefix: &Prefix) -> bool
         ensures { result ≡ is_some (lookup (same_prefix prefix.now) self.now) }
     {
-        self.rows.get(prefix).is_some()
+        self.rows.get(&StoredPrefix::narrow(prefix)).is_some()
     }
 
     /// Whether there would be over 1,048,576 prefixes, or over 2,097,152 paths, if this prefix had so many paths in place
@@ -112,7 +117,7 @@ impl LocRib {
         ensures small { result.0 ≤ 1 }
         ensures paths { result.1 ≡ length (paths_to self.now prefix.now) }
     {
-        match self.rows.get(prefix) {
+        match self.rows.get(&StoredPrefix::narrow(prefix)) {
             Some(best) => (1, best.as_slice().len() as u128),
             None => (0, 0),
         }
@@ -124,9 +129,9 @@ impl LocRib {
         ensures ok { OnOk result (self.new ≡ insert_entry prefix_cmp self.old prefix best) }
         ensures err { OnErr result (self.new ≡ self.old) }
     {
-        let (_, paths) = self.counts_with(&prefix, best.as_slice().len());
-        self.rows.insert(prefix, best)?;
-        self.paths = paths as u64;
+        let count = best.as_slice().len() as u64;
+        let before = count_of(self.rows.insert(StoredPrefix::narrow(&prefix), best)?);
+        self.paths = self.paths - before + count;
         Ok(())
     }
 
@@ -134,19 +139,29 @@ impl LocRib {
     pub fn remove(&mut self, prefix: &Prefix)
         ensures { self.new ≡ remove_entry (same_prefix prefix.now) self.old }
     {
-        let before = self.paths(prefix).len() as u64;
-        self.rows.remove(prefix);
-        self.paths -= before;
+        self.paths -= count_of(self.rows.remove(&StoredPrefix::narrow(prefix)));
     }
 
     /// The least prefix with paths above the given one, or the first; None exactly where there is none.
-    pub fn prefix_after(&self, prefix: Option<&Prefix>) -> Option<&Prefix>
-        ensures there { IfSome result (λ p. IsSome (lookup (same_prefix p.now) self.now)) }
-        ensures above { IfSome result (λ p. IsAfter (option_copied prefix.entry) p.now) }
-        ensures least { IfSome result (λ p. (q : IpPrefix) → IsAfter (option_copied prefix.entry) q → IsSome (lookup (same_prefix q) self.now) → IsNotAfter p.now q) }
+    pub fn prefix_after(&self, prefix: Option<&Prefix>) -> Option<Prefix>
+        ensures there { IfSome result (λ p. IsSome (lookup (same_prefix p) self.now)) }
+        ensures above { IfSome result (λ p. IsAfter (option_copied prefix.entry) p) }
+        ensures least { IfSome result (λ p. (q : IpPrefix) → IsAfter (option_copied prefix.entry) q → IsSome (lookup (same_prefix q) self.now) → IsNotAfter p q) }
         ensures none { IfNone result ((q : IpPrefix) → IsAfter (option_copied prefix.entry) q → lookup (same_prefix q) self.now ≡ None) }
     {
         first_after(&self.rows, prefix)
+    }
+
+    /// The rows behind a prefix, or all of them, in the order of their prefixes. No list of them is made.
+    pub fn rows_behind(&self, prefix: Option<&Prefix>) -> Rows<'_>
+        ensures rows { result ≡ rows_behind (option_copied prefix.entry) self.now }
+        ensures ascending { IsStrictlySortedBy prefix_cmp (maps.keys_of self.now) }
+    {
+        Rows {
+            rows: self
+                .rows
+                .range((start_behind(narrowed(prefix)), Bound::Unbounded)),
+        }
     }
 
     /// The keys under which the paths can stand, in the order of the prefixes: identifier 0, or with ADD-PATH their own.
@@ -155,7 +170,7 @@ impl LocRib {
     {
         let mut keys = Vec::new(alloc);
         for (prefix, best) in self.rows.iter() {
-            put_keys(&mut keys, alloc, add_path, prefix, best.as_slice())?;
+            put_keys(&mut keys, alloc, add_path, &prefix.widen(), best.as_slice())?;
         }
         Ok(keys)
     }
@@ -178,21 +193,58 @@ fn are_over(prefixes: u128, paths: u128) -> bool
     prefixes > 1048576 || paths > 2097152
 }
 
-/// The least prefix above the given one, or the first.
-fn first_after<'a>(rows: &'a BTreeMap<Prefix, Best>, prefix: Option<&Prefix>) -> Option<&'a Prefix>
-    ensures there { IfSome result (λ p. IsSome (get ⟦<Prefix as Ord>⟧.cmp rows.now p.now)) }
-    ensures above { IfSome result (λ p. IsAfterBy ⟦<Prefix as Ord>⟧.cmp (option_copied prefix.entry) p.now) }
-    ensures least { IfSome result (λ p. (q : IpPrefix) → IsAfterBy ⟦<Prefix as Ord>⟧.cmp (option_copied prefix.entry) q →
-        IsSome (get ⟦<Prefix as Ord>⟧.cmp rows.now q) → IsLeBy ⟦<Prefix as Ord>⟧.cmp p.now q) }
-    ensures none { IfNone result ((q : IpPrefix) → IsAfterBy ⟦<Prefix as Ord>⟧.cmp (option_copied prefix.entry) q →
-        get ⟦<Prefix as Ord>⟧.cmp rows.now q ≡ None) }
+/// How many paths there are, if any.
+fn count_of(best: Option<Best>) -> u64
+    ensures { result ≡ length (unwrap_or best []) }
 {
-    let start = match prefix {
-        Some(prefix) => Bound::Excluded(*prefix),
+    match best {
+        Some(best) => best.as_slice().len() as u64,
+        None => 0,
+    }
+}
+
+/// The least prefix above the given one, or the first.
+fn first_after(rows: &BTreeMap<StoredPrefix, Best>, prefix: Option<&Prefix>) -> Option<Prefix>
+    ensures there { IfSome result (λ p. IsSome (get prefix_cmp rows.now p)) }
+    ensures above { IfSome result (λ p. IsAfter (option_copied prefix.entry) p) }
+    ensures least { IfSome result (λ p. (q : IpPrefix) → IsAfter (option_copied prefix.entry) q → IsSome (get prefix_cmp rows.now q) → IsNotAfter p q) }
+    ensures none { IfNone result ((q : IpPrefix) → IsAfter (option_copied prefix.entry) q → get prefix_cmp rows.now q ≡ None) }
+{
+    match least_after(rows, narrowed(prefix)) {
+        Some(prefix) => Some(prefix.widen()),
+        None => None,
+    }
+}
+
+/// The least key above the given one, or the first.
+fn least_after<K: Ord + Drop, V>(rows: &BTreeMap<K, V>, key: Option<K>) -> Option<&K>
+    ensures there { IfSome result (λ k. IsSome (get K.cmp rows.now k.now)) }
+    ensures above { IfSome result (λ k. IsAfterBy K.cmp key k.now) }
+    ensures least { IfSome result (λ k. (q : K) → IsAfterBy K.cmp key q → IsSome (get K.cmp rows.now q) → IsLeBy K.cmp k.now q) }
+    ensures none { IfNone result ((q : K) → IsAfterBy K.cmp key q → get K.cmp rows.now q ≡ None) }
+{
+    match rows.range((start_behind(key), Bound::Unbounded)).next() {
+        Some((key, _)) => Some(key),
+        None => None,
+    }
+}
+
+/// Where the keys behind one begin, or all.
+fn start_behind<K>(key: Option<K>) -> Bound<K>
+    ensures { result ≡ start_behind key }
+{
+    match key {
+        Some(key) => Bound::Excluded(key),
         None => Bound::Unbounded,
-    };
-    match rows.range((start, Bound::Unbounded)).next() {
-        Some((prefix, _)) => Some(prefix),
+    }
+}
+
+/// The prefix in few bytes, if there is one.
+fn narrowed(prefix: Option<&Prefix>) -> Option<StoredPrefix>
+    ensures { result ≡ option_copied prefix.entry }
+{
+    match prefix {
+        Some(prefix) => Some(StoredPrefix::narrow(prefix)),
         None => None,
     }
 }

@@ -2,16 +2,19 @@
 
 ghost use Rattle.std.specs.Prelude.{◌≡◌, ◌<◌, Some, None, length, slice_get, IsSome, IfSome, IfNone, MatchOption, option_copied};
 ghost use Rattle.std.specs.Option.{option_map};
-ghost use Rattle.std.specs.Map.{lookup};
+ghost use Rattle.std.specs.List.Sorted.{IsStrictlySortedBy};
+ghost use Rattle.std.specs.Map.{lookup, keys_of};
 ghost use Rattle.ug_types.specs.Ip.{IpPrefix};
-ghost use Rattle.ug_types.specs.Keys.{same_prefix};
+ghost use Rattle.ug_types.specs.Keys.{prefix_cmp, same_prefix};
 ghost use Rattle.ug_prefixlist.specs.Filters.{IsFilter};
 ghost use Rattle.ug_world.specs.World.{paths_to, peer_named, policy_named};
 ghost use Rattle.ug_world.specs.Orders.{IsAfter, IsNotAfter};
 ghost use Rattle.ug_world.specs.Kept.{IsPlaceOf};
+ghost use Rattle.ug_world.specs.Rows.{rows_behind};
 
 use crate::peer_state::PeerState;
 use crate::peers::place_of;
+use crate::rows::Rows;
 use crate::world::World;
 use ug_outbound::{Local, Peer, Policies, Policy};
 use ug_prefixlist::{EntryList, find_named};
@@ -127,12 +130,21 @@ impl World {
     }
 
     /// The least prefix with paths above the given one, or the first; None exactly where there is none.
-    pub fn prefix_after(&self, prefix: Option<&Prefix>) -> Option<&Prefix>
-        ensures there { IfSome result (λ p. IsSome (lookup (same_prefix p.now) self.now.routes)) }
-        ensures above { IfSome result (λ p. IsAfter (option_copied prefix.entry) p.now) }
-        ensures least { IfSome result (λ p. (q : IpPrefix) → IsAfter (option_copied prefix.entry) q → IsSome (lookup (same_prefix q) self.now.routes) → IsNotAfter p.now q) }
+    pub fn prefix_after(&self, prefix: Option<&Prefix>) -> Option<Prefix>
+        ensures there { IfSome result (λ p. IsSome (lookup (same_prefix p) self.now.routes)) }
+        ensures above { IfSome result (λ p. IsAfter (option_copied prefix.entry) p) }
+        ensures least { IfSome result (λ p. (q : IpPrefix) → IsAfter (option_copied prefix.entry) q → IsSome (lookup (same_prefix q) self.now.routes) → IsNotAfter p q) }
         ensures none { IfNone result ((q : IpPrefix) → IsAfter (option_copied prefix.entry) q → lookup (same_prefix q) self.now.routes ≡ None) }
     {
         self.routes.prefix_after(prefix)
+    }
+
+    /// The rows behind a prefix, or all of them, in the order of their prefixes, each as its prefix and its paths. No list of
+    /// them is made: the first takes one search, and each further one a step.
+    pub fn rows_behind(&self, prefix: Option<&Prefix>) -> Rows<'_>
+        ensures rows { result ≡ rows_behind (option_copied prefix.entry) self.now.routes }
+        ensures ascending { IsStrictlySortedBy prefix_cmp (keys_of self.now.routes) }
+    {
+        self.routes.rows_behind(prefix)
     }
 }

@@ -44,7 +44,9 @@ impl World {
             Event::Orf { peer, message } => self.apply_message(alloc, peer, message),
             Event::Policy { peer, policy } => self.set_policy(alloc, peer, policy),
             Event::List { name, entries } => self.relist(alloc, name, entries),
-            Event::Paths { prefix, paths } => self.set_paths(alloc, *prefix, paths.as_slice()),
+            Event::Paths { prefix, paths } => {
+                self.set_paths(alloc, *prefix, paths.get().as_slice())
+            },
             Event::Withdraw { prefix } => {
                 self.remove_paths(prefix);
                 Ok(())
@@ -150,7 +152,7 @@ impl World {
         self.version += 1;
     }
 
-    /// The paths as they stand among the routes.
+    /// The paths as they stand among the routes, which share the attributes.
     fn paths_of(&self, alloc: Global, given: &[Given]) -> Result<Vec<Path>, NoMemory>
         ensures { IfOk result (λ paths. paths.items ≡ map (path_of self.now) given.now) }
     {
@@ -159,7 +161,7 @@ impl World {
             paths.push(Path {
                 id: path.id,
                 learned: self.learned_of(&path.from),
-                attrs: path.attrs.copy(alloc)?,
+                attrs: path.attrs.share()?,
             })?;
         }
         Ok(paths)

@@ -18,7 +18,7 @@ pub returns-clause-exact : goal.returns-clause-exact
 returns-clause-exact g c =
     let key = c.args.key.now in
     let path = c.args.path.now in
-    ap (λ (o : OutAttrs). Some o) (c.in_ok-finished.ensures ∙ ap (λ (m : Mapped). finished key c.args.local.now path.learned (reflect c.args.local.now key.kind path.learned m)) (c.heeded-mapped.ensures ∙ ap (λ raw. heeded key.family raw c.in-Some.mapped) (ap (λ a. a.next_hop) c.parts.ensures.parts)))
+    ap (λ (o : OutAttrs). Some o) (c.in_ok-finished.ensures ∙ ap (λ (m : Mapped). finished key c.args.local.now path.learned (reflect c.args.local.now key.kind path.learned m)) (c.heeded-mapped.ensures ∙ ap (λ raw. heeded key.family raw c.in-Some.mapped) (ap (λ a. a.next_hop) (c.parts.ensures.parts ∙ c.get.ensures))))
     ∙ let_out _ _ (λ (m : Mapped). finished key c.args.local.now path.learned (reflect c.args.local.now key.kind path.learned (heeded key.family path.attrs.next_hop m))) _ (sym c.is_let_out.ensures ∙ c.if-not-is_let_out.false) (sym c.in_ok-mapped.ensures.exact ∙ c.in-Some.is)
     ∙ sym (out_is_after key c.args.policies.now c.args.local.now c.args.prefix.now c.args.path.now)
 

@@ -1,25 +1,30 @@
 use Rattle.std.proofs.Common.{◌≡◌, length, ap, ◌∙◌, arith}
-use Rattle.ug_types.specs.Keys.{same_prefix}
+use Rattle.ug_types.specs.Ip.{IpPrefix}
+use Rattle.ug_types.specs.Keys.{prefix_cmp, same_prefix}
 use Rattle.std.specs.Map.{remove_entry}
-use Rattle.ug_world.specs.World.{Routes, paths_to}
+use Rattle.std.specs.BTreeMap.{is_at}
+use Rattle.ug_world.specs.World.{Routes}
 use Rattle.ug_world.specs.Verdicts.{path_count}
-use Rattle.ug_world.proofs.PrefixOrder.{removed_same}
+use Rattle.ug_world.proofs.PrefixOrder.{were_paths, removed_same}
 use Rattle.ug_world.proofs.Counting.{few_paths, removed_paths}
 use Rattle.ug_world.proofs.loc_rib.LocRib.remove.Goals as goal
 
 pub overflow_sub-self : goal.overflow_sub-self
 overflow_sub-self c =
-    let few = few_paths c.args.self.now c.args.prefix.now in
-    let before : length c.paths.result.now ≡ length (paths_to c.args.self.now c.args.prefix.now) = ap length c.paths.ensures in
-    let all : c.self.inside.paths ≡ path_count c.args.self.now = c.self.invariant ∙ ap path_count c.self.view_is in
+    let routes = c.args.self.now in
+    let few = few_paths routes c.args.prefix.now in
+    let before = c.count_of.ensures ∙ ap length (were_paths c.self.inside.rows.entries routes c.args.prefix.now c.narrow.result c.remove.result c.self.view_is c.narrow.ensures c.remove.ensures.value) in
+    let all : c.self.inside.paths ≡ path_count routes = c.self.invariant ∙ ap path_count c.self.view_is in
     omega (arith, few, before, all)
 
 pub invariant_of-self : goal.invariant_of-self
 invariant_of-self c =
-    let left = removed_paths c.args.self.now c.args.prefix.now in
-    let before : length c.paths.result.now ≡ length (paths_to c.args.self.now c.args.prefix.now) = ap length c.paths.ensures in
-    let all : c.self.inside.paths ≡ path_count c.args.self.now = c.self.invariant ∙ ap path_count c.self.view_is in
-    let now : path_count c.remove.new.self.entries ≡ path_count (remove_entry (same_prefix c.args.prefix.now) c.args.self.now) =
-    ap path_count (removed_same c.self.inside.rows.entries c.remove.new.self.entries c.args.prefix.now c.remove.ensures.entries)
-    ∙ ap (λ (es : Routes). path_count (remove_entry (same_prefix c.args.prefix.now) es)) c.self.view_is in
+    let routes = c.args.self.now in
+    let left = removed_paths routes c.args.prefix.now in
+    let before = c.count_of.ensures ∙ ap length (were_paths c.self.inside.rows.entries routes c.args.prefix.now c.narrow.result c.remove.result c.self.view_is c.narrow.ensures c.remove.ensures.value) in
+    let all : c.self.inside.paths ≡ path_count routes = c.self.invariant ∙ ap path_count c.self.view_is in
+    let now : path_count c.remove.new.self.entries ≡ path_count (remove_entry (same_prefix c.args.prefix.now) routes) =
+    ap path_count (removed_same c.self.inside.rows.entries c.remove.new.self.entries c.args.prefix.now
+    (c.remove.ensures.entries ∙ ap (λ (k : IpPrefix). remove_entry (is_at (prefix_cmp k)) c.self.inside.rows.entries) c.narrow.ensures)
+    ∙ ap (λ (es : Routes). remove_entry (same_prefix c.args.prefix.now) es) c.self.view_is) in
     omega (arith, left, before, all, now)

@@ -1,4 +1,5 @@
-use Rattle.std.proofs.Common.{◌≡◌, false, List, None, sym, subst}
+use Rattle.std.proofs.Common.{◌≡◌, ◌∙◌, ap, false, List, None, sym, subst}
+use Rattle.ug_types.specs.Listed.{Listed}
 use Rattle.ug_events.specs.declared.event.Event.{Event}
 use Rattle.ug_events.specs.Events.{GivenPath}
 use Rattle.ug_events.specs.Views.{event_of}
@@ -8,5 +9,5 @@ use Rattle.ug_world.proofs.world.World.take.Goals as goal
 
 pub set_paths-requires-clause-room : goal.set_paths-requires-clause-room
 set_paths-requires-clause-room c =
-    subst (λ (given : List GivenPath). is_overfull (with_paths c.args.self.now c.in-Paths.prefix given) ≡ false) (sym c.as_slice.ensures)
+    subst (λ (given : List GivenPath). is_overfull (with_paths c.args.self.now c.in-Paths.prefix given) ≡ false) (sym (c.as_slice.ensures ∙ ap (λ (l : Listed GivenPath). l.items) c.get.ensures))
     (room c.args.self.now c.in-Paths.prefix c.in-Paths.paths.items (subst (λ (e : Event). verdict c.args.self.now (event_of e) ≡ None) c.in-Paths.is c.requires.accepted))

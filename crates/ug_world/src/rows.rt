@@ -1,0 +1,43 @@
+//! The rows of the Loc-RIB one after another.
+
+ghost use Rattle.std.specs.Prelude.{length};
+ghost use Rattle.std.specs.Iterator.{at_most};
+ghost use Rattle.std.specs.Map.Iter.{TakesFirst};
+ghost use Rattle.ug_world.specs.Rows.{row_lent};
+
+use crate::best::Best;
+use crate::stored_prefix::StoredPrefix;
+use std::collections::btree_map::Range;
+use std::marker::Model;
+use ug_types::{Path, Prefix};
+
+/// Rows of the Loc-RIB in the order of their prefixes, each as its prefix and its paths, the best first.
+#[derive(Drop)]
+pub struct Rows<'a> {
+    pub(crate) rows: Range<'a, StoredPrefix, Best>,
+}
+
+impl<'a> Model for Rows<'a> {
+    ghost use Rattle.std.specs.Prelude.{List};
+    ghost use Rattle.ug_types.specs.Ip.{IpPrefix};
+    ghost use Rattle.ug_types.specs.declared.route.Path.{Path};
+
+    ghost Value = { List (IpPrefix × List Path) };
+
+    ghost view = { λ r. r.rows };
+}
+
+impl<'a> Iterator for Rows<'a> {
+    type Item = (Prefix, &'a [Path]);
+
+    ghost next_gives = { TakesFirst row_lent };
+
+    ghost remaining = { λ r. at_most (length r) };
+
+    fn next(&mut self) -> Option<(Prefix, &'a [Path])> {
+        match self.rows.next() {
+            Some((prefix, best)) => Some((prefix.widen(), best.as_slice())),
+            None => None,
+        }
+    }
+}
