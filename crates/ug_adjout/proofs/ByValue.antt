@@ -26,7 +26,7 @@ use Rattle.ug_adjout.specs.Stored.{projected, projected_with, of_row}
 use Rattle.ug_adjout.specs.Places.{slot_cmp, key_for, IsIndexed, of_value}
 use Rattle.ug_adjout.proofs.Lists.{sorted_projected, value_at-projected}
 use Rattle.ug_adjout.proofs.Slots.{slot, option_exact, tied, same_value, itself, at_slot, with_true}
-use Rattle.ug_adjout.proofs.ByPlace.{same_table}
+use Rattle.ug_adjout_rules.proofs.SameTables.{same_table}
 
 zero_first : (n : ℕ) → is_le (nat_cmp 0 n) ≡ true
 zero_first zero = refl

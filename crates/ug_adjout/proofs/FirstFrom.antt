@@ -22,7 +22,8 @@ use Rattle.ug_adjout.specs.Places.{slot_cmp, value_of, key_for, by_place, withdr
 use Rattle.ug_adjout.proofs.Lists.{first_lookup, tail_lookup, value_at-projected}
 use Rattle.ug_adjout.proofs.Steps.{at_number}
 use Rattle.ug_adjout.proofs.Slots.{slot, itself}
-use Rattle.ug_adjout.proofs.ByPlace.{same_some, told}
+use Rattle.ug_adjout_rules.proofs.SameTables.{same_some}
+use Rattle.ug_adjout.proofs.ByPlace.{told}
 use Rattle.ug_adjout.proofs.Numbers.{from_yes, from_no, from_less}
 
 le_by : (n p : ℕ) → n ≤ p → IsLeBy nat_cmp n p

@@ -15,9 +15,9 @@ use Rattle.std.specs.declared.cmp.Ordering.TheVariants.{Less, Equal, Greater}
 use Rattle.std.proofs.lemmas.List.{append_assoc, append-nil}
 use Rattle.std.proofs.lemmas.Bool.{cond-true, or_right}
 use Rattle.std.proofs.lemmas.Map.Keys.{IsDistinct-from_sorted}
-use Rattle.std.proofs.lemmas.Map.Lookups.{btree_set_from_contains}
 use Rattle.ug_adjout_rules.specs.Tables.{has, joined, value_at, with_value}
 use Rattle.ug_adjout_rules.specs.TableLaws.{with_value-same, has-append, has-keys_of, has-joined, sorted-joined, filter_agreeing, all_from_has, at_turned}
+use Rattle.ug_adjout_rules.proofs.SameTables.{same_list}
 use Rattle.ug_adjout_rules.specs.Pending.{AdjRibOut, waits, with_all_forced}
 use Rattle.ug_adjout.specs.declared.row.Row.{Row}
 use Rattle.ug_adjout.specs.declared.row.Change.{Change}
@@ -121,9 +121,6 @@ module _ {K : Type 0} {cmp : K → K → Ordering} (total : IsTotalOrder cmp) (e
           ∙ append_assoc a.pending (k ∷ []) (filter (λ q. not (has cmp a.pending q)) keys)
           ∙ sym (ap (λ b. a.pending ++ cond (not b) (k ∷ filter (λ q. not (has cmp a.pending q)) keys) (filter (λ q. not (has cmp a.pending q)) keys)) e)
 
-  pub same_list : (xs ys : List K) → IsStrictlySortedBy cmp xs → IsStrictlySortedBy cmp ys → ((q : K) → has cmp xs q ≡ has cmp ys q) → xs ≡ ys
-  same_list xs ys sx sy h = btree_set_from_contains total (record { keys = xs }) (record { keys = ys }) sx sy h exact
-
   filter_id : (test : K → Bool) (xs : List K) → AllByRecursion (λ x. test x ≡ true) xs → filter test xs ≡ xs
   filter_id test [] h = refl
   filter_id test (x ∷ xs) h = cond-true _ (x ∷ filter test xs) _ h.0 ∙ ap (λ l. x ∷ l) (filter_id test xs h.1)
@@ -161,7 +158,7 @@ module _ {K : Type 0} {cmp : K → K → Ordering} (total : IsTotalOrder cmp) (e
 
     -- the keys that have a row
     pub row_keys : keys_of rows ≡ keys
-    row_keys = same_list (keys_of rows) keys s.ordered sorted_keys (λ q. has-keys_of total exact rows q
+    row_keys = same_list total exact (keys_of rows) keys s.ordered sorted_keys (λ q. has-keys_of total exact rows q
         ∙ sym (row_shown q (value_at cmp rows q) refl)
         ∙ sym (ap (λ o. is_some o || is_some (of_row desired_of (value_at cmp rows q))) (formatted_at total exact rows waiting next s q))
         ∙ sym (ap (λ o. is_some (value_at cmp a.formatted q) || is_some o) (desired_at total exact rows waiting next s q))
@@ -196,7 +193,7 @@ module _ {K : Type 0} {cmp : K → K → Ordering} (total : IsTotalOrder cmp) (e
     pub all_forced : with_each_forced cmp a (keys_of rows) ≡ with_all_forced cmp nat_eq a
     all_forced =
         let gs = each_forced keys a
-        ∙ same_list (joined cmp a.forced keys) keys (sorted-joined total exact a.forced keys (sorted_projected total exact mark_of rows s.ordered)) sorted_keys
+        ∙ same_list total exact (joined cmp a.forced keys) keys (sorted-joined total exact a.forced keys (sorted_projected total exact mark_of rows s.ordered)) sorted_keys
         (λ q. has-joined total exact a.forced keys q ∙ or_same (has cmp a.forced q) (has cmp keys q) (forced_keys q)) in
         let first = filter_id (waits cmp nat_eq a.formatted a.desired keys) a.pending (all_from_has total exact _ a.pending (λ q h. waits_all q (pending_keys q h))) in
         let more = filter_agreeing total exact (λ q. waits cmp nat_eq a.formatted a.desired keys q && not (has cmp a.pending q)) (λ q. not (has cmp a.pending q)) keys

@@ -1,6 +1,7 @@
 pub mod Steps
 pub mod Lists
 pub mod Views
+pub mod Known
 pub mod Runs
 pub mod Rest
 pub mod Forced

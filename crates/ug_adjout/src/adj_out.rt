@@ -1,6 +1,7 @@
-ghost use Rattle.std.specs.Prelude.{◌≡◌, ◌<◌, ℕ, nat_eq, is_some, true, ◌==◌, length, Some, None, OnOk, OnErr, IfOk, IsOk, IfSome, IfNone, option_copied, slice_get, IsTrue, ◌↔◌};
+ghost use Rattle.std.specs.Prelude.{◌≡◌, ◌<◌, ◌≤◌, ◌^◌, ℕ, nat_eq, is_some, true, ◌==◌, length, Some, None, OnOk, OnErr, IfOk, IsOk, IfSome, IfNone, option_copied, slice_get, IsTrue, ◌↔◌};
 ghost use Rattle.ug_adjout_rules.specs.Tables.{value_at, has, rows_after};
-ghost use Rattle.ug_adjout_rules.specs.Pending.{nothing_out, with_desired, with_all_forced, with_formatted};
+ghost use Rattle.ug_adjout_rules.specs.Pending.{nothing_out, with_desired, with_all_forced, with_formatted, IsExact};
+ghost use Rattle.ug_adjout_rules.specs.Desiring.{AreForcedShown};
 ghost use Rattle.ug_adjout_rules.specs.Formatting.{fitting, withdrawals, announcements, alike, value_of_first};
 ghost use Rattle.std.specs.Option.{option_map};
 
@@ -156,6 +157,24 @@ impl<K: OutKey> AdjOut<K> {
         ensures { result ≡ length self.now.formatted }
     {
         self.table.formatted_len()
+    }
+
+    /// It does nothing. What is so of each Adj-RIB-Out: its pending list is exact (`exact`), and each forced key stands in
+    /// one of its tables (`shown`).
+    pub fn know(&self)
+        ensures exact { IsExact K.cmp nat_eq self.now }
+        ensures shown { AreForcedShown K.cmp self.now }
+    {
+        self.table.know()
+    }
+
+    /// How many keys have a row: no table has more.
+    pub fn row_count(&self) -> usize
+        ensures formatted { length self.now.formatted ≤ result }
+        ensures desired { length self.now.desired ≤ result }
+        ensures small { result < 2 ^ 64 }
+    {
+        self.table.row_count()
     }
 
     /// Whether a key is forced.

@@ -91,6 +91,14 @@ impl<K: Ord + Copy + Drop> Rows<K> {
         }
     }
 
+    /// How many there are.
+    pub fn len(&self) -> usize
+        ensures len { result ≡ length self.now }
+        ensures small { result < 2 ^ 64 }
+    {
+        self.rows.len()
+    }
+
     /// How many are of formatted keys.
     pub fn formatted_len(&self) -> usize
         ensures { result ≡ length (projected formatted_of self.now) }

@@ -1,11 +1,12 @@
 //! The rows and the list of waiting keys, kept together.
-ghost use Rattle.std.specs.Prelude.{◌≡◌, ◌+◌, ◌<◌, ◌^◌, nat_eq, is_some, true, false, ℕ, [], ◌∷◌, ◌++◌, length, OnOk, OnErr, IfOk, IfSome, IfNone, IsSome, Some, None, option_copied, slice_get, IsTrue, ◌↔◌};
+ghost use Rattle.std.specs.Prelude.{◌≡◌, ◌+◌, ◌<◌, ◌≤◌, ◌^◌, nat_eq, is_some, true, false, ℕ, [], ◌∷◌, ◌++◌, length, OnOk, OnErr, IfOk, IfSome, IfNone, IsSome, Some, None, option_copied, slice_get, IsTrue, ◌↔◌};
 ghost use Rattle.std.specs.Map.{keys_of};
 ghost use Rattle.std.specs.List.{AllByRecursion};
 ghost use Rattle.std.specs.Ordering.{nat_cmp};
 ghost use Rattle.std.specs.BTreeMap.{insert_entry};
 ghost use Rattle.ug_adjout_rules.specs.Tables.{value_at, has, rows_after};
-ghost use Rattle.ug_adjout_rules.specs.Pending.{with_desired, with_formatted, with_all_forced};
+ghost use Rattle.ug_adjout_rules.specs.Pending.{with_desired, with_formatted, with_all_forced, IsExact};
+ghost use Rattle.ug_adjout_rules.specs.Desiring.{AreForcedShown};
 ghost use Rattle.ug_adjout_rules.specs.Formatting.{fitting, withdrawals, announcements, alike, value_of_first};
 ghost use Rattle.std.specs.Option.{option_map};
 ghost use Rattle.ug_adjout.specs.Waits.{keys_for, first_announced, from_place, waiting_keys};
@@ -321,6 +322,24 @@ impl<K: OutKey> Table<K> {
         ensures { result ≡ length (adj_of self.now.rows self.now.waiting).formatted }
     {
         self.rows.formatted_len()
+    }
+
+    /// It does nothing. What is so of each Adj-RIB-Out that is stored.
+    pub fn know(&self)
+        ensures exact { IsExact K.cmp nat_eq (adj_of self.now.rows self.now.waiting) }
+        ensures shown { AreForcedShown K.cmp (adj_of self.now.rows self.now.waiting) }
+    {
+        let _next = self.next;
+    }
+
+    /// How many keys have a row, formatted or desired.
+    #[tactic(auto, using(crate::proofs::Counts::counted_most))]
+    pub fn row_count(&self) -> usize
+        ensures formatted { length (adj_of self.now.rows self.now.waiting).formatted ≤ result }
+        ensures desired { length (adj_of self.now.rows self.now.waiting).desired ≤ result }
+        ensures small { result < 2 ^ 64 }
+    {
+        self.rows.len()
     }
 
     /// Whether a key is forced.

@@ -6,8 +6,10 @@ ghost use Rattle.std.specs.FinMap.{IsAntisymmetric};
 ghost use Rattle.std.specs.Cmp.{IsTotalOrder};
 ghost use Rattle.std.specs.BTreeMap.{is_at};
 ghost use Rattle.std.specs.declared.cmp.Ordering.{Ordering};
-ghost use Rattle.ug_adjout_rules.specs.Tables.{has, without};
+ghost use Rattle.std.specs.List.Sorted.{IsStrictlySortedBy};
+ghost use Rattle.ug_adjout_rules.specs.Tables.{has, value_at, without, IsTable};
 ghost use Rattle.ug_adjout_rules.specs.Pending.{AdjRibOut, nothing_out, requeue, with_desired, with_all_forced, with_formatted, with_all_formatted, IsExact};
+ghost use Rattle.ug_adjout_rules.specs.Desiring.{with_each_desired, with_all_desired, AreForcedShown};
 ghost use Rattle.ug_adjout_rules.specs.Formatting.{fitting, IsLongestRun};
 
 /// The pending list has exactly the keys for which a packet is owed, each once: at first, and after every change.
@@ -31,4 +33,13 @@ pub fn requeue_law<K>()
 /// The keys that fit are the longest run of the first that has room.
 pub fn fitting_law<K>()
     ensures { (weigh : K → ℕ) (room : ℕ) (keys : List K) → IsLongestRun weigh room keys (fitting weigh room keys) }
+{}
+
+/// A table that is desired at once is its keys desired one after the other: where some keys change, these in key order, and
+/// all others are desired as before. Each forced key stands in a table: one that stood in neither would be dropped on the
+/// way, and not be forced where its turn comes.
+pub fn all_desired_law<K, V>()
+    ensures { (cmp : K → K → Ordering) → IsTotalOrder cmp → IsAntisymmetric cmp → (same : V → V → Bool) (a : AdjRibOut K V) (rows : List (K × V)) (value : K → Option V) (keys : List K) →
+        IsExact cmp same a → AreForcedShown cmp a → IsTable cmp rows → IsStrictlySortedBy cmp keys → ((q : K) → value_at cmp rows q ≡ value q) →
+        ((q : K) → has cmp keys q ≡ false → value q ≡ value_at cmp a.desired q) → with_each_desired cmp same value a keys ≡ with_all_desired cmp same rows a }
 {}

@@ -15,15 +15,15 @@ use Rattle.ug_adjout_rules.specs.Tables.{has}
 use Rattle.ug_adjout_rules.specs.Formatting.{Due}
 use Rattle.ug_adjout_rules.specs.Formatting.Due.{Nothing, Withdraws, Announces}
 use Rattle.ug_speaker.specs.Right.{announces, is_begin}
-use Rattle.ug_plain_rules.proofs.Bools.{both, true_or, or_true, or_so}
+use Rattle.ug_speaker.proofs.Bools.{both, true_or, or_true, or_so}
 use Rattle.ug_group_rules.specs.declared.phase.Phase.{Phase}
 use Rattle.ug_group_rules.specs.declared.phase.Phase.TheVariants.{Quiet, Owed, Open}
 use Rattle.ug_group_rules.specs.Packets.{Says, Withdrawn, Announced, EndOfRib, RefreshBegins, RefreshEnds, all_forced, with_told, routes_due, message_to}
 use Rattle.ug_group_rules.specs.Machine.{Subgroup, is_owed, with_routes, next_packet, formatted, asked}
-use Rattle.ug_group_rules.proofs.Standing.{IsAs}
+use Rattle.ug_group_rules.proofs.StreamsInWorlds.{IsAs}
 use Rattle.ug_group_rules.proofs.Tables.{row_at, is_forced, IsOut, told-formatted, told-forced, forced-all}
-use Rattle.ug_group_rules.proofs.Owing.{table_in, has-among}
-use Rattle.ug_group_rules.proofs.Going.{some-mapped, and-unless}
+use Rattle.ug_group_rules.proofs.WantedTables.{table_in, has-among}
+use Rattle.ug_group_rules.proofs.MemberStreams.{some-mapped, and-unless}
 use Rattle.ug_group_rules.proofs.Formats.{IsDueOf}
 
 -- a refresh has still to announce the key, where it is desired

@@ -15,15 +15,16 @@ use Rattle.ug_outbound.specs.Keys.{ends_of}
 use Rattle.ug_world.specs.declared.peer_state.PeerState.{PeerState}
 use Rattle.ug_world.specs.World.{World, key_in}
 use Rattle.ug_speaker.specs.Told.{handed_in}
-use Rattle.ug_plain_rules.specs.Seats.{change_at, sessions_at, sessions_had}
-use Rattle.ug_plain_rules.proofs.Lawful.{changed-here, changed-there}
+use Rattle.ug_speaker.specs.Places.{change_at}
+use Rattle.ug_speaker.specs.Counts.{sessions_at, sessions_had}
+use Rattle.ug_speaker.proofs.Places.{changed-here, changed-there}
 use Rattle.ug_group_rules.specs.Packets.{Packet, message_to}
 use Rattle.ug_group_rules.specs.Machine.{Seat, Member, System, seat_of, seat_at, with_loss, with_seat, leave, Upshot, Begins, Hands, Rests, upshot_of, upshot, with_session, after_upshot, after_next, after_loss}
 use Rattle.ug_group_rules.specs.Rules.{said_of, lane_reply, group_speech}
 use Rattle.ug_group_rules.proofs.Lawful.{rest_says}
 use Rattle.ug_group_rules.proofs.Seated.{told_by, stream_of, IsPlaced, IsSystem, placed-of}
 use Rattle.ug_group_rules.proofs.Others.{leave-members, leave-there, leave-here}
-use Rattle.ug_group_rules.proofs.Taking.{begins-alike, goes-on, seat-then}
+use Rattle.ug_group_rules.proofs.PeerLanes.{begins-alike, goes-on, seat-then}
 use Rattle.ug_group_rules.proofs.Lanes.{IsUpshot, upshot-is, first-is, message-is}
 use Rattle.ug_group_rules.proofs.Asked.{IsAsked, again-same}
 

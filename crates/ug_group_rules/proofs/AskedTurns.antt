@@ -15,16 +15,16 @@ use Rattle.ug_world.specs.After.{after}
 use Rattle.ug_world.specs.Touches.{is_about}
 use Rattle.ug_speaker.specs.Speech.{is_request}
 use Rattle.ug_speaker.specs.Told.{handed_in}
-use Rattle.ug_plain_rules.proofs.Peers.{peer_after, peers-after, sessions-rise}
+use Rattle.ug_speaker.proofs.Peers.{peer_after, peers-after, sessions-rise}
 use Rattle.ug_group_rules.specs.Packets.{Packet, wanted_rows, message_to}
 use Rattle.ug_group_rules.specs.Machine.{Subgroup, Seat, Member, System, turned, with_turns, retabled, in_world, counted, with_counts, take_event}
-use Rattle.ug_group_rules.proofs.Going.{right-none}
+use Rattle.ug_group_rules.proofs.MemberStreams.{right-none}
 use Rattle.ug_group_rules.proofs.Again.{IsAgain, again-stays, goes-as, again-covered}
 use Rattle.ug_group_rules.proofs.Seated.{told_by, stream_of, IsSat, IsSystem}
 use Rattle.ug_group_rules.proofs.Company.{before-end}
 use Rattle.ug_group_rules.proofs.Retabling.{desired-as, retabled-at, counted-at}
-use Rattle.ug_group_rules.proofs.Turning.{IsTurned, IsCarried}
-use Rattle.ug_group_rules.proofs.Eventing.{IsTurning, TakesTurn, takes-turn, turning-step, turning-first}
+use Rattle.ug_group_rules.proofs.PeerTurns.{IsTurned, IsCarried}
+use Rattle.ug_group_rules.proofs.Events.{IsTurning, TakesTurn, takes-turn, turning-step, turning-first}
 use Rattle.ug_group_rules.proofs.Asked.{IsAgainAt, IsAsked, again-moved, moved-same, goes-itself}
 
 -- ---- the turns of all

@@ -8,8 +8,8 @@ use Rattle.ug_events.specs.Events.{Happening}
 use Rattle.ug_world.specs.declared.peer_state.PeerState.{PeerState}
 use Rattle.ug_world.specs.World.{World, key_in}
 use Rattle.ug_world.specs.After.{after}
-use Rattle.ug_plain_rules.specs.Seats.{change_at}
-use Rattle.ug_plain_rules.proofs.Lawful.{changed-keeps}
+use Rattle.ug_speaker.specs.Places.{change_at}
+use Rattle.ug_speaker.proofs.Places.{changed-keeps}
 use Rattle.ug_group_rules.specs.Machine.{Seat, Member, System, Subgroup, reseated, with_seat, seated, unless_empty, has_members, leave, split, split_by, has_company, join, first_joinable, with_own, rekey, rekeyed, ask, asked, apart, seat_at, Turn, Leaves, Starts, Asks, Rekeys, Stays, with_turn, turn_of, turned, with_turns, in_world, format_of, slow_of, subgroup_at, start, fresh_member, Job, Take, Format, Merge, Slow, Sync, Close, after_job}
 use Rattle.ug_group_rules.specs.Rules.{begun_of}
 

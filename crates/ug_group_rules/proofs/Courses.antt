@@ -19,14 +19,15 @@ use Rattle.ug_events.specs.Events.{Happening}
 use Rattle.ug_world.specs.declared.peer_state.PeerState.{PeerState}
 use Rattle.ug_world.specs.World.{World, key_in}
 use Rattle.ug_world.specs.Private.{private_table}
-use Rattle.ug_packing.specs.Packing.{fits}
+use Rattle.ug_message.specs.Fitting.{fits}
 use Rattle.ug_speaker.specs.Speech.{capabilities_of}
 use Rattle.ug_speaker.specs.Told.{step_events, events_in, world_after, worlds_of, deeds_to, told, is_lost, begun, is_live as is_live_in, world_at}
 use Rattle.ug_speaker.specs.Right.{Alike, IsToldRight, IsToldAll, ends_of_rib}
 use Rattle.ug_speaker.specs.Owes.{IsCourse}
-use Rattle.ug_plain_rules.specs.Seats.{has, is_lost_at, sessions_had, sessions_at}
-use Rattle.ug_plain_rules.proofs.Bools.{both_so, not_so}
-use Rattle.ug_plain_rules.proofs.Keeping.{has-text, text-short}
+use Rattle.ug_speaker.specs.Counts.{has, sessions_had, sessions_at, is_lost_at}
+use Rattle.ug_speaker.proofs.Bools.{both_so, not_so}
+use Rattle.ug_message.proofs.Fitting.{has-text}
+use Rattle.ug_speaker.proofs.Buffers.{text-short}
 use Rattle.ug_group_rules.specs.Packets.{Packet, message_to}
 use Rattle.ug_group_rules.specs.Machine.{Subgroup, Seat, Member, System, seat_of, seat_at, first_left, Begins, Rests, upshot_of, owes, is_drained, is_seat_quiet, is_member_quiet, has_unlost, Job, Take, Format, Merge, Slow, Sync, Close}
 use Rattle.ug_group_rules.specs.Rules.{message_for, text_for, at_rest, said_of, lane_reply, begun_of, group_rules, group_speech}
@@ -34,14 +35,14 @@ use Rattle.ug_group_rules.proofs.Found.{none-so}
 use Rattle.ug_group_rules.proofs.Drained.{rested, quiet-at}
 use Rattle.ug_group_rules.proofs.Streams.{IsStream}
 use Rattle.ug_group_rules.proofs.Tables.{is_forced}
-use Rattle.ug_group_rules.proofs.Owing.{table_in}
-use Rattle.ug_group_rules.proofs.Going.{IsKept, desired-private, level-rows}
+use Rattle.ug_group_rules.proofs.WantedTables.{table_in}
+use Rattle.ug_group_rules.proofs.MemberStreams.{IsKept, desired-private, level-rows}
 use Rattle.ug_group_rules.proofs.Seated.{counts_of, is_live, told_by, stream_of, AreFitting, IsSat, IsPlaced, IsPlacedAt, IsSystem, member-of}
 use Rattle.ug_group_rules.proofs.Formatting.{up-of, session-of}
 use Rattle.ug_group_rules.proofs.Merging.{empty-is, IsRestedAt, rested-at}
-use Rattle.ug_group_rules.proofs.Staying.{world-event, world-job, stands-lane}
+use Rattle.ug_group_rules.proofs.WorldStays.{world-event, world-job, stands-lane}
 use Rattle.ug_group_rules.proofs.Histories.{GroupEntry, AreFine, are-systems}
-use Rattle.ug_group_rules.proofs.Fine.{are-fine, are-down}
+use Rattle.ug_group_rules.proofs.SendableRoutes.{are-fine, are-down}
 
 -- ---- the world is that which the events lead to
 
@@ -72,7 +73,7 @@ module _ (opening : World) (h : List GroupEntry) (course : IsCourse group_rules 
   deeds_at p = deeds_to group_rules group_speech p opening h
 
   pub fine : AreFine worlds
-  fine = are-fine opening (events_in group_rules group_speech h) course.opens course.events course.in_range
+  fine = are-fine opening (events_in group_rules group_speech h) course.opens course.events
 
   pub system : IsSystem worlds deeds_at here
   system = are-systems opening h (are-down opening course.opens) course.legal fine

@@ -7,8 +7,9 @@ use Rattle.ug_board.specs.declared.steps.LaneStep.{LaneStep}
 use Rattle.ug_board.specs.declared.steps.LaneStep.TheVariants.{Next, Lost}
 use Rattle.ug_board.specs.Rules.{says_more, counts}
 use Rattle.ug_world.specs.declared.peer_state.PeerState.{PeerState}
-use Rattle.ug_plain_rules.specs.Seats.{change_at, sessions_at, sessions_had}
-use Rattle.ug_plain_rules.proofs.Bools.{both_so, both, not_so}
+use Rattle.ug_speaker.specs.Places.{change_at}
+use Rattle.ug_speaker.specs.Counts.{sessions_at, sessions_had}
+use Rattle.ug_speaker.proofs.Bools.{both_so, both, not_so}
 use Rattle.ug_group_rules.specs.Machine.{Seat, Member, Subgroup, System, owes, is_pending, is_level, is_so, some_so, left_in, queued, is_full, is_parted, may_format, may_merge, must_part, is_ordered, is_settled, is_turn, is_seat_quiet, is_member_quiet, are_quiet, is_drained, seat_at, leave, seated, with_seat, without_subgroup, has_members, with_loss, after_loss, first_left, upshot_of}
 use Rattle.ug_group_rules.specs.Packets.{Packet, same_group}
 use Rattle.ug_group_rules.specs.Rules.{said_of, lane_reply, after_lane, group_rules}

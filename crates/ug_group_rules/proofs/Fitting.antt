@@ -25,11 +25,11 @@ use Rattle.ug_message.proofs.RoutesAgain.{width_of-le, length_route}
 use Rattle.ug_rewrite.specs.NextHops.{told_to}
 use Rattle.ug_pack.specs.Rooms.{room, room_beside}
 use Rattle.ug_pack.proofs.Fits.{room_fits}
-use Rattle.ug_packing.specs.Packing.{announcing, withdrawing, fits}
-use Rattle.ug_packing.specs.Frames.{attributes_text, routes_around, message_size}
-use Rattle.ug_packing.proofs.Fitting.{fits_is}
+use Rattle.ug_message.specs.Fitting.{announcing, withdrawing, fits}
+use Rattle.ug_message.specs.Frames.{attributes_text, routes_around, message_size}
+use Rattle.ug_message.proofs.Fitting.{fits_is}
 use Rattle.ug_speaker.specs.Right.{CanBeTold}
-use Rattle.ug_plain_rules.proofs.Bools.{both}
+use Rattle.ug_speaker.proofs.Bools.{both}
 
 -- A message of the session can spell the route, and under ADD-PATH its identifier isn't 0 (RFC 7911 section 3).
 pub record CanBeSent (c : Capabilities) (key : Key) (a : Attributes) : Type 0 where

@@ -13,15 +13,14 @@ use Rattle.ug_history_rules.specs.Deeds.{Each}
 use Rattle.ug_outbound.specs.declared.key.GroupKey.{GroupKey}
 use Rattle.ug_outbound.specs.Keys.{limit_of}
 use Rattle.ug_adjout_rules.specs.Tables.{has, value_at}
-use Rattle.ug_adjout_rules.specs.Formatting.{fitting, withdrawals, announcements, of_first_value, value_of_first, alike, announced_next, withdrawn_next}
-use Rattle.ug_adjout_rules.specs.Formatting.{Due}
+use Rattle.ug_adjout_rules.specs.Formatting.{fitting, withdrawals, announcements, of_first_value, value_of_first, alike, announced_next, withdrawn_next, Due}
 use Rattle.ug_adjout_rules.specs.Formatting.Due.{Nothing, Withdraws, Announces}
 use Rattle.ug_adjout_rules.specs.TableLaws.{has-filter, at_itself}
 use Rattle.ug_pack.specs.Rooms.{room, room_beside}
 use Rattle.ug_pack.specs.Ready.{key_order}
 use Rattle.ug_pack.proofs.Fits.{some_fit, sum_fits}
 use Rattle.ug_pack.proofs.Keys.{key_total, key_exact}
-use Rattle.ug_plain_rules.proofs.Bools.{both_so, or_true}
+use Rattle.ug_speaker.proofs.Bools.{both_so, or_true}
 use Rattle.ug_group_rules.specs.Packets.{Out, same_out, routes_due}
 use Rattle.ug_group_rules.proofs.Tables.{row_at}
 

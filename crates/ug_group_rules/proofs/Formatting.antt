@@ -24,13 +24,13 @@ use Rattle.ug_adjout_rules.specs.Formatting.{Due}
 use Rattle.ug_adjout_rules.specs.Formatting.Due.{Nothing, Withdraws, Announces}
 use Rattle.ug_pack.specs.Rooms.{room, room_beside}
 use Rattle.ug_pack.specs.Ready.{key_order}
-use Rattle.ug_packing.specs.Packing.{fits}
+use Rattle.ug_message.specs.Fitting.{fits}
 use Rattle.ug_speaker.specs.Speech.{capabilities_of}
 use Rattle.ug_speaker.specs.Told.{handed_in}
-use Rattle.ug_plain_rules.specs.Seats.{is_lost_at}
-use Rattle.ug_plain_rules.proofs.Bools.{both_so, both}
-use Rattle.ug_plain_rules.proofs.Packed.{each-append}
-use Rattle.ug_plain_rules.proofs.Sent.{marks-fit, end-fits}
+use Rattle.ug_speaker.specs.Counts.{is_lost_at}
+use Rattle.ug_speaker.proofs.Bools.{both_so, both}
+use Rattle.ug_speaker.proofs.Each.{each-append}
+use Rattle.ug_message.proofs.Fitting.{marks-fit, end-fits}
 use Rattle.ug_group_rules.specs.Packets.{Rows, Packet, Says, EndOfRib, RefreshBegins, RefreshEnds, same_out, all_forced, routes_due, message_to}
 use Rattle.ug_group_rules.specs.declared.phase.Phase.TheVariants.{Quiet, Open}
 use Rattle.ug_group_rules.specs.Machine.{Subgroup, Seat, Member, System, owes, is_owed, with_routes, reseated, next_packet, formatted, given, with_packet}
@@ -38,8 +38,8 @@ use Rattle.ug_group_rules.proofs.Fitting.{CanBeSent, IsKeyTo, withdrawn-fit, ann
 use Rattle.ug_group_rules.proofs.Formats.{IsDueOf, HasRoom, each-has, some-has, due-is, due-room}
 use Rattle.ug_group_rules.proofs.Streams.{IsStream}
 use Rattle.ug_group_rules.proofs.Tables.{row_at, is_forced}
-use Rattle.ug_group_rules.proofs.Owing.{table_in}
-use Rattle.ug_group_rules.proofs.Going.{IsKept, format-goes, desired-private}
+use Rattle.ug_group_rules.proofs.WantedTables.{table_in}
+use Rattle.ug_group_rules.proofs.MemberStreams.{IsKept, format-goes, desired-private}
 use Rattle.ug_group_rules.proofs.Seated.{counts_of, told_by, stream_of, AreFitting, IsSat, IsPlacedAt, IsSystem, IsFine, kept-formatted, key-formatted, rows-formatted, at-same}
 
 -- what is live is up, in its session

@@ -17,7 +17,7 @@ use Rattle.ug_outbound.specs.declared.kind.Kind.{Kind}
 use Rattle.ug_outbound.specs.declared.kind.Kind.TheVariants.{External, Internal, Client}
 use Rattle.ug_outbound.specs.declared.key.GroupKey.{GroupKey}
 use Rattle.ug_outbound.specs.contracts.kind.KindPartialEq.TheImpl as kind_eq
-use Rattle.ug_plain_rules.proofs.Bools.{both_so}
+use Rattle.ug_speaker.proofs.Bools.{both_so}
 use Rattle.ug_group_rules.specs.Packets.{same_group}
 
 family_is : (a b : Family) → family_eq.ghosts.eq a b ≡ true → a ≡ b

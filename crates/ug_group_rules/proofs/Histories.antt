@@ -20,10 +20,10 @@ use Rattle.ug_world.specs.World.{World}
 use Rattle.ug_world.specs.After.{after}
 use Rattle.ug_speaker.specs.Told.{worlds_through, step_events, events_in, worlds_of, deeds_to}
 use Rattle.ug_speaker.specs.Right.{IsAmong}
-use Rattle.ug_plain_rules.proofs.Bools.{both_so}
-use Rattle.ug_plain_rules.proofs.Batches.{right-nothing}
-use Rattle.ug_plain_rules.proofs.Counts.{IsCounted}
-use Rattle.ug_plain_rules.specs.Seats.{is_lost_at}
+use Rattle.ug_speaker.proofs.Bools.{both_so}
+use Rattle.ug_speaker.proofs.ToldRight.{right-nothing}
+use Rattle.ug_speaker.proofs.Counts.{IsCounted}
+use Rattle.ug_speaker.specs.Counts.{is_lost_at}
 use Rattle.ug_group_rules.specs.Machine.{Subgroup, Member, System, there, owes, is_so, is_full, is_pending, is_parted, may_format, must_part, may_merge, with_packet, format_of, slow_of, merge, take_event, after_next, after_loss, fresh_member, start, Job, Take, Format, Merge, Slow, Sync, Close, Said}
 use Rattle.ug_group_rules.specs.Rules.{group_rules, group_speech}
 use Rattle.ug_group_rules.proofs.Found.{found-so}
@@ -33,8 +33,8 @@ use Rattle.ug_group_rules.proofs.Lanes.{system-next}
 use Rattle.ug_group_rules.proofs.Losing.{system-lost}
 use Rattle.ug_group_rules.proofs.Merging.{system-merged}
 use Rattle.ug_group_rules.proofs.Parting.{system-parted}
-use Rattle.ug_group_rules.proofs.Eventing.{system-event}
-use Rattle.ug_group_rules.proofs.Staying.{world-event, stands-lane}
+use Rattle.ug_group_rules.proofs.Events.{system-event}
+use Rattle.ug_group_rules.proofs.WorldStays.{world-event, stands-lane}
 
 abbrev pub GroupEntry : Type 0
 GroupEntry = Entry Job Said

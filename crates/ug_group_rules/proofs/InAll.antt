@@ -8,16 +8,14 @@ use Rattle.ug_board.specs.History.{IsLegalStep, IsLegalFrom, after_step, replay_
 use Rattle.ug_events.specs.Events.{Happening}
 use Rattle.ug_world.specs.World.{World}
 use Rattle.ug_speaker.specs.Told.{step_events, events_in}
-use Rattle.ug_speaker.specs.Ranges.{IsEventInRange, AreInRange}
 use Rattle.ug_speaker.specs.Owes.{AreEvents, IsCourse}
-use Rattle.ug_plain_rules.proofs.Packed.{each-front}
 use Rattle.ug_group_rules.specs.Machine.{System, Job, Take, Format, Merge, Slow, Sync, Close}
 use Rattle.ug_group_rules.specs.Rules.{group_rules, group_speech}
 use Rattle.ug_group_rules.specs.PeerKeys.{evaluated_by, evaluated_from, most_along}
-use Rattle.ug_group_rules.proofs.Staying.{world-event, world-job, stands-lane}
+use Rattle.ug_group_rules.proofs.WorldStays.{world-event, world-job, stands-lane}
 use Rattle.ug_group_rules.proofs.Histories.{GroupEntry}
 use Rattle.ug_group_rules.proofs.Marks.{replay-push}
-use Rattle.ug_group_rules.proofs.Counting.{evaluates-few}
+use Rattle.ug_group_rules.proofs.Evaluated.{evaluates-few}
 
 -- ---- a front of a course is a course
 
@@ -44,9 +42,6 @@ course_front opening h more course = record {
   opens = course.opens;
   legal = legal_front (group_rules.start opening) h more course.legal;
   events = events_front (events_in group_rules group_speech h) (events_in group_rules group_speech more) (subst (λ (es : List Happening). AreEvents es) (events_append h more) course.events);
-  in_range =
-      each-front IsEventInRange (events_in group_rules group_speech h) (events_in group_rules group_speech more)
-      (subst (λ (es : List Happening). AreInRange es) (events_append h more) course.in_range);
 }
 
 -- ---- one step, and what follows

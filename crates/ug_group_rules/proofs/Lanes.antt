@@ -13,14 +13,15 @@ use Rattle.ug_history_rules.specs.Deeds.{Deed, Begins as BeginsDeed, Hands as Ha
 use Rattle.ug_outbound.specs.Keys.{ends_of}
 use Rattle.ug_world.specs.declared.peer_state.PeerState.{PeerState}
 use Rattle.ug_world.specs.World.{World, key_in}
-use Rattle.ug_plain_rules.specs.Seats.{change_at, sessions_had}
-use Rattle.ug_plain_rules.proofs.Lawful.{changed-here, changed-there}
+use Rattle.ug_speaker.specs.Places.{change_at}
+use Rattle.ug_speaker.specs.Counts.{sessions_had}
+use Rattle.ug_speaker.proofs.Places.{changed-here, changed-there}
 use Rattle.ug_group_rules.specs.Packets.{Packet, message_to}
 use Rattle.ug_group_rules.specs.Machine.{Seat, Member, System, seat_of, seat_at, first_left, Upshot, Begins, Hands, Rests, upshot_of, upshot, with_session, with_handed, after_upshot, after_next}
 use Rattle.ug_group_rules.specs.Rules.{message_for, said_of, lane_reply, group_speech}
 use Rattle.ug_group_rules.proofs.Lawful.{rest_says}
 use Rattle.ug_group_rules.proofs.Seated.{IsPlaced, IsPlacedAt, IsSystem}
-use Rattle.ug_group_rules.proofs.Taking.{placed-begins, placed-hands}
+use Rattle.ug_group_rules.proofs.PeerLanes.{placed-begins, placed-hands}
 
 -- ---- what is next
 

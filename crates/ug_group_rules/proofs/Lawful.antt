@@ -9,8 +9,9 @@ use Rattle.ug_board.specs.declared.steps.LaneStep.TheVariants.{Next, Lost}
 use Rattle.ug_board.specs.declared.steps.LaneSaid.TheVariants.{Begun}
 use Rattle.ug_board.specs.Rules.{buffer_size, says_more, counts, IsNext, IsMachine}
 use Rattle.ug_world.specs.declared.peer_state.PeerState.{PeerState}
-use Rattle.ug_plain_rules.specs.Seats.{change_at, sessions_at, sessions_had, has}
-use Rattle.ug_plain_rules.proofs.Lawful.{changed-here, changed-there, changed-keeps}
+use Rattle.ug_speaker.specs.Places.{change_at}
+use Rattle.ug_speaker.specs.Counts.{sessions_at, sessions_had, has}
+use Rattle.ug_speaker.proofs.Places.{changed-here, changed-there, changed-keeps}
 use Rattle.ug_group_rules.specs.Packets.{Packet}
 use Rattle.ug_group_rules.specs.Machine.{Seat, Member, System, seat_at, seat_of, first_left, Upshot, Begins, Hands, Rests, upshot_of, with_session, with_handed, rest_behind, after_upshot, with_loss, after_loss, leave, has_unlost, has_members, without_subgroup, seated, with_seat}
 use Rattle.ug_group_rules.specs.Rules.{text_for, at_rest, said_of, lane_reply, after_lane, rest_due, member_due, due, begun_of, group_rules}

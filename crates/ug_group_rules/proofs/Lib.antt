@@ -3,49 +3,54 @@ pub mod Lawful
 mod Found
 mod Drained
 mod Streams
-mod Tables
-mod Owing
+pub mod Tables
+pub mod WantedTables
 mod Fitting
 mod Formats
-mod Going
+mod MemberStreams
 mod Again
-mod Standing
+mod StreamsInWorlds
 mod Seated
 mod Formatting
-mod Taking
-mod Others
+mod PeerLanes
+pub mod Others
 mod Lanes
 mod Losing
 mod AskedLanes
-mod Groups
-mod Keys
+pub mod Groups
+pub mod Keys
 mod Pairs
 mod Merging
-mod Held
-mod HeldTurns
-mod HeldSteps
+mod SubgroupMembers
+mod SubgroupMembersTurns
+mod SubgroupMembersSteps
 mod Parting
 mod Asked
-mod Retabling
-mod Company
-mod Setting
-mod Owning
-mod Asking
-mod Turning
+pub mod Retabling
+pub mod Company
+mod SetApart
+mod OwnSubgroups
+mod OwnSubgroupsTurned
+mod PeerTurns
 mod Turns
-mod Choosing
-mod Eventing
+mod ChosenTurns
+mod Events
 mod AskedTurns
-mod Staying
+mod WorldStays
 mod Histories
-mod Renewing
-mod Fine
+mod AskedSteps
+mod SendableRoutes
 mod Steps
 mod Courses
 mod Marks
 mod LiveKeys
-mod Counting
+mod Evaluated
 mod InAll
 mod Simulating
-mod Renewed
+mod AskedHistories
 mod Speaks
+pub mod WantedValues
+pub mod TouchedKeys
+pub mod NewTables
+pub mod OneTurned
+pub mod Dues

@@ -9,7 +9,7 @@ use Rattle.ug_outbound.specs.declared.key.GroupKey.{GroupKey}
 use Rattle.ug_world.specs.declared.peer_state.PeerState.{PeerState}
 use Rattle.ug_world.specs.World.{World, key_in}
 use Rattle.ug_speaker.specs.Told.{deeds_to, is_lost, is_live as is_live_in}
-use Rattle.ug_plain_rules.proofs.Bools.{both_so}
+use Rattle.ug_speaker.proofs.Bools.{both_so}
 use Rattle.ug_group_rules.specs.Packets.{same_group}
 use Rattle.ug_group_rules.specs.Machine.{Subgroup, Seat, Member, System}
 use Rattle.ug_group_rules.specs.Evaluations.{has_key, live_keys}
@@ -18,7 +18,7 @@ use Rattle.ug_group_rules.specs.PeerKeys.{keys_of_live, peer_keys, up_keys}
 use Rattle.ug_group_rules.proofs.Groups.{group-same}
 use Rattle.ug_group_rules.proofs.Keys.{laws, or-so, live-met, live-found, unique-met, unique-distinct}
 use Rattle.ug_group_rules.proofs.Seated.{is_live, IsPlaced, IsPlacedAt, IsSystem, member-of}
-use Rattle.ug_group_rules.proofs.Held.{AreHeld}
+use Rattle.ug_group_rules.proofs.SubgroupMembers.{AreHeld}
 use Rattle.ug_group_rules.proofs.Histories.{GroupEntry}
 
 same_tests : (a b : Bool) → (a ≡ true → b ≡ true) → (b ≡ true → a ≡ true) → a ≡ b

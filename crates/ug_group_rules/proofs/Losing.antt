@@ -8,12 +8,13 @@ use Rattle.ug_types.specs.Messages.{Message}
 use Rattle.ug_history_rules.specs.Deeds.{Deed, Loses, when}
 use Rattle.ug_world.specs.declared.peer_state.PeerState.{PeerState}
 use Rattle.ug_world.specs.World.{World, key_in}
-use Rattle.ug_plain_rules.specs.Seats.{change_at, has, sessions_at, sessions_had}
-use Rattle.ug_plain_rules.proofs.Lawful.{changed-here, changed-there}
+use Rattle.ug_speaker.specs.Places.{change_at}
+use Rattle.ug_speaker.specs.Counts.{has, sessions_at, sessions_had}
+use Rattle.ug_speaker.proofs.Places.{changed-here, changed-there}
 use Rattle.ug_group_rules.specs.Machine.{Member, System, seat_of, seat_at, with_loss, with_seat, after_loss, leave, has_unlost}
-use Rattle.ug_group_rules.proofs.Going.{IsKept}
+use Rattle.ug_group_rules.proofs.MemberStreams.{IsKept}
 use Rattle.ug_group_rules.proofs.Seated.{IsPlacedAt, IsSystem}
-use Rattle.ug_group_rules.proofs.Taking.{placed-loses, placed-gone}
+use Rattle.ug_group_rules.proofs.PeerLanes.{placed-loses, placed-gone}
 use Rattle.ug_group_rules.proofs.Others.{leave-world, leave-members, leave-there, leave-kept, leave-here, placed-elsewhere}
 
 module _ (worlds : List World) (deeds_at : ℕ → List (Deed Message)) (state : System) (system : IsSystem worlds deeds_at state) (q n : ℕ) (may : has_unlost n (slice_get state.members q) ≡ true) where

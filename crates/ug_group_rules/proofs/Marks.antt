@@ -16,12 +16,12 @@ use Rattle.ug_speaker.specs.Speech.{is_request}
 use Rattle.ug_speaker.specs.Told.{handed_in, events_in, worlds_of, deeds_to, told, is_lost, mark_of, marks_from}
 use Rattle.ug_speaker.specs.Right.{IsAmong}
 use Rattle.ug_speaker.specs.Owes.{IsCourse, TellsMarks}
-use Rattle.ug_plain_rules.proofs.Counts.{IsCounted, nothing-in}
-use Rattle.ug_plain_rules.proofs.Growing.{through-last}
+use Rattle.ug_speaker.proofs.Counts.{IsCounted, nothing-in}
+use Rattle.ug_speaker.proofs.Pasts.{through-last}
 use Rattle.ug_group_rules.specs.Machine.{Seat, Member, System, seat_of, seat_at, handed_now, mark_at, marks_at, take_event, Job, Take, Format, Merge, Slow, Sync, Close}
 use Rattle.ug_group_rules.specs.Rules.{group_rules, group_speech, purpose}
 use Rattle.ug_group_rules.proofs.Seated.{counts_of, is_live, IsPlaced, IsPlacedAt, IsSystem, IsFine}
-use Rattle.ug_group_rules.proofs.Staying.{world-event}
+use Rattle.ug_group_rules.proofs.WorldStays.{world-event}
 use Rattle.ug_group_rules.proofs.Histories.{GroupEntry, step-job}
 use Rattle.ug_group_rules.proofs.Courses.{world-led, fine, system}
 

@@ -15,19 +15,20 @@ use Rattle.ug_world.specs.declared.peer_state.PeerState.{PeerState}
 use Rattle.ug_world.specs.World.{World, key_in}
 use Rattle.ug_pack.specs.Ready.{key_order}
 use Rattle.ug_adjout_rules.specs.Tables.{has}
-use Rattle.ug_plain_rules.specs.Seats.{change_at, is_lost_at}
-use Rattle.ug_plain_rules.proofs.Bools.{both_so, not_so}
-use Rattle.ug_plain_rules.proofs.Lawful.{changed-there}
+use Rattle.ug_speaker.specs.Places.{change_at}
+use Rattle.ug_speaker.specs.Counts.{is_lost_at}
+use Rattle.ug_speaker.proofs.Bools.{both_so, not_so}
+use Rattle.ug_speaker.proofs.Places.{changed-there}
 use Rattle.ug_group_rules.specs.declared.phase.Phase.{Phase}
 use Rattle.ug_group_rules.specs.declared.phase.Phase.TheVariants.{Quiet, Owed, Open}
 use Rattle.ug_group_rules.specs.Packets.{Rows, same_group, wanted_rows}
 use Rattle.ug_group_rules.specs.Machine.{Subgroup, Seat, Member, System, is_quiet, owes, is_level, is_so, queued, may_merge, reseated, moved, merge}
 use Rattle.ug_group_rules.proofs.Found.{IsFound, found-so}
 use Rattle.ug_group_rules.proofs.Streams.{IsStream}
-use Rattle.ug_group_rules.proofs.Standing.{IsAs, stream-as}
+use Rattle.ug_group_rules.proofs.StreamsInWorlds.{IsAs, stream-as}
 use Rattle.ug_group_rules.proofs.Tables.{row_at, is_forced}
-use Rattle.ug_group_rules.proofs.Owing.{table_in}
-use Rattle.ug_group_rules.proofs.Going.{level-rows}
+use Rattle.ug_group_rules.proofs.WantedTables.{table_in}
+use Rattle.ug_group_rules.proofs.MemberStreams.{level-rows}
 use Rattle.ug_group_rules.proofs.Groups.{group-same}
 use Rattle.ug_group_rules.proofs.Seated.{counts_of, stream_of, IsSat, IsPlacedAt, IsSystem}
 use Rattle.ug_group_rules.proofs.Formatting.{up-of, session-of}

@@ -8,8 +8,8 @@ use Rattle.ug_history_rules.specs.Deeds.{Deed}
 use Rattle.ug_outbound.specs.declared.key.GroupKey.{GroupKey}
 use Rattle.ug_world.specs.declared.peer_state.PeerState.{PeerState}
 use Rattle.ug_world.specs.World.{World}
-use Rattle.ug_plain_rules.specs.Seats.{change_at}
-use Rattle.ug_plain_rules.proofs.Lawful.{changed-here, changed-there}
+use Rattle.ug_speaker.specs.Places.{change_at}
+use Rattle.ug_speaker.proofs.Places.{changed-here, changed-there}
 use Rattle.ug_group_rules.specs.Machine.{Subgroup, Seat, Member, System, sits, sits_in, has_members, with_seat, seated, without_subgroup, leave}
 use Rattle.ug_group_rules.proofs.Seated.{IsPlaced}
 

@@ -9,13 +9,13 @@ use Rattle.ug_history_rules.specs.Deeds.{Deed}
 use Rattle.ug_outbound.specs.Keys.{ends_of}
 use Rattle.ug_world.specs.declared.peer_state.PeerState.{PeerState}
 use Rattle.ug_world.specs.World.{World, key_in}
-use Rattle.ug_plain_rules.specs.Seats.{change_at}
+use Rattle.ug_speaker.specs.Places.{change_at}
 use Rattle.ug_group_rules.specs.Packets.{Packet}
 use Rattle.ug_group_rules.specs.Machine.{Subgroup, Seat, Member, System, queued, reseated, parted, unstuck, slow_of}
 use Rattle.ug_group_rules.proofs.Streams.{IsStream}
 use Rattle.ug_group_rules.proofs.Tables.{is_forced}
-use Rattle.ug_group_rules.proofs.Owing.{table_in}
-use Rattle.ug_group_rules.proofs.Going.{IsKept}
+use Rattle.ug_group_rules.proofs.WantedTables.{table_in}
+use Rattle.ug_group_rules.proofs.MemberStreams.{IsKept}
 use Rattle.ug_group_rules.proofs.Seated.{stream_of, AreFitting, IsSat, IsPlacedAt, IsSystem, at-same}
 
 -- ---- lists with something more at the end

@@ -12,15 +12,15 @@ use Rattle.ug_rewrite.specs.NextHops.{told_to}
 use Rattle.ug_world.specs.declared.peer_state.PeerState.{PeerState}
 use Rattle.ug_world.specs.World.{World}
 use Rattle.ug_speaker.specs.Told.{handed_in}
-use Rattle.ug_plain_rules.proofs.Bools.{both}
-use Rattle.ug_plain_rules.proofs.Batches.{right-longer}
+use Rattle.ug_speaker.proofs.Bools.{both}
+use Rattle.ug_speaker.proofs.ToldRight.{right-longer}
 use Rattle.ug_group_rules.specs.declared.phase.Phase.{Phase}
 use Rattle.ug_group_rules.specs.Packets.{Rows, Out, wanted_rows, with_all_desired}
 use Rattle.ug_group_rules.specs.Machine.{Subgroup, Member, System, retabled, counted, counted_from}
-use Rattle.ug_group_rules.proofs.Standing.{IsAs, stream-longer, stream-as}
+use Rattle.ug_group_rules.proofs.StreamsInWorlds.{IsAs, stream-longer, stream-as}
 use Rattle.ug_group_rules.proofs.Tables.{row_at, is_forced, desired-forced, desired-exact, wanted-sorted}
-use Rattle.ug_group_rules.proofs.Owing.{table_in}
-use Rattle.ug_group_rules.proofs.Going.{IsKept, some-mapped}
+use Rattle.ug_group_rules.proofs.WantedTables.{table_in}
+use Rattle.ug_group_rules.proofs.MemberStreams.{IsKept, some-mapped}
 use Rattle.ug_group_rules.proofs.Seated.{stream_of, IsPlaced}
 
 -- other rows that are desired change nothing of the stream

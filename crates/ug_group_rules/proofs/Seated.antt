@@ -20,15 +20,15 @@ use Rattle.ug_adjout_rules.specs.Formatting.{Due}
 use Rattle.ug_adjout_rules.specs.Formatting.Due.{Nothing, Withdraws, Announces}
 use Rattle.ug_pack.specs.Rooms.{room, room_beside}
 use Rattle.ug_pack.specs.Ready.{key_order}
-use Rattle.ug_packing.specs.Packing.{fits}
+use Rattle.ug_message.specs.Fitting.{fits}
 use Rattle.ug_speaker.specs.Speech.{capabilities_of}
 use Rattle.ug_speaker.specs.Told.{handed_in}
 use Rattle.ug_speaker.specs.Right.{IsToldRight}
-use Rattle.ug_plain_rules.specs.Seats as plain
-use Rattle.ug_plain_rules.specs.Seats.{change_at, is_lost_at}
-use Rattle.ug_plain_rules.proofs.Bools.{both_so}
-use Rattle.ug_plain_rules.proofs.Lawful.{changed-here, changed-there}
-use Rattle.ug_plain_rules.proofs.Counts.{IsCounted}
+use Rattle.ug_speaker.specs.Places.{change_at}
+use Rattle.ug_speaker.specs.Counts.{Counts, is_lost_at}
+use Rattle.ug_speaker.proofs.Bools.{both_so}
+use Rattle.ug_speaker.proofs.Places.{changed-here, changed-there}
+use Rattle.ug_speaker.proofs.Counts.{IsCounted}
 use Rattle.ug_group_rules.specs.declared.phase.Phase.{Phase}
 use Rattle.ug_group_rules.specs.declared.phase.Phase.TheVariants.{Quiet, Open}
 use Rattle.ug_group_rules.specs.Packets.{Packet, Says, EndOfRib, RefreshBegins, RefreshEnds, wanted_rows, all_forced, with_told, routes_due, message_to}
@@ -36,12 +36,12 @@ use Rattle.ug_group_rules.specs.Machine.{Subgroup, Seat, Member, System, is_owed
 use Rattle.ug_group_rules.proofs.Fitting.{CanBeSent}
 use Rattle.ug_group_rules.proofs.Streams.{IsStream}
 use Rattle.ug_group_rules.proofs.Tables.{row_at, is_forced, IsOut, told-desired, told-exact, told-formatted, forced-exact}
-use Rattle.ug_group_rules.proofs.Owing.{table_in}
-use Rattle.ug_group_rules.proofs.Going.{IsKept}
+use Rattle.ug_group_rules.proofs.WantedTables.{table_in}
+use Rattle.ug_group_rules.proofs.MemberStreams.{IsKept}
 
--- a member's counts, as those of a seat that keeps texts
-abbrev pub counts_of : Member → plain.Seat
-counts_of m = record { begun = m.begun; unlost = m.unlost; handed = m.handed; texts = [] }
+-- what is counted of a member's sessions
+abbrev pub counts_of : Member → Counts
+counts_of m = record { begun = m.begun; unlost = m.unlost; handed = m.handed }
 
 abbrev pub is_live : PeerState → Member → Bool
 is_live s m = s.up && not (is_lost_at (counts_of m) s.sessions)

@@ -8,12 +8,12 @@ use Rattle.ug_world.specs.World.{World}
 use Rattle.ug_world.specs.Verdicts.{verdict}
 use Rattle.ug_speaker.specs.Told.{worlds_of, told, is_live as is_live_in}
 use Rattle.ug_speaker.specs.Owes.{IsCourse}
-use Rattle.ug_plain_rules.proofs.Bools.{both_so, not_so}
+use Rattle.ug_speaker.proofs.Bools.{both_so, not_so}
 use Rattle.ug_group_rules.specs.Machine.{Subgroup, Seat, Member, System, seat_of, seat_at, subgroup_at, there, owes, is_full, some_so, may_merge, must_part, is_ordered, is_settled, is_turn, Take, legal}
 use Rattle.ug_group_rules.specs.Rules.{group_rules, group_speech}
 use Rattle.ug_group_rules.specs.Simulates.{Simulates, rest_to}
 use Rattle.ug_group_rules.proofs.Found.{none-so}
-use Rattle.ug_group_rules.proofs.Going.{IsKept}
+use Rattle.ug_group_rules.proofs.MemberStreams.{IsKept}
 use Rattle.ug_group_rules.proofs.Seated.{is_live}
 use Rattle.ug_group_rules.proofs.Histories.{GroupEntry}
 use Rattle.ug_group_rules.proofs.Courses.{IsMemberAt, member-at, live-here, system}

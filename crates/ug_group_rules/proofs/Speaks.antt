@@ -16,7 +16,7 @@ use Rattle.ug_group_rules.proofs.Histories.{GroupEntry}
 use Rattle.ug_group_rules.proofs.Steps.{group-steps}
 use Rattle.ug_group_rules.proofs.Courses.{world-led, told-right, begun-at_most, begun-all, all-told, text-told, losses-told}
 use Rattle.ug_group_rules.proofs.Marks.{marks-told}
-use Rattle.ug_group_rules.proofs.Renewed.{asked-whole, told-all_again}
+use Rattle.ug_group_rules.proofs.AskedHistories.{asked-whole, told-all_again}
 
 pub told-again : (opening : World) (before later : List GroupEntry) (pass : ℕ) (job : Job) (e : Happening) (p : ℕ) (asker s : PeerState) → purpose job ≡ TakesEvent e → is_request e ≡ true
     → slice_get (replay group_rules opening before).world.peers p ≡ Some asker → is_about e asker ≡ true

@@ -4,13 +4,13 @@ use Rattle.std.specs.Prelude.{not}
 use Rattle.ug_board.specs.declared.steps.LaneSaid.{LaneSaid}
 use Rattle.ug_board.specs.declared.steps.LaneSaid.TheVariants.{Idle, Stop}
 use Rattle.ug_world.specs.declared.peer_state.PeerState.{PeerState}
-use Rattle.ug_plain_rules.specs.Seats.{sessions_at}
-use Rattle.ug_plain_rules.proofs.Bools.{both_so, not_so}
+use Rattle.ug_speaker.specs.Counts.{sessions_at}
+use Rattle.ug_speaker.proofs.Bools.{both_so, not_so}
 use Rattle.ug_speaker.specs.Owes.{IsTimely, StaysDrained, StepsRight}
 use Rattle.ug_group_rules.specs.Machine.{System, may_format, may_merge, must_part, upshot_of, Upshot, Begins, Hands, Rests, Job, Take, Format, Merge, Slow, Sync, Close, legal, after_job}
 use Rattle.ug_group_rules.specs.Rules.{at_rest, said_of, group_rules, group_speech, purpose}
 use Rattle.ug_group_rules.proofs.Drained.{rested, formats-none, merges-none, parts-none, drained-settled, drained-rests, drained-after_lane}
-use Rattle.ug_group_rules.proofs.Staying.{world-job, closed-job, stands-lane}
+use Rattle.ug_group_rules.proofs.WorldStays.{world-job, closed-job, stands-lane}
 
 timely : (job : Job) (s : System) → IsTimely group_rules group_speech (purpose job) (legal job s) s
 timely (Take e) s = refl

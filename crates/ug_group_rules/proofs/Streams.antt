@@ -13,11 +13,11 @@ use Rattle.ug_world.specs.World.{World}
 use Rattle.ug_world.specs.Private.{private_table}
 use Rattle.ug_world.specs.Worlds.{in_session, past}
 use Rattle.ug_speaker.specs.Right.{IsAmong, EndsInWhole, IsInTurn, is_refreshing, ends_of_rib, AreFor, IsToldRight}
-use Rattle.ug_packing.specs.Packing.{withdrawing}
+use Rattle.ug_message.specs.Fitting.{withdrawing}
 use Rattle.ug_group_rules.specs.declared.phase.Phase.{Phase}
 use Rattle.ug_group_rules.specs.declared.phase.Phase.TheVariants.{Quiet, Open}
-use Rattle.ug_plain_rules.proofs.Moving.{IsLast}
-use Rattle.ug_plain_rules.proofs.Telling.{mentions, reading-append, values-append, are-append, count-append, count-none, has_ended, in_turn-append, refreshing-append, ended-append}
+use Rattle.ug_speaker.proofs.Pasts.{IsLast}
+use Rattle.ug_speaker.proofs.Readings.{mentions, reading-append, values-append, are-append, count-append, count-none, has_ended, in_turn-append, refreshing-append, ended-append}
 
 -- ---- climbs that go on
 

@@ -9,24 +9,24 @@ use Rattle.ug_outbound.specs.declared.key.GroupKey.{GroupKey}
 use Rattle.ug_outbound.specs.Keys.{ends_of}
 use Rattle.ug_world.specs.declared.peer_state.PeerState.{PeerState}
 use Rattle.ug_world.specs.World.{World}
-use Rattle.ug_plain_rules.specs.Seats.{change_at}
-use Rattle.ug_plain_rules.proofs.Bools.{both_so}
-use Rattle.ug_plain_rules.proofs.Lawful.{changed-here, changed-there}
-use Rattle.ug_plain_rules.proofs.Peers.{IsNextOf}
+use Rattle.ug_speaker.specs.Places.{change_at}
+use Rattle.ug_speaker.proofs.Bools.{both_so}
+use Rattle.ug_speaker.proofs.Places.{changed-here, changed-there}
+use Rattle.ug_speaker.proofs.Peers.{IsNextOf}
 use Rattle.ug_group_rules.specs.Packets.{same_group, wanted_rows}
 use Rattle.ug_group_rules.specs.Machine.{Subgroup, Seat, Member, System, seat_of, seat_at, with_seat, seated, with_new, leave, join, first_joinable, is_joinable, at_end, fresh_subgroup, apart, rekey, rekeyed, ask, asked}
 use Rattle.ug_group_rules.proofs.Tables.{fresh-exact, wanted-sorted}
 use Rattle.ug_group_rules.proofs.Groups.{group-same}
-use Rattle.ug_group_rules.proofs.Going.{IsKept}
+use Rattle.ug_group_rules.proofs.MemberStreams.{IsKept}
 use Rattle.ug_group_rules.proofs.Seated.{is_live, IsSat, IsPlaced}
 use Rattle.ug_group_rules.proofs.Others.{leave-world, leave-members, leave-there, leave-kept, leave-here}
 use Rattle.ug_group_rules.proofs.Parting.{get-front, get-end, get-new}
 use Rattle.ug_group_rules.proofs.Company.{IsApart}
-use Rattle.ug_group_rules.proofs.Setting.{set-apart}
-use Rattle.ug_group_rules.proofs.Owning.{IsOwn, own-apart, own-changed}
-use Rattle.ug_group_rules.proofs.Asking.{IsGood, good-then, good-itself, good-rekeyed, good-asked, key-asked}
+use Rattle.ug_group_rules.proofs.SetApart.{set-apart}
+use Rattle.ug_group_rules.proofs.OwnSubgroups.{IsOwn, own-apart, own-changed}
+use Rattle.ug_group_rules.proofs.OwnSubgroupsTurned.{IsGood, good-then, good-itself, good-rekeyed, good-asked, key-asked}
 use Rattle.ug_group_rules.proofs.Again.{IsCovered, covered-asked}
-use Rattle.ug_group_rules.proofs.Turning.{IsTurned, IsCarried, placed-nowhere, placed-starts, placed-stays, sat_old}
+use Rattle.ug_group_rules.proofs.PeerTurns.{IsTurned, IsCarried, placed-nowhere, placed-starts, placed-stays, sat_old}
 
 -- ---- a subgroup that a session may join
 

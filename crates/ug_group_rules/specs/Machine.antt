@@ -20,7 +20,8 @@ use Rattle.ug_world.specs.Touches.{is_about}
 use Rattle.ug_adjout_rules.specs.Formatting.{Due}
 use Rattle.ug_adjout_rules.specs.Formatting.Due.{Nothing, Withdraws, Announces}
 use Rattle.ug_speaker.specs.Speech.{is_request}
-use Rattle.ug_plain_rules.specs.Seats.{change_at, has, sessions_at}
+use Rattle.ug_speaker.specs.Places.{change_at}
+use Rattle.ug_speaker.specs.Counts.{has, sessions_at}
 use Rattle.ug_group_rules.specs.declared.phase.Phase.{Phase}
 use Rattle.ug_group_rules.specs.declared.phase.Phase.TheVariants.{Quiet, Owed, Open}
 use Rattle.ug_group_rules.specs.Packets.{Out, Packet, Says, Withdrawn, Announced, EndOfRib, RefreshBegins, RefreshEnds, same_group, wanted_rows, with_all_desired, all_desired, all_forced, with_told, routes_due}

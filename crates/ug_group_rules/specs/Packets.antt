@@ -1,7 +1,6 @@
 -- What the peers of a group key should have, the packets that tell them, and the message that each of them is sent.
 use Rattle.std.specs.Prelude.{ℕ, Bool, List, []}
 use Rattle.std.specs.List.{fold}
-use Rattle.std.specs.Map.{keys_of}
 use Rattle.ug_types.specs.declared.key.Key.{Key}
 use Rattle.ug_types.specs.declared.route.OutAttrs.{OutAttrs}
 use Rattle.ug_types.specs.declared.route.PeerEnds.{PeerEnds}
@@ -14,12 +13,13 @@ use Rattle.ug_outbound.specs.Keys.{limit_of}
 use Rattle.ug_rewrite.specs.NextHops.{told_to}
 use Rattle.ug_world.specs.World.{World}
 use Rattle.ug_world.specs.Private.{wanted, keys_of as world_keys}
-use Rattle.ug_adjout_rules.specs.Tables.{joined, with_value}
-use Rattle.ug_adjout_rules.specs.Pending.{AdjRibOut, nothing_out, still_forced, settled, with_all_forced, with_all_formatted}
+use Rattle.ug_adjout_rules.specs.Tables.{with_value}
+use Rattle.ug_adjout_rules.specs.Pending.{AdjRibOut, nothing_out, with_all_forced, with_all_formatted}
+use Rattle.ug_adjout_rules.specs.Desiring as desiring
 use Rattle.ug_adjout_rules.specs.Formatting.{Due, due}
 use Rattle.ug_pack.specs.Rooms.{room, room_beside}
 use Rattle.ug_pack.specs.Ready.{key_order}
-use Rattle.ug_packing.specs.Packing.{announcing, withdrawing}
+use Rattle.ug_message.specs.Fitting.{announcing, withdrawing}
 
 abbrev pub same_out : OutAttrs → OutAttrs → Bool
 same_out a b = out_eq.ghosts.eq a b
@@ -45,8 +45,7 @@ wanted_rows group w = fold (with_wanted group w) [] (world_keys group.add_path w
 
 -- These rows are desired from now on.
 abbrev pub with_all_desired : Rows → Out → Out
-with_all_desired rows out =
-    settled key_order same_out out.formatted rows (still_forced key_order out.formatted rows out.forced) out.pending (joined key_order (keys_of out.formatted) (keys_of rows))
+with_all_desired rows out = desiring.with_all_desired key_order same_out rows out
 
 -- nothing is formatted yet, and these rows are desired
 abbrev pub all_desired : Rows → Out

@@ -11,7 +11,7 @@ use Rattle.ug_outbound.specs.Keys.{ends_of}
 use Rattle.ug_world.specs.declared.peer_state.PeerState.{PeerState}
 use Rattle.ug_world.specs.World.{World}
 use Rattle.ug_speaker.specs.Speech.{Purpose, TakesEvent, MarksTold, Ends, Prepares, Speech, capabilities_of}
-use Rattle.ug_packing.specs.Packing.{text_of}
+use Rattle.ug_message.specs.Fitting.{text_of}
 use Rattle.ug_group_rules.specs.Packets.{Packet, message_to}
 use Rattle.ug_group_rules.specs.Machine.{Seat, Member, System, start, seat_at, first_left, Job, Take, Format, Merge, Slow, Sync, Close, Said, Took, Formatted, Merged, Moved, Marks, Closed, legal, after_job, job_reply, Upshot, Begins, Hands, Rests, upshot, after_next, after_loss, has_unlost, is_settled, is_drained}
 use Rattle.ug_group_rules.specs.Evaluations.{evaluations}

@@ -2,10 +2,12 @@
 //! subgroups, with one Adj-RIB-Out and one queue of packets each.
 #![tactic(auto)]
 
+mod by_key;
 mod evaluations;
 mod laws;
 mod phase;
 
+pub use by_key::{due_laws, event_law, table_laws, turn_law, wanted_laws};
 pub use evaluations::group_evaluations;
 pub use laws::{group_courses, group_laws, group_order, group_simulation};
 pub use phase::Phase;

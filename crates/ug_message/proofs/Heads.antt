@@ -59,3 +59,18 @@ unreach_is n routes e =
     let value = ipv6_unicast ++ routes in
     let size : length value ≡ 3 + n = omega (arith, e) in
     append_assoc (head optional 15 (3 + n)) ipv6_unicast routes ∙ ap (λ (k : ℕ). head optional 15 k ++ value) (sym size) ∙ sym (attribute_is optional 15 value)
+
+-- ---- the attributes in which IPv6 routes stand
+
+pub length_reach : (next_hop : IpAddress) (routes : List ℕ) → length (mp_reach_nlri next_hop routes) ≡ size_around (21 + length routes)
+unfolding mp_reach_nlri
+length_reach next_hop routes =
+    let value = ipv6_unicast ++ 16 ∷ (sixteen_bytes next_hop ++ 0 ∷ routes) in
+    let size : length value ≡ 21 + length routes = omega arith in
+    length_attribute optional 14 value ∙ ap size_around size
+
+pub length_unreach : (routes : List ℕ) → length (mp_unreach_nlri routes) ≡ size_around (3 + length routes)
+unfolding mp_unreach_nlri
+length_unreach routes =
+    let size : length (ipv6_unicast ++ routes) ≡ 3 + length routes = omega arith in
+    length_attribute optional 15 (ipv6_unicast ++ routes) ∙ ap size_around size

@@ -17,3 +17,5 @@ pub mod WholeMessages
 pub mod WrittenAgain
 pub mod Spelled
 pub mod Sent
+pub mod Fitting
+pub mod Segments

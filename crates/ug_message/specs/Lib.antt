@@ -6,6 +6,8 @@ pub mod AttributeTable
 pub mod Spelling
 pub mod Spellable
 pub mod Texts
+pub mod Fitting
+pub mod Frames
 pub mod Streams
 pub mod RoutesRead
 pub mod AttributesRead

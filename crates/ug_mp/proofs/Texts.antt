@@ -5,15 +5,14 @@ use Rattle.std.proofs.lemmas.List.{take_at, drop_at}
 use Rattle.std.specs.Int.{w16, to_be_bytes}
 use Rattle.ug_types.specs.declared.family.Family.TheVariants.{V6}
 use Rattle.ug_types.specs.declared.capabilities.Capabilities.{Capabilities}
-use Rattle.ug_types.specs.Ip.{IpAddress}
 use Rattle.ug_types.specs.Attributes.{Attributes}
 use Rattle.ug_types.specs.Sessions.{message_limit}
 use Rattle.ug_message.specs.Spelling.{optional, ipv6_unicast, sixteen_bytes, mp_reach_nlri, mp_unreach_nlri, attributes_but_next_hop}
 use Rattle.ug_message.specs.Heads.{head, size_around, reach_place, reach_head, unreach_head}
 use Rattle.ug_message.specs.Texts.{framed}
 use Rattle.ug_message.specs.Texts as texts
-use Rattle.ug_message.proofs.Heads.{length_attribute, reach_is, unreach_is}
-use Rattle.ug_message.proofs.WrittenAgain.{length_framed}
+use Rattle.ug_message.proofs.Heads.{length_reach, length_unreach, reach_is, unreach_is}
+use Rattle.ug_message.proofs.Fitting.{withdrawing_length, announcing_length}
 use Rattle.ug_update.specs.Updates.{header}
 use Rattle.ug_update.proofs.Texts.{framed_is}
 
@@ -24,19 +23,6 @@ around_by false len = omega arith
 -- an attribute has three bytes before its value at least
 pub least_around : (len : ℕ) → len + 3 ≤ size_around len
 least_around len = around_by (nat_lt 255 len) len
-
-length_reach : (next_hop : IpAddress) (routes : List ℕ) → length (mp_reach_nlri next_hop routes) ≡ size_around (21 + length routes)
-unfolding mp_reach_nlri
-length_reach next_hop routes =
-    let value = ipv6_unicast ++ 16 ∷ (sixteen_bytes next_hop ++ 0 ∷ routes) in
-    let size : length value ≡ 21 + length routes = omega arith in
-    length_attribute optional 14 value ∙ ap size_around size
-
-length_unreach : (routes : List ℕ) → length (mp_unreach_nlri routes) ≡ size_around (3 + length routes)
-unfolding mp_unreach_nlri
-length_unreach routes =
-    let size : length (ipv6_unicast ++ routes) ≡ 3 + length routes = omega arith in
-    length_attribute optional 15 (ipv6_unicast ++ routes) ∙ ap size_around size
 
 -- a body of two fields, of which the first is empty
 abbrev behind : List ℕ → List ℕ
@@ -105,21 +91,12 @@ next_hop_there attrs routes items pieces =
 
 -- ---- how long they are
 
-length_behind : (attributes : List ℕ) → length (behind attributes) ≡ 4 + length attributes
-length_behind attributes = omega arith
-
-length_of : (attributes items : List ℕ) (size : ℕ) → framed 2 (behind attributes) ≡ items → length attributes ≡ size → length items ≡ 23 + size
-length_of attributes items size is e = omega (arith, ap (λ (t : List ℕ). length t) is, length_framed 2 (behind attributes), length_behind attributes, e)
-
 pub withdrawal_length : (routes items : List ℕ) → framed 2 (texts.withdrawing V6 routes) ≡ items → length items ≡ 23 + size_around (3 + length routes)
-withdrawal_length routes items is = length_of (mp_unreach_nlri routes) items (size_around (3 + length routes)) is (length_unreach routes)
+withdrawal_length routes items is = omega (arith, ap (λ (t : List ℕ). length t) is, withdrawing_length V6 routes)
 
 pub announcement_length : (attrs : Attributes) (routes items : List ℕ) → framed 2 (texts.announcing V6 attrs routes) ≡ items
     → length items ≡ 23 + (length (attributes_but_next_hop attrs) + size_around (21 + length routes))
-announcement_length attrs routes items is =
-    let own = attributes_but_next_hop attrs in
-    let reach = mp_reach_nlri attrs.next_hop routes in
-    length_of (own ++ reach) items (length own + size_around (21 + length routes)) is (length-append own reach ∙ ap (λ (n : ℕ). length own + n) (length_reach attrs.next_hop routes))
+announcement_length attrs routes items is = ap (λ (t : List ℕ). length t) (sym is) ∙ announcing_length V6 attrs routes
 
 -- ---- End-of-RIB is within each limit
 

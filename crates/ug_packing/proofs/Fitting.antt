@@ -1,4 +1,4 @@
--- Which messages fit, and what their text is.
+-- What is known of a message before it is written: whether it fits, and what its text is.
 use Rattle.std.proofs.Common.{◌≡◌, inl, inr, ℕ, ◌+◌, ◌<◌, ◌≤◌, Bool, true, false, ◌&&◌, nat_le, List, [], ◌∷◌, ◌++◌, length, map, drop, Option, Some, None, refl, sym, ap, subst, ◌∙◌, arith, length-append, lit≤}
 use Rattle.std.specs.Prelude.{is_some, unwrap_or, slice_index_or, if◌then◌else◌}
 use Rattle.std.specs.List.{list_all}
@@ -22,18 +22,19 @@ use Rattle.ug_message.specs.Spelling.{routes, attributes}
 use Rattle.ug_message.specs.Spellable.{is_key, is_ipv4, where_there, has_ipv4_addresses, can_be_spelled}
 use Rattle.ug_message.specs.Texts.{framed, withdrawal, announcement, within, written}
 use Rattle.ug_message.specs.Texts as texts
-use Rattle.ug_message.proofs.WrittenAgain.{length_framed}
-use Rattle.ug_mp.proofs.Texts.{withdrawal_length, announcement_length}
+use Rattle.ug_message.specs.Fitting.{withdrawing, announcing, fits, text_of}
+use Rattle.ug_message.specs.Frames.{said, are_spellable, attributes_text, routes_around, message_size}
+use Rattle.ug_message.proofs.Fitting.{fits_is}
 use Rattle.ug_mp.proofs.Texts.{least_around as around_least}
 use Rattle.std.proofs.lemmas.Bool.Decides.{nat_tests}
 use Rattle.ug_update.specs.Updates.{header}
 use Rattle.ug_update.proofs.Texts.{framed_is}
-use Rattle.ug_packing.specs.Packing.{Shared, withdrawing, announcing, announcements_of, withdrawals, runs, fits, text_of}
+use Rattle.ug_packing.specs.Packing.{Shared, announcements_of, withdrawals, runs}
 use Rattle.ug_packing.specs.declared.load.Load.{Load}
 use Rattle.ug_packing.specs.Seen.{texts_in, announced}
 use Rattle.ug_packing.proofs.Running.{drop_one}
 use Rattle.std.proofs.lemmas.List.{map-append}
-use Rattle.ug_packing.specs.Frames.{said, texts_of_runs, are_spellable, attributes_text, routes_around, message_size, IsFront, IsFrontOf, FitsNone, IsLoad}
+use Rattle.ug_packing.specs.Frames.{texts_of_runs, IsFront, IsFrontOf, FitsNone, IsLoad}
 
 -- ---- what can't be spelled
 
@@ -71,67 +72,15 @@ addresses_so f a e =
 not_spelled : (f : Family) (a : Attributes) → (same_family a.next_hop.family f && has_ipv4_addresses a) ≡ false → can_be_spelled f a ≡ false
 not_spelled f a other = not_so (can_be_spelled f a) (λ (e : can_be_spelled f a ≡ true). clash (sym (addresses_so f a e) ∙ other))
 
--- ---- a text, where it is well formed and within the limit
-
-some_if : (b : Bool) (text : List ℕ) → is_some (if b then Some text else None) ≡ b
-some_if true text = refl
-some_if false text = refl
+-- ---- the text of what fits
 
 text_if : (b : Bool) (text : List ℕ) → is_some (if b then Some text else None) ≡ true → unwrap_or (if b then Some text else None) [] ≡ text
 text_if true text e = refl
 text_if false text e = absurd cc
 
-within_fits : (c : Capabilities) (formed : Bool) (text : List ℕ) → is_some (within c formed text) ≡ (formed && nat_le (length text) (message_limit c))
-within_fits c true text = some_if (nat_le (length text) (message_limit c)) text
-within_fits c false text = refl
-
 within_text : (c : Capabilities) (formed : Bool) (text : List ℕ) → is_some (within c formed text) ≡ true → unwrap_or (within c formed text) [] ≡ text
 within_text c true text e = text_if (nat_le (length text) (message_limit c)) text e
 within_text c false text e = absurd cc
-
--- ---- how long they are
-
-withdrawal4_length : (r : List ℕ) → length (framed 2 (texts.withdrawing V4 r)) ≡ 23 + length r
-withdrawal4_length r = omega (arith, length_framed 2 (texts.withdrawing V4 r), length-append (to_be_bytes w16 (length r) ++ r) (to_be_bytes w16 0 ++ []))
-
-announcement4_length : (a : Attributes) (r : List ℕ) → length (framed 2 (texts.announcing V4 a r)) ≡ 23 + (length (attributes a) + length r)
-announcement4_length a r = omega (arith, length_framed 2 (texts.announcing V4 a r), length-append (attributes a) r)
-
-withdrawing_length : (family : Family) (r : List ℕ) → length (framed 2 (texts.withdrawing family r)) ≡ 23 + (0 + routes_around family false (length r))
-withdrawing_length V4 r = omega (arith, withdrawal4_length r)
-withdrawing_length V6 r = omega (arith, withdrawal_length r (framed 2 (texts.withdrawing V6 r)) refl)
-
-announcing_length : (family : Family) (a : Attributes) (r : List ℕ) → length (framed 2 (texts.announcing family a r)) ≡ 23 + (length (attributes_text family (Some a)) + routes_around family true (length r))
-announcing_length V4 a r = announcement4_length a r
-announcing_length V6 a r = announcement_length a r (framed 2 (texts.announcing V6 a r)) refl
-
--- ---- which fit
-
-moved : (a b d : Bool) → ((a && b) && d) ≡ (a && (b && d))
-moved true b d = refl
-moved false b d = refl
-
-withdrawing_fits : (c : Capabilities) (keys : List Key) → fits c (withdrawing keys) ≡ (list_all (is_key c) keys && nat_le (message_size c None (length (routes c.add_path keys))) (message_limit c))
-unfolding fits written withdrawal
-withdrawing_fits c keys =
-    within_fits c (list_all (is_key c) keys) (framed 2 (texts.withdrawing c.family (routes c.add_path keys)))
-    ∙ ap (λ (n : ℕ). list_all (is_key c) keys && nat_le n (message_limit c)) (withdrawing_length c.family (routes c.add_path keys))
-
-announcing_fits : (c : Capabilities) (a : Attributes) (key : Key) (keys : List Key)
-    → fits c (announcing a (key ∷ keys)) ≡ (list_all (is_key c) (key ∷ keys) && (can_be_spelled c.family a && nat_le (message_size c (Some a) (length (routes c.add_path (key ∷ keys)))) (message_limit c)))
-unfolding fits written announcement
-announcing_fits c a key keys =
-    within_fits c (list_all (is_key c) (key ∷ keys) && can_be_spelled c.family a) (framed 2 (texts.announcing c.family a (routes c.add_path (key ∷ keys))))
-    ∙ ap (λ (n : ℕ). (list_all (is_key c) (key ∷ keys) && can_be_spelled c.family a) && nat_le n (message_limit c)) (announcing_length c.family a (routes c.add_path (key ∷ keys)))
-    ∙ moved (list_all (is_key c) (key ∷ keys)) (can_be_spelled c.family a) (nat_le (message_size c (Some a) (length (routes c.add_path (key ∷ keys)))) (message_limit c))
-
-pub fits_is : (c : Capabilities) (attrs : Option Attributes) (keys : List Key) → 0 < length keys
-    → fits c (said attrs keys) ≡ (list_all (is_key c) keys && (are_spellable c attrs && nat_le (message_size c attrs (length (routes c.add_path keys))) (message_limit c)))
-fits_is c None keys some = withdrawing_fits c keys
-fits_is c (Some a) [] some = absurd (omega arith)
-fits_is c (Some a) (key ∷ keys) some = announcing_fits c a key keys
-
--- ---- and their text
 
 pub withdrawing_text : (c : Capabilities) (keys : List Key) → fits c (withdrawing keys) ≡ true → text_of c (withdrawing keys) ≡ framed 2 (texts.withdrawing c.family (routes c.add_path keys))
 unfolding fits text_of written withdrawal

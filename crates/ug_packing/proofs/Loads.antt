@@ -1,8 +1,7 @@
 -- How long a route is, and what a run is with one route more.
-use Rattle.std.proofs.Common.{◌≡◌, ℕ, ◌+◌, ◌*◌, ◌<◌, ◌≤◌, Bool, true, false, ◌&&◌, ◌||◌, ◌==◌, List, [], ◌∷◌, ◌++◌, length, map, take, drop, refl, ap, ◌∙◌, arith, length-append}
-use Rattle.std.specs.Prelude.{slice_index_or, if◌then◌else◌}
+use Rattle.std.proofs.Common.{◌≡◌, ℕ, ◌+◌, ◌≤◌, Bool, true, false, ◌&&◌, ◌||◌, ◌==◌, List, [], ◌∷◌, ◌++◌, length, take, refl, ap, ◌∙◌, arith, length-append}
+use Rattle.std.specs.Prelude.{if◌then◌else◌}
 use Rattle.std.specs.List.{list_all}
-use Rattle.ug_packing.proofs.Running.{drop_one}
 use Rattle.std.specs.Int.{w32, w128, to_be_bytes}
 use Rattle.std.proofs.lemmas.List.{length-take}
 use Rattle.ug_types.specs.declared.key.Key.{Key}
@@ -10,10 +9,7 @@ use Rattle.ug_types.specs.declared.family.Family.{Family}
 use Rattle.ug_types.specs.declared.family.Family.TheVariants.{V4, V6}
 use Rattle.ug_types.specs.declared.capabilities.Capabilities.{Capabilities}
 use Rattle.ug_types.specs.Ip.{bytes_for, same_family}
-use Rattle.ug_types.specs.declared.attrs.Segment.{Segment}
-use Rattle.ug_types.specs.Attributes.{segment_of}
-use Rattle.ug_message.specs.Spelling.{route, routes, segment, segments}
-use Rattle.ug_message.proofs.Heads.{length_numbers}
+use Rattle.ug_message.specs.Spelling.{route, routes}
 use Rattle.ug_message.specs.Spellable.{is_number, is_prefix, is_route, is_key}
 
 identifier_size : (add_path : Bool) (id : ℕ) → length (if add_path then to_be_bytes w32 id else []) ≡ (if add_path then 4 else 0)
@@ -70,12 +66,3 @@ is_key_by V6 V4 add_path key is e = other_family V6 V4 add_path key refl is
 
 pub is_key_is : (c : Capabilities) (key : Key) → is_route key.prefix.family true key ≡ true → is_key c key ≡ (same_family key.prefix.family c.family && (c.add_path || (key.id == 0)))
 is_key_is c key e = is_key_by key.prefix.family c.family c.add_path key refl e
-
--- ---- segments of a path
-
-pub length_segments_cons : (s : Segment) (path : List Segment) → length (segments (map segment_of (s ∷ path))) ≡ 2 + 4 * length s.numbers.items + length (segments (map segment_of path))
-length_segments_cons s path = omega (arith, length-append (segment (segment_of s)) (segments (map segment_of path)), length_numbers s.numbers.items)
-
-pub rest_segments : (path : List Segment) (i : ℕ) (s : Segment) → i < length path → s ≡ slice_index_or path i s
-    → length (segments (map segment_of (drop i path))) ≡ 2 + 4 * length s.numbers.items + length (segments (map segment_of (drop (i + 1) path)))
-rest_segments path i s inside is = ap (λ (l : List Segment). length (segments (map segment_of l))) (drop_one path i s inside is) ∙ length_segments_cons s (drop (i + 1) path)

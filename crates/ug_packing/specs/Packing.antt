@@ -1,30 +1,14 @@
 -- Keys packed into messages: those of equal attributes together, as many in one message as fit the session's limit.
-use Rattle.std.specs.Prelude.{ℕ, Bool, true, false, ◌&&◌, List, [], ◌∷◌, ◌++◌, map, Option, Some, None, is_some, is_none, unwrap_or, if◌then◌else◌}
+use Rattle.std.specs.Prelude.{Bool, true, false, ◌&&◌, List, [], ◌∷◌, ◌++◌, map, Option, Some, None, is_some, is_none, if◌then◌else◌}
 use Rattle.std.specs.List.{flat_map}
 use Rattle.std.proofs.Common.{inl, inr}
 use Rattle.ug_types.specs.declared.capabilities.Capabilities.{Capabilities}
 use Rattle.ug_types.specs.declared.key.Key.{Key}
 use Rattle.ug_types.specs.Attributes.{Attributes}
-use Rattle.ug_types.specs.Messages.{Message, Updates}
+use Rattle.ug_types.specs.Messages.{Message}
 use Rattle.ug_table_rules.specs.Tables.{Table}
 use Rattle.ug_table_rules.specs.Decisions.{decided_option, decided_attributes}
-use Rattle.ug_message.specs.Texts.{written}
-
--- an UPDATE that announces these keys, which share these attributes (RFC 4271 section 4.3)
-abbrev pub announcing : Attributes → List Key → Message
-announcing a keys = Updates (record { withdrawn = []; attrs = Some a; announced = keys })
-
--- an UPDATE that withdraws these keys
-abbrev pub withdrawing : List Key → Message
-withdrawing keys = Updates (record { withdrawn = keys; attrs = None; announced = [] })
-
--- The message has a text in the session, which is within the limit.
-unfoldable pub fits : Capabilities → Message → Bool
-fits c m = is_some (written c m)
-
--- the text of a message that has one
-unfoldable pub text_of : Capabilities → Message → List ℕ
-text_of c m = unwrap_or (written c m) []
+use Rattle.ug_message.specs.Fitting.{announcing, withdrawing, fits}
 
 -- Keys in runs, of which each goes on as long as it fits. `run` is the one that goes on.
 abbrev pub runs_from : (List Key → Bool) → List Key → List Key → List (List Key)

@@ -6,7 +6,8 @@ use Rattle.ug_types.specs.declared.capabilities.Capabilities.{Capabilities}
 use Rattle.ug_types.specs.Messages.{Message}
 use Rattle.ug_types.specs.declared.key.Key.{Key}
 use Rattle.ug_types.specs.Attributes.{Attributes}
-use Rattle.ug_packing.specs.Packing.{Shared, with_key, announcements_of, text_of}
+use Rattle.ug_message.specs.Fitting.{text_of}
+use Rattle.ug_packing.specs.Packing.{Shared, with_key, announcements_of}
 
 abbrev pub texts_seen : List (Listed ℕ) → List (List ℕ)
 texts_seen texts = map (λ (t : Listed ℕ). t.items) texts

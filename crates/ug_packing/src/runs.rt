@@ -4,9 +4,11 @@ ghost use Rattle.std.specs.Prelude.{◌≡◌, ◌<◌, ◌≤◌, [], ◌∷◌
 ghost use Rattle.std.specs.Option.{option_map};
 ghost use Rattle.ug_types.specs.declared.key.Key as keys;
 ghost use Rattle.ug_types.specs.Messages.{Begins, Ends};
-ghost use Rattle.ug_packing.specs.Packing.{withdrawing, announcements_of, withdrawals, fits, text_of};
+ghost use Rattle.ug_message.specs.Fitting.{withdrawing, fits, text_of};
+ghost use Rattle.ug_packing.specs.Packing.{announcements_of, withdrawals};
 ghost use Rattle.ug_packing.specs.Seen.{texts_in, announced};
-ghost use Rattle.ug_packing.specs.Frames.{said, texts_of_runs, routes_around, IsFrontOf, IsLoad};
+ghost use Rattle.ug_message.specs.Frames.{said, routes_around};
+ghost use Rattle.ug_packing.specs.Frames.{texts_of_runs, IsFrontOf, IsLoad};
 
 use crate::groups::{Group, Groups};
 use crate::load::Load;
@@ -82,7 +84,7 @@ fn end_of_rib(alloc: Global, c: Capabilities) -> Result<ByteList, NoMemory>
 }
 
 /// Adds the mark of the begin or the end of a refresh.
-#[tactic(auto, unfolding(crate::specs::Packing::text_of))]
+#[tactic(auto, unfolding(ug_message::specs::Fitting::text_of))]
 pub fn put_mark(
     alloc: Global,
     c: Capabilities,

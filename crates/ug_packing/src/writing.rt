@@ -10,8 +10,9 @@ ghost use Rattle.ug_message.specs.Texts.{framed};
 ghost use Rattle.ug_message.specs.Texts as texts;
 ghost use Rattle.ug_types.specs.Attributes.{Attributes};
 ghost use Rattle.ug_update.specs.Updates.{IsMessageSize};
-ghost use Rattle.ug_packing.specs.Packing.{withdrawing, announcing, fits, text_of};
-ghost use Rattle.ug_packing.specs.Frames.{attributes_text, IsFrontOf};
+ghost use Rattle.ug_message.specs.Fitting.{withdrawing, announcing, fits, text_of};
+ghost use Rattle.ug_message.specs.Frames.{attributes_text};
+ghost use Rattle.ug_packing.specs.Frames.{IsFrontOf};
 
 use crate::routes::write_routes;
 use crate::short::{has_addresses, has_short_values};

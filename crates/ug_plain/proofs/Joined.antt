@@ -15,7 +15,8 @@ use Rattle.ug_world.specs.After.{after}
 use Rattle.ug_world.specs.Private.{keys_of, private_table}
 use Rattle.ug_world.specs.Touches.{is_about}
 use Rattle.ug_speaker.specs.Speech.{capabilities_of, is_request}
-use Rattle.ug_packing.specs.Packing.{withdrawing, withdrawals, announcements, text_of, is_gone, is_new}
+use Rattle.ug_message.specs.Fitting.{withdrawing, text_of}
+use Rattle.ug_packing.specs.Packing.{withdrawals, announcements, is_gone, is_new}
 use Rattle.ug_plain_rules.specs.Changes.{keys_at, in_marks, messages_by, changes, whole}
 use Rattle.ug_plain_rules.specs.Seats.{texts_of}
 use Rattle.ug_packing.specs.Seen.{texts_in}

@@ -4,6 +4,8 @@ use Rattle.std.specs.Prelude.{slice_get, slice_set, slice_index_or}
 use Rattle.std.specs.Option.{option_map}
 use Rattle.ug_world.specs.declared.peer_state.PeerState.{PeerState}
 use Rattle.ug_world.specs.World.{World}
+use Rattle.ug_speaker.specs.Places.{change_at}
+use Rattle.ug_speaker.specs.Counts.{sessions_had, sessions_at}
 use Rattle.ug_plain_rules.specs.Seats as rules
 use Rattle.ug_plain.specs.declared.seat.Seat.{Seat}
 use Rattle.ug_plain.specs.Seated.{seat_of, seats_of, HasRoom, HaveRoom}
@@ -26,7 +28,7 @@ room_set [] (u ∷ seats) p t n room inside had has = absurd room
 room_set (s ∷ peers) (u ∷ seats) zero t n room inside had has = (subst (λ (m : ℕ). HasRoom m t) (sym (sessions_is s n had)) has, room.1)
 room_set (s ∷ peers) (u ∷ seats) (suc p) t n room inside had has = (room.0, room_set peers seats p t n room.1 (omega arith) had has)
 
-pub seats_set : (change : rules.Seat → rules.Seat) (seats : List Seat) (p : ℕ) (t new : Seat) → p < length seats → t ≡ slice_index_or seats p t → seat_of new ≡ change (seat_of t) → seats_of (slice_set seats p new) ≡ rules.change_at change p (seats_of seats)
+pub seats_set : (change : rules.Seat → rules.Seat) (seats : List Seat) (p : ℕ) (t new : Seat) → p < length seats → t ≡ slice_index_or seats p t → seat_of new ≡ change (seat_of t) → seats_of (slice_set seats p new) ≡ change_at change p (seats_of seats)
 seats_set change [] p t new inside is changed = absurd (omega arith)
 seats_set change (u ∷ seats) zero t new inside is changed = ap (λ (v : rules.Seat). v ∷ seats_of seats) (changed ∙ ap (λ (v : Seat). change (seat_of v)) is)
 seats_set change (u ∷ seats) (suc p) t new inside is changed = ap (λ (l : List rules.Seat). seat_of u ∷ l) (seats_set change seats p t new (omega arith) is changed)
@@ -41,9 +43,9 @@ none_at [] p le = refl
 none_at (u ∷ seats) zero le = absurd (omega arith)
 none_at (u ∷ seats) (suc p) le = none_at seats p (omega arith)
 
-had_by : (x : Option PeerState) (n : ℕ) → option_map (λ s. s.sessions) x ≡ Some n → rules.sessions_had x ≡ n
+had_by : (x : Option PeerState) (n : ℕ) → option_map (λ s. s.sessions) x ≡ Some n → sessions_had x ≡ n
 had_by None n e = absurd cc
 had_by (Some s) n e = sessions_is s n e
 
-pub had_is : (w : World) (p n : ℕ) → option_map (λ s. s.sessions) (slice_get w.peers p) ≡ Some n → rules.sessions_at p w ≡ n
+pub had_is : (w : World) (p n : ℕ) → option_map (λ s. s.sessions) (slice_get w.peers p) ≡ Some n → sessions_at p w ≡ n
 had_is w p n e = had_by (slice_get w.peers p) n e

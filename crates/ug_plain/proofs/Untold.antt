@@ -20,7 +20,7 @@ use Rattle.ug_world.proofs.Keeping.{untouched}
 use Rattle.ug_speaker.specs.Speech.{capabilities_of, is_request}
 use Rattle.ug_packing.specs.Packing.{withdrawals, announcements, is_gone, is_new, differ}
 use Rattle.ug_plain_rules.specs.Changes.{keys_at, messages_by, changes}
-use Rattle.ug_plain_rules.proofs.Peers.{peer_after, peers-after, next-of, about-alike}
+use Rattle.ug_speaker.proofs.Peers.{peer_after, peers-after, next-of, about-alike}
 use Rattle.ug_plain.specs.Knowing.{concerns, asks_again}
 
 -- ---- tables that are the same

@@ -1,7 +1,8 @@
 //! The seat of a peer.
 
 ghost use Rattle.std.specs.Prelude.{◌≡◌, ◌≤◌, ◌==◌, not, filter, IfOk};
-ghost use Rattle.ug_plain_rules.specs.Seats.{fresh_seat, has, is_lost_at, with_loss};
+ghost use Rattle.ug_speaker.specs.Counts.{has};
+ghost use Rattle.ug_plain_rules.specs.Seats.{fresh_seat, is_lost_at, with_loss};
 ghost use Rattle.ug_plain.specs.Seated.{seat_of, HasRoom};
 
 use std::alloc::Global;

@@ -22,12 +22,12 @@ use Rattle.ug_speaker.specs.Owes.{IsCourse}
 use Rattle.ug_plain_rules.specs.Changes.{changes}
 use Rattle.ug_plain_rules.specs.Seats.{Seat, Plain}
 use Rattle.ug_plain_rules.specs.Plain.{plain_rules, plain_speech}
-use Rattle.ug_plain_rules.proofs.Peers.{peer_after, next-of, about-alike}
+use Rattle.ug_speaker.proofs.Peers.{peer_after, next-of, about-alike}
 use Rattle.ug_plain_rules.proofs.Seated.{live_at, stream, rest_in}
 use Rattle.ug_plain_rules.proofs.Growing.{PlainEntry, deeds-push, replay-push, course-front}
 use Rattle.ug_plain_rules.proofs.Keeping.{IsKept, KeptAsked}
 use Rattle.ug_plain_rules.proofs.Courses.{More, GoesOnWith, Nothing, KeptAt, AreKept, after_event, worlds_end, worlds_next, tell_next, counted_at, before_course, placed_before, kept-from, are-kept}
-use Rattle.ug_plain_rules.proofs.Bools.{true_or, or_true}
+use Rattle.ug_speaker.proofs.Bools.{true_or, or_true}
 
 -- Beyond so many messages each route of the table is announced, and with enhanced refresh a refresh begins.
 pub record IsAgain (p : ℕ) (handed : ℕ) (w : World) (s : PeerState) (ms : List Message) : Type 0 where

@@ -2,23 +2,26 @@
 use Rattle.std.proofs.Common.{◌≡◌, ℕ, ◌+◌, ◌⊎◌, inl, inr, Bool, true, false, List, [], ◌∷◌, ◌++◌, map, Option, None, refl, sym, ◌∙◌, ap, subst, arith}
 use Rattle.std.specs.Prelude.{◌&&◌, ◌||◌, not, is_some, count_by, filter, if◌then◌else◌}
 use Rattle.std.specs.List.{list_any}
-use Rattle.std.proofs.lemmas.List.{append_assoc, append-nil, map-append}
+use Rattle.std.proofs.lemmas.List.{append-nil, map-append}
 use Rattle.std.proofs.lemmas.List.Elements.{filter-append}
 use Rattle.ug_types.specs.declared.key.Key.{Key}
 use Rattle.ug_types.specs.Attributes.{Attributes}
 use Rattle.ug_types.specs.Messages.{Message, Begins, Ends}
 use Rattle.ug_table_rules.specs.Tables.{Table, Reading, no_routes, nothing_read, applied, reading_from, tables_from, tables_after, table_of}
-use Rattle.ug_table_rules.specs.Climbing.{Climbs, NeverBack, values_at}
-use Rattle.ug_table_rules.specs.ClimbingLaws.{NeverBack-from, Follows-from, NeverBack-longer}
+use Rattle.ug_table_rules.specs.Climbing.{Climbs, values_at}
+use Rattle.ug_table_rules.specs.ClimbingLaws.{NeverBack-from, Follows-from}
 use Rattle.ug_message.specs.Streams.{AreOf, IsUpdate, says_nothing}
 use Rattle.ug_outbound.specs.declared.peer.Peer.{Peer}
 use Rattle.ug_world.specs.World.{World}
 use Rattle.ug_world.specs.Private.{private_table}
 use Rattle.ug_world.specs.Worlds.{in_session, past}
 use Rattle.ug_speaker.specs.Right.{IsAmong, EndsInWhole, IsInTurn, is_refreshing, ends_of_rib, AreFor, IsToldRight}
-use Rattle.ug_packing.specs.Packing.{withdrawing}
-use Rattle.ug_plain_rules.proofs.Moving.{IsLast, Moves, last-push, climb-on, climb-over, moves-end}
-use Rattle.ug_plain_rules.proofs.Telling.{mentions, IsTelling, reading-append, values-append, are-append, are-front, are-each, count-append, count-none, count-some, tell-values, tell-table, tell-stale, tell-none, tell-updates, has_ended, in_turn-append, in_turn-front, tell-in_turn, tell-refreshing, tell-ended, refreshing-append, ended-append}
+use Rattle.ug_message.specs.Fitting.{withdrawing}
+use Rattle.ug_speaker.proofs.Pasts.{IsLast, filter_one, past-push}
+use Rattle.ug_speaker.proofs.ToldRight.{right-longer}
+use Rattle.ug_plain_rules.proofs.Moving.{Moves, climb-on, climb-over, moves-end}
+use Rattle.ug_speaker.proofs.Readings.{mentions, reading-append, values-append, are-append, count-append, count-none, has_ended, in_turn-append, refreshing-append, ended-append}
+use Rattle.ug_plain_rules.proofs.Telling.{IsTelling, are-each, count-some, tell-values, tell-table, tell-stale, tell-none, tell-updates, tell-in_turn, tell-refreshing, tell-ended}
 
 -- Updates that lead from one table to the other.
 pub record IsPlainBatch (old new : Table) (messages : List Message) : Type 0 where
@@ -161,85 +164,15 @@ batch_done peer r old new messages is fresh batch =
       | inr found ↦ subst (λ (ms : List Message). IsDone peer r old new ms) (sym found.1.form) (marked_done peer r old new found.0 is found.1.enhanced_refresh found.1.tells found.1.covers)
     ]
 
--- ---- worlds
-
-pub among-more : {T : Type 0} (x : T) (xs ys : List T) → IsAmong x xs → IsAmong x (xs ++ ys)
-among-more x [] ys is = absurd is
-among-more x (y ∷ xs) ys is = elim is [ inl here ↦ inl here | inr there ↦ inr (among-more x xs ys there) ]
+-- ---- what was told stays right
 
 pub among-last : {T : Type 0} (x : T) (xs : List T) → IsAmong x (xs ++ x ∷ [])
 among-last x [] = inl refl
 among-last x (y ∷ xs) = inr (among-last x xs)
 
-past-append : (p n : ℕ) (ws more : List World) → past p n (ws ++ more) ≡ past p n ws ++ map (private_table p) (filter (in_session p n) more)
-past-append p n ws more =
-    ap (λ (found : List World). no_routes ∷ map (private_table p) found) (filter-append (in_session p n) ws more)
-    ∙ ap (λ (tables : List Table). no_routes ∷ tables) (map-append (private_table p) (filter (in_session p n) ws) (filter (in_session p n) more))
-
-filter_one : (test : World → Bool) (w : World) → test w ≡ true → filter test (w ∷ []) ≡ w ∷ []
-filter_one test w is = rw is refl
-
-pub past-push : (p n : ℕ) (ws : List World) (w : World) → in_session p n w ≡ true → past p n (ws ++ w ∷ []) ≡ past p n ws ++ private_table p w ∷ []
-past-push p n ws w is = past-append p n ws (w ∷ []) ∙ ap (λ (found : List World). past p n ws ++ map (private_table p) found) (filter_one (in_session p n) w is)
-
--- the last world of a session has the last table of its past
-pub last-table : (p n : ℕ) (front : List World) (w : World) → in_session p n w ≡ true → (key : Key) → IsLast (private_table p w key) (values_at key (past p n (front ++ w ∷ [])))
-last-table p n front w is key =
-    subst (λ (vs : List (Option Attributes)). IsLast (private_table p w key) vs)
-    (sym (ap (values_at key) (past-push p n front w is) ∙ map-append (λ (table : Table). table key) (past p n front) (private_table p w ∷ [])))
-    (last-push (private_table p w key) (values_at key (past p n front)))
-
--- ---- what was told stays right
-
-pub right-longer : (p n : ℕ) (peer : Peer) (ws more : List World) (ms : List Message) → IsToldRight p n peer ws ms → IsToldRight p n peer (ws ++ more) ms
-right-longer p n peer ws more ms right = record {
-  never_back = subst (λ (tables : List Table). NeverBack tables (tables_after ms)) (sym (past-append p n ws more)) (NeverBack-longer (past p n ws) (map (private_table p) (filter (in_session p n) more)) (tables_after ms) right.never_back);
-  end_of_rib = right.end_of_rib;
-  whole = λ before later m parts says.
-      let found = right.whole before later m parts says in
-      (found.0, subst (λ (found' : List World). IsAmong found.0 found') (sym (filter-append (in_session p n) ws more)) (among-more found.0 (filter (in_session p n) ws) (filter (in_session p n) more) found.1), found.2);
-  in_turn = right.in_turn;
-  no_marks = right.no_marks;
-}
-
-climbs_front : {V : Type 0} (past vs us : List V) → Climbs past (vs ++ us) → Climbs past vs
-climbs_front past [] us h = tt
-climbs_front {V} past (v ∷ vs) us h = (h.0, h.1, climbs_front _ vs us h.2)
-
-for_front : (peer : Peer) (b : Bool) (ms ns : List Message) → AreFor peer b (ms ++ ns) → AreFor peer b ms
-for_front peer true ms ns h = tt
-for_front peer false ms ns h = are-front IsUpdate ms ns h
-
 for_append : (peer : Peer) (b : Bool) (ms ns : List Message) → AreFor peer b ms → AreFor peer b ns → AreFor peer b (ms ++ ns)
 for_append peer true ms ns h k = tt
 for_append peer false ms ns h k = are-append IsUpdate ms ns h k
-
-pub right-front : (p n : ℕ) (peer : Peer) (ws : List World) (ms ns : List Message) → IsToldRight p n peer ws (ms ++ ns) → IsToldRight p n peer ws ms
-right-front p n peer ws ms ns right = record {
-  never_back = NeverBack-from (past p n ws) (tables_after ms) (λ key. climbs_front (values_at key (past p n ws)) (values_at key (tables_after ms)) (values_at key (tables_from (reading_from nothing_read ms) ns))
-      (subst (λ (vs : List (Option Attributes)). Climbs (values_at key (past p n ws)) vs) (values-append key nothing_read ms ns) (Follows-from (past p n ws) (tables_after (ms ++ ns)) right.never_back key)));
-  end_of_rib = let sum = count-append says_nothing ms ns in let few = right.end_of_rib in omega arith;
-  whole = λ before later m parts says. right.whole before (later ++ ns) m (ap (λ (l : List Message). l ++ ns) parts ∙ append_assoc before (m ∷ later) ns) says;
-  in_turn = in_turn-front nothing_read false false ms ns right.in_turn;
-  no_marks = for_front peer peer.enhanced_refresh ms ns right.no_marks;
-}
-
-pub right-nothing : (p n : ℕ) (peer : Peer) (ws : List World) → IsToldRight p n peer ws []
-right-nothing p n peer ws = record {
-  never_back = λ key. tt;
-  end_of_rib = omega arith;
-  whole = λ before later m parts says. absurd (no_parts before later m parts);
-  in_turn = tt;
-  no_marks = for_nothing peer.enhanced_refresh;
-}
-  where
-    no_parts : (before later : List Message) (m : Message) → [] ≡ before ++ m ∷ later → ⊥
-    no_parts [] later m parts = absurd cc
-    no_parts (x ∷ before) later m parts = absurd cc
-
-    for_nothing : (b : Bool) → AreFor peer b []
-    for_nothing true = tt
-    for_nothing false = tt
 
 -- where a message of two lists stands: in the first, or in the second
 abbrev Stands : List Message → List Message → List Message → Message → List Message → Type 0

@@ -28,21 +28,24 @@ use Rattle.ug_speaker.specs.Right.{FitAlone, IsToldRight}
 use Rattle.ug_speaker.specs.Owes.{IsOpening, IsCourse}
 use Rattle.ug_plain_rules.specs.Changes.{changes}
 use Rattle.ug_speaker.proofs.Worlds.{fit-alone}
-use Rattle.ug_plain_rules.specs.Seats.{Seat, Plain, fresh_seat, sessions_at, change_at, with_next, with_loss}
+use Rattle.ug_speaker.specs.Counts.{sessions_at}
+use Rattle.ug_speaker.specs.Places.{change_at}
+use Rattle.ug_plain_rules.specs.Seats.{Seat, Plain, fresh_seat, with_next, with_loss, counts_of}
 use Rattle.ug_plain_rules.specs.Plain.{plain_rules, plain_speech}
-use Rattle.ug_plain_rules.proofs.Lawful.{changed-there}
-use Rattle.ug_plain_rules.proofs.Batches.{right-nothing}
-use Rattle.ug_plain_rules.proofs.Peers.{peer_after, peers-after}
-use Rattle.ug_plain_rules.proofs.Counts.{IsCounted}
+use Rattle.ug_speaker.proofs.Places.{changed-there}
+use Rattle.ug_speaker.proofs.ToldRight.{right-nothing}
+use Rattle.ug_speaker.proofs.Peers.{peer_after, peers-after}
+use Rattle.ug_speaker.proofs.Counts.{IsCounted}
 use Rattle.ug_plain_rules.proofs.Seated.{live_at, stream, rest-none}
-use Rattle.ug_plain_rules.proofs.Growing.{PlainEntry, deeds_then, deeds-push, worlds_then, worlds-push, through-last, legal-next, replay-push, course-front}
+use Rattle.ug_speaker.proofs.Pasts.{through-last}
+use Rattle.ug_plain_rules.proofs.Growing.{PlainEntry, deeds_then, deeds-push, worlds_then, worlds-push, legal-next, replay-push, course-front}
 use Rattle.ug_plain_rules.proofs.Placed.{apart_from, ArePlaced, are-placed}
 use Rattle.ug_plain_rules.proofs.Marks.{seat-of}
 use Rattle.ug_plain_rules.proofs.Keeping.{IsKept, GoesFurther, KeptThen, KeptAsked, kept_same, kept_next, kept_lost, kept-asked}
 
 -- ---- a step
 
-module _ (p : ℕ) (front : List World) (state : Plain) (deeds : List (Deed Message)) (s : PeerState) (t : Seat) (rest : List Message) (kept : IsKept p (front ++ state.world ∷ []) state deeds s t rest) (counted : IsCounted deeds s t) where
+module _ (p : ℕ) (front : List World) (state : Plain) (deeds : List (Deed Message)) (s : PeerState) (t : Seat) (rest : List Message) (kept : IsKept p (front ++ state.world ∷ []) state deeds s t rest) (counted : IsCounted deeds s (counts_of t)) where
   abbrev here : List World
   here = front ++ state.world ∷ []
 
@@ -149,13 +152,13 @@ module _ (p : ℕ) (opening : World) (h : List PlainEntry) (entry : PlainEntry) 
   pub tell_next : FitAlone (worlds_then entry.step state.world (worlds_of plain_rules plain_speech opening h))
   tell_next =
       subst (λ (ws : List World). FitAlone ws) worlds_next
-      (fit-alone opening (events_in plain_rules plain_speech (h ++ entry ∷ [])) course.opens course.events course.in_range)
+      (fit-alone opening (events_in plain_rules plain_speech (h ++ entry ∷ [])) course.opens course.events)
 
-  pub counted_at : (s : PeerState) (t : Seat) (rest : List Message) → IsKept p (worlds_of plain_rules plain_speech opening h) state deeds s t rest → IsCounted deeds s t
+  pub counted_at : (s : PeerState) (t : Seat) (rest : List Message) → IsKept p (worlds_of plain_rules plain_speech opening h) state deeds s t rest → IsCounted deeds s (counts_of t)
   counted_at s t rest kept =
       let found = seat-of opening h placed_before p s kept.peer in
       let same : found.0 ≡ t = (let both : Some found.0 ≡ Some t = sym found.1 ∙ kept.seat in cc) in
-      subst (λ (u : Seat). IsCounted deeds s u) same found.2
+      subst (λ (u : Seat). IsCounted deeds s (counts_of u)) same found.2
 
   kept_next_state : (s : PeerState) (t : Seat) (rest : List Message) → IsKept p (worlds_of plain_rules plain_speech opening h) state deeds s t rest
       → KeptThen p (worlds_of plain_rules plain_speech opening (h ++ entry ∷ [])) state (replay plain_rules opening (h ++ entry ∷ [])) (deeds_to plain_rules plain_speech p opening (h ++ entry ∷ [])) deeds s t rest

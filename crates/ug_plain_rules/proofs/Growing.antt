@@ -15,11 +15,9 @@ use Rattle.ug_world.specs.World.{World}
 use Rattle.ug_world.specs.After.{after}
 use Rattle.ug_speaker.specs.Speech.{Purpose, TakesEvent, MarksTold, Ends, Prepares}
 use Rattle.ug_speaker.specs.Told.{worlds_through, world_after, step_events, events_in, worlds_of, deeds_to}
-use Rattle.ug_speaker.specs.Ranges.{IsEventInRange, AreInRange}
 use Rattle.ug_speaker.specs.Owes.{AreEvents, IsCourse}
 use Rattle.ug_plain_rules.specs.Seats.{Plain}
 use Rattle.ug_plain_rules.specs.Plain.{plain_rules, plain_speech}
-use Rattle.ug_plain_rules.proofs.Packed.{each-front}
 
 abbrev pub PlainEntry : Type 0
 PlainEntry = Entry Purpose (List Mark)
@@ -68,11 +66,6 @@ pub after-push : (w : World) (es : List Happening) (e : Happening) → world_aft
 after-push w [] e = refl
 after-push w (first ∷ es) e = after-push (after w first) es e
 
--- the worlds end with the last
-pub through-last : (w : World) (es : List Happening) → (front : List World) × (worlds_through w es ≡ front ++ world_after w es ∷ [])
-through-last w [] = ([], refl)
-through-last w (e ∷ es) = let rest = through-last (after w e) es in (w ∷ rest.0, ap (λ (ws : List World). w ∷ ws) rest.1)
-
 -- the worlds after a step
 abbrev pub worlds_then : BoardStep Purpose → World → List World → List World
 worlds_then (DoJob (TakesEvent e)) w worlds = worlds ++ after w e ∷ []
@@ -103,7 +96,4 @@ course-front opening h more course = record {
   opens = course.opens;
   legal = legal-front (plain_rules.start opening) h more course.legal;
   events = events_front (events_in plain_rules plain_speech h) (events_in plain_rules plain_speech more) (subst (λ (es : List Happening). AreEvents es) (events-append h more) course.events);
-  in_range =
-      each-front IsEventInRange (events_in plain_rules plain_speech h) (events_in plain_rules plain_speech more)
-      (subst (λ (es : List Happening). AreInRange es) (events-append h more) course.in_range);
 }

@@ -1,9 +1,9 @@
 -- In each course what the peers were told, with what stands in their lists, is right.
-use Rattle.std.proofs.Common.{◌≡◌, ℕ, ◌+◌, ◌<◌, ◌≤◌, ◌⊎◌, inl, inr, Bool, true, false, List, [], ◌∷◌, ◌++◌, take, slice_get, Option, Some, None, refl, sym, ◌∙◌, ap, subst, arith}
-use Rattle.std.specs.Prelude.{◌==◌, ◌&&◌, ◌||◌, not, is_some, unwrap_or, if◌then◌else◌}
+use Rattle.std.proofs.Common.{◌≡◌, ℕ, ◌+◌, ◌<◌, ◌≤◌, ◌⊎◌, inl, inr, Bool, true, false, List, [], ◌∷◌, ◌++◌, take, slice_get, Option, Some, refl, sym, ◌∙◌, ap, subst, arith}
+use Rattle.std.specs.Prelude.{◌==◌, ◌&&◌, ◌||◌, not, if◌then◌else◌}
 use Rattle.std.specs.Option.{option_map}
 use Rattle.std.specs.List.{list_any}
-use Rattle.std.proofs.lemmas.List.{append-nil, take_all}
+use Rattle.std.proofs.lemmas.List.{append-nil}
 use Rattle.ug_types.specs.declared.capabilities.Capabilities.{Capabilities}
 use Rattle.ug_types.specs.declared.key.Key.{Key}
 use Rattle.ug_types.specs.Attributes.{Attributes}
@@ -12,9 +12,7 @@ use Rattle.ug_board.specs.declared.steps.LaneStep.TheVariants.{Next}
 use Rattle.ug_board.specs.declared.steps.LaneSaid.{LaneSaid}
 use Rattle.ug_board.specs.Rules.{says_more, buffer_size}
 use Rattle.ug_history_rules.specs.Deeds.{Each, Deed, Begins as BeginsDeed, Hands, Loses, lane_deeds}
-use Rattle.ug_message.specs.Texts.{written}
 use Rattle.ug_message.specs.Reading.{read_message}
-use Rattle.ug_message.proofs.OneText.{text_within}
 use Rattle.ug_message.proofs.Spelled.{written_spells}
 use Rattle.ug_events.specs.Events.{Happening}
 use Rattle.ug_world.specs.declared.peer_state.PeerState.{PeerState}
@@ -23,37 +21,25 @@ use Rattle.ug_world.specs.Private.{private_table}
 use Rattle.ug_world.specs.After.{after}
 use Rattle.ug_speaker.specs.Speech.{TakesEvent, capabilities_of}
 use Rattle.ug_speaker.specs.Right.{FitsAlone, FitAlone, announces}
-use Rattle.ug_packing.specs.Packing.{fits, text_of}
+use Rattle.ug_message.specs.Fitting.{fits, text_of}
+use Rattle.ug_speaker.proofs.Buffers.{text-short}
+use Rattle.ug_message.proofs.Fitting.{has-text}
 use Rattle.ug_plain_rules.specs.Changes.{changes, whole}
-use Rattle.ug_plain_rules.specs.Seats.{Seat, Plain, sessions_at, sessions_had, has, is_lost_at, change_at, with_session, with_next, with_loss, texts_of, texts_by, texts_after, with_event, with_event_from}
+use Rattle.ug_speaker.specs.Counts.{sessions_at, sessions_had, has}
+use Rattle.ug_speaker.specs.Places.{change_at}
+use Rattle.ug_plain_rules.specs.Seats.{Seat, Plain, is_lost_at, with_session, with_next, with_loss, texts_of, texts_by, texts_after, with_event, with_event_from, counts_of}
 use Rattle.ug_plain_rules.specs.Plain.{front_of, texts_at, has_unlost, next_said, plain_rules, plain_speech, message_read, read_by}
-use Rattle.ug_plain_rules.proofs.Lawful.{changed-here, event_at}
-use Rattle.ug_plain_rules.proofs.Batches.{among-more, among-last}
+use Rattle.ug_speaker.proofs.Places.{changed-here}
+use Rattle.ug_plain_rules.proofs.Lawful.{event_at}
+use Rattle.ug_speaker.proofs.Pasts.{among-more}
+use Rattle.ug_plain_rules.proofs.Batches.{among-last}
 use Rattle.ug_plain_rules.proofs.Sent.{Tellable, IsSent, changes-sent, batch-announces}
-use Rattle.ug_plain_rules.proofs.Peers.{peer_after, peers-after, IsNextOf, next-of, sessions-rise}
-use Rattle.ug_plain_rules.proofs.Counts.{IsCounted, begins-lost, lost-now}
+use Rattle.ug_speaker.proofs.Peers.{peer_after, peers-after, IsNextOf, next-of, sessions-rise}
+use Rattle.ug_speaker.proofs.Counts.{IsCounted, begins-lost, lost-now}
 use Rattle.ug_plain_rules.proofs.Seated.{live_at, stream, IsSeated, begins-alike, seated-begins, hands-alike, seated-hands, hands-live, loses-alike, loses-present, loses-earlier, seated-event, GoesOn}
 use Rattle.ug_plain_rules.proofs.Placed.{DoesNext, does-next}
 
 -- ---- texts
-
-pub has-text : (c : Capabilities) (m : Message) → fits c m ≡ true → written c m ≡ Some (text_of c m)
-unfolding fits text_of
-has-text c m e = by (written c m) refl e
-  where
-    by : (o : Option (List ℕ)) → written c m ≡ o → is_some o ≡ true → o ≡ Some (unwrap_or o [])
-    by (Some text) is e = refl
-    by None is e = absurd cc
-
-limit_small : (b : Bool) → (if b then 65535 else 4096) ≤ buffer_size
-limit_small true = omega arith
-limit_small false = omega arith
-
-pub text-short : (c : Capabilities) (m : Message) → fits c m ≡ true → take buffer_size (text_of c m) ≡ text_of c m
-text-short c m e =
-    let within = text_within c m (text_of c m) (has-text c m e) in
-    let small = limit_small c.extended in
-    take_all buffer_size (text_of c m) (omega arith)
 
 pub text-read : (c : Capabilities) (m : Message) → fits c m ≡ true → message_read (read_message c (take buffer_size (text_of c m))) ≡ m
 text-read c m e = ap (λ (text : List ℕ). message_read (read_message c text)) (text-short c m e) ∙ ap message_read (written_spells c m (text_of c m) (has-text c m e)).read
@@ -84,7 +70,7 @@ pub record KeptThen (p : ℕ) (worlds : List World) (old state : Plain) (deeds b
   pub goes : peer_then.sessions ≡ s.sessions → live_at peer_then seat_then ≡ true
       → GoesFurther p old.world state.world s peer_then (stream s.sessions before s rest) (stream peer_then.sessions deeds peer_then rest_then) (live_at s t)
 
-module _ (p : ℕ) (worlds : List World) (state : Plain) (deeds : List (Deed Message)) (s : PeerState) (t : Seat) (rest : List Message) (kept : IsKept p worlds state deeds s t rest) (counted : IsCounted deeds s t) where
+module _ (p : ℕ) (worlds : List World) (state : Plain) (deeds : List (Deed Message)) (s : PeerState) (t : Seat) (rest : List Message) (kept : IsKept p worlds state deeds s t rest) (counted : IsCounted deeds s (counts_of t)) where
   abbrev Then : List World → Plain → List (Deed Message) → Type 0
   Then worlds' state' deeds' = KeptThen p worlds' state state' deeds' deeds s t rest
 
@@ -139,7 +125,7 @@ module _ (p : ℕ) (worlds : List World) (state : Plain) (deeds : List (Deed Mes
 
   kept_begins : t.begun < s.sessions → with_next (sessions_at p state.world) t ≡ with_session t → Then worlds (with_those state.closed next_seats) (deeds ++ BeginsDeed (t.begun + 1) ∷ [])
   kept_begins less seat =
-      let alike : live_at s (with_session t) ≡ live_at s t = ap (λ (b : Bool). s.up && not b) (begins-lost deeds s t counted s.sessions) in
+      let alike : live_at s (with_session t) ≡ live_at s t = ap (λ (b : Bool). s.up && not b) (begins-lost deeds s (counts_of t) counted s.sessions) in
       kept_lane (deeds ++ BeginsDeed (t.begun + 1) ∷ []) (with_session t) rest state.closed next_seats (changed_seat (with_next (sessions_at p state.world)) ∙ ap Some seat)
       (seated-begins p worlds state.world deeds s t rest counted kept.seated alike) (λ live. (sym alike ∙ live, begins-alike p worlds state.world deeds s t rest counted kept.seated s.sessions))
 
@@ -197,14 +183,14 @@ module _ (p : ℕ) (worlds : List World) (state : Plain) (deeds : List (Deed Mes
   pub kept_lost : (n : ℕ) (b : Bool) → (n == s.sessions) ≡ b → plain_rules.may_lose p n state ≡ true → Then worlds (with_those state.closed (lost_seats n)) (deeds ++ Loses n ∷ [])
   kept_lost n true e may =
       let there : has t.unlost n ≡ true = sym (ap (has_unlost n) kept.seat) ∙ may in
-      let lost : is_lost_at (with_loss (sessions_at p state.world) n t) s.sessions ≡ true = sym (lost-now deeds s t counted (sessions_at p state.world) n there s.sessions) ∙ or_true (is_lost_at t s.sessions) (n == s.sessions) e in
+      let lost : is_lost_at (with_loss (sessions_at p state.world) n t) s.sessions ≡ true = sym (lost-now deeds s (counts_of t) counted n there s.sessions) ∙ or_true (is_lost_at t s.sessions) (n == s.sessions) e in
       let dead : live_at s (with_loss (sessions_at p state.world) n t) ≡ false = not_live s.up (is_lost_at (with_loss (sessions_at p state.world) n t) s.sessions) lost in
       let none : (with_loss (sessions_at p state.world) n t).texts ≡ [] = ap (λ k. if n == k then [] else t.texts) had ∙ ap (λ (b : Bool). if b then [] else t.texts) e in
       kept_lane (deeds ++ Loses n ∷ []) (with_loss (sessions_at p state.world) n t) [] state.closed (lost_seats n) (changed_seat (with_loss (sessions_at p state.world) n))
       (loses-present p worlds state.world deeds s t rest n kept.seated (with_loss (sessions_at p state.world) n t) none dead) (λ live. absurd cc)
   kept_lost n false e may =
       let there : has t.unlost n ≡ true = sym (ap (has_unlost n) kept.seat) ∙ may in
-      let lost : is_lost_at (with_loss (sessions_at p state.world) n t) s.sessions ≡ is_lost_at t s.sessions = sym (lost-now deeds s t counted (sessions_at p state.world) n there s.sessions) ∙ or_false (is_lost_at t s.sessions) (n == s.sessions) e in
+      let lost : is_lost_at (with_loss (sessions_at p state.world) n t) s.sessions ≡ is_lost_at t s.sessions = sym (lost-now deeds s (counts_of t) counted n there s.sessions) ∙ or_false (is_lost_at t s.sessions) (n == s.sessions) e in
       let alike : live_at s (with_loss (sessions_at p state.world) n t) ≡ live_at s t = ap (λ (b : Bool). s.up && not b) lost in
       let same : (with_loss (sessions_at p state.world) n t).texts ≡ t.texts = ap (λ k. if n == k then [] else t.texts) had ∙ ap (λ (b : Bool). if b then [] else t.texts) e in
       kept_lane (deeds ++ Loses n ∷ []) (with_loss (sessions_at p state.world) n t) rest state.closed (lost_seats n) (changed_seat (with_loss (sessions_at p state.world) n))
@@ -212,7 +198,7 @@ module _ (p : ℕ) (worlds : List World) (state : Plain) (deeds : List (Deed Mes
 
 -- ---- an event
 
-module _ (p : ℕ) (front : List World) (state : Plain) (deeds : List (Deed Message)) (s : PeerState) (t : Seat) (rest : List Message) (e : Happening) (kept : IsKept p (front ++ state.world ∷ []) state deeds s t rest) (counted : IsCounted deeds s t)
+module _ (p : ℕ) (front : List World) (state : Plain) (deeds : List (Deed Message)) (s : PeerState) (t : Seat) (rest : List Message) (e : Happening) (kept : IsKept p (front ++ state.world ∷ []) state deeds s t rest) (counted : IsCounted deeds s (counts_of t))
     (tell : FitAlone ((front ++ state.world ∷ []) ++ after state.world e ∷ [])) where
   abbrev later_world : World
   later_world = after state.world e
@@ -290,7 +276,7 @@ pub record KeptAsked (p : ℕ) (worlds : List World) (old state : Plain) (deeds 
       → stream then_kept.peer_then.sessions deeds then_kept.peer_then then_kept.rest_then ≡ stream s.sessions before s rest ++ ms
 
 pub kept-asked :
-    (p : ℕ) (front : List World) (state : Plain) (deeds : List (Deed Message)) (s : PeerState) (t : Seat) (rest : List Message) (e : Happening) → IsKept p (front ++ state.world ∷ []) state deeds s t rest → IsCounted deeds s t
+    (p : ℕ) (front : List World) (state : Plain) (deeds : List (Deed Message)) (s : PeerState) (t : Seat) (rest : List Message) (e : Happening) → IsKept p (front ++ state.world ∷ []) state deeds s t rest → IsCounted deeds s (counts_of t)
     → FitAlone ((front ++ state.world ∷ []) ++ after state.world e ∷ [])
     → KeptAsked p ((front ++ state.world ∷ []) ++ after state.world e ∷ []) state (plain_rules.after (TakesEvent e) state) deeds deeds s t rest e (changes e p (peer_after e s) state.world (after state.world e))
 unfolding kept-event found

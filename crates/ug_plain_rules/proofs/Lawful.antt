@@ -14,30 +14,11 @@ use Rattle.ug_world.specs.declared.peer_state.PeerState.{PeerState}
 use Rattle.ug_world.specs.World.{World}
 use Rattle.ug_world.specs.After.{after}
 use Rattle.ug_speaker.specs.Speech.{Purpose, TakesEvent, MarksTold, Ends, Prepares}
-use Rattle.ug_plain_rules.specs.Seats.{Seat, Plain, fresh_seat, fresh, sessions_at, sessions_had, has, change_at, with_session, with_handed, with_next, with_loss, with_event, with_event_from}
+use Rattle.ug_speaker.specs.Counts.{sessions_at, sessions_had, has}
+use Rattle.ug_speaker.specs.Places.{change_at}
+use Rattle.ug_speaker.proofs.Places.{changed-here, changed-keeps, changed-there}
+use Rattle.ug_plain_rules.specs.Seats.{Seat, Plain, fresh_seat, fresh, with_session, with_handed, with_next, with_loss, with_event, with_event_from}
 use Rattle.ug_plain_rules.specs.Plain.{after_job, at_rest, front_of, next_said, lane_reply, after_lane, has_unlost, texts_at, begun_at, seat_due, seats_due, plain_rules}
-
--- ---- a change at a place
-
-pub changed-here : {T : Type 0} (change : T → T) (p : ℕ) (xs : List T) → slice_get (change_at change p xs) p ≡ option_map change (slice_get xs p)
-changed-here change p [] = refl
-changed-here change zero (x ∷ xs) = refl
-changed-here change (suc p) (x ∷ xs) = changed-here change p xs
-
-pub changed-there : {T : Type 0} (change : T → T) (p q : ℕ) (xs : List T) → (q ≡ p → ⊥) → slice_get (change_at change p xs) q ≡ slice_get xs q
-changed-there change p q [] apart = refl
-changed-there change zero zero (x ∷ xs) apart = absurd (apart refl)
-changed-there change zero (suc q) (x ∷ xs) apart = refl
-changed-there change (suc p) zero (x ∷ xs) apart = refl
-changed-there change (suc p) (suc q) (x ∷ xs) apart = changed-there change p q xs (λ e. apart (ap suc e))
-
--- what a seat keeps through a change that keeps it, every seat keeps
-pub changed-keeps : {T X : Type 0} (shown : Option T → X) (change : T → T) (p q : ℕ) (xs : List T) → ((x : T) → shown (Some (change x)) ≡ shown (Some x)) → shown (slice_get (change_at change p xs) q) ≡ shown (slice_get xs q)
-changed-keeps shown change p q [] keeps = refl
-changed-keeps shown change zero zero (x ∷ xs) keeps = keeps x
-changed-keeps shown change zero (suc q) (x ∷ xs) keeps = refl
-changed-keeps shown change (suc p) zero (x ∷ xs) keeps = refl
-changed-keeps shown change (suc p) (suc q) (x ∷ xs) keeps = changed-keeps shown change p q xs keeps
 
 -- a seat that a change leaves as it was
 pub changed-same : {T : Type 0} (change : T → T) (p : ℕ) (xs : List T) (x : T) → slice_get xs p ≡ Some x → change x ≡ x → change_at change p xs ≡ xs

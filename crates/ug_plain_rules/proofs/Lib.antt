@@ -1,15 +1,11 @@
-pub mod Bools
 pub mod Lawful
 pub mod Steps
 pub mod Moving
 pub mod Telling
 pub mod Batches
-pub mod SameKeys
 pub mod Packed
 pub mod Touched
 pub mod Sent
-pub mod Counts
-pub mod Peers
 pub mod Seated
 pub mod Growing
 pub mod Placed

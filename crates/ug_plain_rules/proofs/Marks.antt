@@ -15,16 +15,17 @@ use Rattle.ug_world.specs.Touches.{is_about}
 use Rattle.ug_speaker.specs.Speech.{Purpose, TakesEvent, MarksTold, Ends, Prepares, is_request}
 use Rattle.ug_speaker.specs.Told.{handed_in, deeds_to, is_lost, mark_of, marks_from, begun}
 use Rattle.ug_speaker.specs.Owes.{TellsMarks}
-use Rattle.ug_plain_rules.specs.Seats.{Seat, Plain, has, is_lost_at, sessions_had}
+use Rattle.ug_speaker.specs.Counts.{has, sessions_had}
+use Rattle.ug_plain_rules.specs.Seats.{Seat, Plain, is_lost_at, counts_of}
 use Rattle.ug_plain_rules.specs.Plain.{handed_now, is_lost_in, is_live as is_live_here, mark_at, marks_at, has_unlost, begun_at, is_quiet, is_drained, plain_rules, plain_speech}
 use Rattle.ug_plain_rules.proofs.Steps.{quiet-at}
-use Rattle.ug_plain_rules.proofs.Counts.{IsCounted, nothing-in}
+use Rattle.ug_speaker.proofs.Counts.{IsCounted, nothing-in}
 use Rattle.ug_plain_rules.proofs.Growing.{PlainEntry, legal-push, replay-push}
 use Rattle.ug_plain_rules.proofs.Placed.{IsPlaced, ArePlaced, are-placed}
-use Rattle.ug_plain_rules.proofs.Bools.{both_so, not_so}
+use Rattle.ug_speaker.proofs.Bools.{both_so, not_so}
 
 -- what a seat says of how much was told is what was told
-told_length : (deeds : List (Deed Message)) (s : PeerState) (t : Seat) → IsCounted deeds s t → length (handed_in s.sessions (sessions_of deeds)) ≡ handed_now s.sessions (Some t)
+told_length : (deeds : List (Deed Message)) (s : PeerState) (t : Seat) → IsCounted deeds s (counts_of t) → length (handed_in s.sessions (sessions_of deeds)) ≡ handed_now s.sessions (Some t)
 told_length deeds s t counted = by (t.begun == s.sessions) refl
   where
     by : (b : Bool) → (t.begun == s.sessions) ≡ b → length (handed_in s.sessions (sessions_of deeds)) ≡ (if b then t.handed else 0)
@@ -46,7 +47,7 @@ module _ (opening : World) (h : List PlainEntry) (placed : ArePlaced opening h) 
       → when (test && (s.up && not (is_lost plain_rules plain_speech p s.sessions opening h))) (mark_of plain_rules plain_speech p s opening h ∷ [])
       ≡ when (test && (s.up && not (is_lost_in s.sessions u))) (record { version = here.world.version; peer = p; session = s.sessions; handed = handed_now s.sessions u } ∷ [])
   one_mark test p s (Some x) (Some t) is counted =
-      let counts : IsCounted (deeds_at p) s t = let same : x ≡ s = cc in subst (λ (y : PeerState). IsCounted (deeds_at p) y t) same counted in
+      let counts : IsCounted (deeds_at p) s (counts_of t) = let same : x ≡ s = cc in subst (λ (y : PeerState). IsCounted (deeds_at p) y (counts_of t)) same counted in
       let lost = counts.lost s.sessions in
       let handed = told_length (deeds_at p) s t counts in
       λ i. when (test && (s.up && not (lost i))) (record { version = here.world.version; peer = p; session = s.sessions; handed = handed i } ∷ [])
@@ -88,12 +89,12 @@ module _ (opening : World) (h : List PlainEntry) (placed : ArePlaced opening h) 
       record { begun = (let all : s.sessions ≤ t.begun = grind (arith, nat_tests) in all); empty = parts.1 }
 
   -- a peer has a seat
-  seat_of : (p : ℕ) (s : PeerState) (o : Option PeerState) (u : Option Seat) → o ≡ Some s → slice_get here.seats p ≡ u → IsPlaced (deeds_at p) o u → (t : Seat) × (slice_get here.seats p ≡ Some t) × IsCounted (deeds_at p) s t
-  seat_of p s (Some x) (Some t) is at counted = (t, at, let same : x ≡ s = cc in subst (λ (y : PeerState). IsCounted (deeds_at p) y t) same counted)
+  seat_of : (p : ℕ) (s : PeerState) (o : Option PeerState) (u : Option Seat) → o ≡ Some s → slice_get here.seats p ≡ u → IsPlaced (deeds_at p) o u → (t : Seat) × (slice_get here.seats p ≡ Some t) × IsCounted (deeds_at p) s (counts_of t)
+  seat_of p s (Some x) (Some t) is at counted = (t, at, let same : x ≡ s = cc in subst (λ (y : PeerState). IsCounted (deeds_at p) y (counts_of t)) same counted)
   seat_of p s (Some x) None is at counted = absurd counted
   seat_of p s None u is at counted = absurd cc
 
-  pub seat-of : (p : ℕ) (s : PeerState) → slice_get here.world.peers p ≡ Some s → (t : Seat) × (slice_get here.seats p ≡ Some t) × IsCounted (deeds_at p) s t
+  pub seat-of : (p : ℕ) (s : PeerState) → slice_get here.world.peers p ≡ Some s → (t : Seat) × (slice_get here.seats p ≡ Some t) × IsCounted (deeds_at p) s (counts_of t)
   seat-of p s is = seat_of p s (slice_get here.world.peers p) (slice_get here.seats p) is refl (placed.placed p)
 
   pub begun-all : (p : ℕ) (s : PeerState) → slice_get here.world.peers p ≡ Some s → is_drained here ≡ true → begun_at (slice_get here.seats p) ≡ s.sessions

@@ -3,22 +3,12 @@ use Rattle.std.proofs.Common.{◌≡◌, ℕ, zero, suc, ◌⊎◌, inl, inr, Li
 use Rattle.std.proofs.lemmas.List.{append_assoc, append-nil}
 use Rattle.ug_table_rules.specs.Climbing.{Climbs}
 use Rattle.ug_table_rules.specs.ClimbingLaws.{Climbs-longer, Climbs-push}
-
--- The past ends with this value.
-abbrev pub IsLast : {V : Type 0} → V → List V → Type 0
-IsLast a [] = ⊥
-IsLast a (x ∷ []) = x ≡ a
-IsLast a (x ∷ y ∷ xs) = IsLast a (y ∷ xs)
+use Rattle.ug_speaker.proofs.Pasts.{IsLast, last-push}
 
 -- the one value for a while, and then the other
 abbrev pub Moves : {V : Type 0} → V → V → List V → Type 0
 Moves a b [] = Unit {0}
 Moves a b (v ∷ vs) = ((v ≡ a) × Moves a b vs) ⊎ ((v ≡ b) × Moves b b vs)
-
-pub last-push : {V : Type 0} (a : V) (xs : List V) → IsLast a (xs ++ a ∷ [])
-last-push a [] = refl
-last-push a (x ∷ []) = refl
-last-push a (x ∷ y ∷ xs) = last-push a (y ∷ xs)
 
 last_place : {V : Type 0} (a : V) (xs : List V) → IsLast a xs → (n : ℕ) × (slice_get xs n ≡ Some a)
 last_place a [] last = absurd last

@@ -11,21 +11,16 @@ use Rattle.ug_types.specs.Messages.{Message}
 use Rattle.ug_table_rules.specs.Tables.{Table, among}
 use Rattle.ug_table_rules.specs.Decisions.{decided_attributes}
 use Rattle.ug_history_rules.specs.Deeds.{Each}
-use Rattle.ug_plain_rules.proofs.SameKeys.{same-is}
+use Rattle.ug_speaker.proofs.SameKeys.{same-is}
 use Rattle.ug_message.specs.Streams.{AreOf, says_nothing}
-use Rattle.ug_packing.specs.Packing.{announcing, withdrawing, fits, runs_from, runs, withdrawals, Shared, are_same, with_key, with_route, by_attributes, announcements_of, announcements}
-use Rattle.ug_plain_rules.proofs.Telling.{mentions, IsTelling}
-use Rattle.ug_plain_rules.proofs.Bools.{true_or, or_true, or_so}
+use Rattle.ug_message.specs.Fitting.{announcing, withdrawing, fits}
+use Rattle.ug_packing.specs.Packing.{runs_from, runs, withdrawals, Shared, are_same, with_key, with_route, by_attributes, announcements_of, announcements}
+use Rattle.ug_speaker.proofs.Readings.{mentions}
+use Rattle.ug_speaker.proofs.Each.{each-append}
+use Rattle.ug_plain_rules.proofs.Telling.{IsTelling}
+use Rattle.ug_speaker.proofs.Bools.{true_or, or_true, or_so}
 
 -- ---- lists
-
-pub each-append : {A : Type 0} (P : A → Type 0) (xs ys : List A) → Each P xs → Each P ys → Each P (xs ++ ys)
-each-append P [] ys h k = k
-each-append P (x ∷ xs) ys h k = (h.0, each-append P xs ys h.1 k)
-
-pub each-front : {A : Type 0} (P : A → Type 0) (xs ys : List A) → Each P (xs ++ ys) → Each P xs
-each-front P [] ys h = tt
-each-front P (x ∷ xs) ys h = (h.0, each-front P xs ys h.1)
 
 pub each-map : {A B : Type 0} (P : B → Type 0) (f : A → B) (xs : List A) → Each (λ x. P (f x)) xs → Each P (map f xs)
 each-map P f [] h = tt

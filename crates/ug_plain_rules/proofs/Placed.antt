@@ -24,11 +24,14 @@ use Rattle.ug_world.specs.World.{World}
 use Rattle.ug_world.specs.After.{after}
 use Rattle.ug_speaker.specs.Speech.{Purpose, TakesEvent, MarksTold, Ends, Prepares}
 use Rattle.ug_speaker.specs.Told.{world_after, step_events, events_in, deeds_to}
-use Rattle.ug_plain_rules.specs.Seats.{Seat, Plain, fresh_seat, fresh, sessions_at, sessions_had, has, is_lost_at, change_at, with_session, with_next, with_loss, texts_after, with_event, with_event_from}
+use Rattle.ug_speaker.specs.Counts.{sessions_at, sessions_had, has}
+use Rattle.ug_speaker.specs.Places.{change_at}
+use Rattle.ug_plain_rules.specs.Seats.{Seat, Plain, fresh_seat, fresh, is_lost_at, with_session, with_next, with_loss, with_event, with_event_from, counts_of}
 use Rattle.ug_plain_rules.specs.Plain.{at_rest, next_said, plain_rules, plain_speech}
-use Rattle.ug_plain_rules.proofs.Lawful.{rest_says, changed-here, changed-there, event_at}
-use Rattle.ug_plain_rules.proofs.Peers.{peer_after, peers-after, next-of, sessions-rise}
-use Rattle.ug_plain_rules.proofs.Counts.{IsCounted, counted-begins, counted-hands, counted-loses, counted-event}
+use Rattle.ug_speaker.proofs.Places.{changed-here, changed-there}
+use Rattle.ug_plain_rules.proofs.Lawful.{rest_says, event_at}
+use Rattle.ug_speaker.proofs.Peers.{peer_after, peers-after, next-of, sessions-rise}
+use Rattle.ug_speaker.proofs.Counts.{IsCounted, counted-begins, counted-hands, counted-loses, counted-event}
 use Rattle.ug_plain_rules.proofs.Growing.{PlainEntry, deeds_then, deeds-push, events-append, after-push, legal-front, legal-next, replay-push}
 
 -- ---- what a lane's question may do
@@ -77,7 +80,7 @@ does-next n closed t more = does_by n closed t (nat_lt t.begun n) (nat_lt 0 t.be
 -- A peer and its seat stand at the same place, and the seat counts its deeds.
 abbrev pub IsPlaced : List (Deed Message) → Option PeerState → Option Seat → Type 0
 IsPlaced deeds None None = Unit {0}
-IsPlaced deeds (Some s) (Some t) = IsCounted deeds s t
+IsPlaced deeds (Some s) (Some t) = IsCounted deeds s (counts_of t)
 IsPlaced deeds None (Some t) = ⊥
 IsPlaced deeds (Some s) None = ⊥
 
@@ -89,7 +92,7 @@ fresh_lost (suc n) = by (nat_le 1 (suc n))
     by true = let none : nat_le (suc n) 0 ≡ false = grind (arith, nat_tests) in rw none refl
     by false = refl
 
-fresh_counted : (s : PeerState) → IsCounted [] s fresh_seat
+fresh_counted : (s : PeerState) → IsCounted [] s (counts_of fresh_seat)
 fresh_counted s = record { begun = omega arith; numbers = refl; handed = refl; lost = fresh_lost; within = λ n is. absurd cc }
 
 fresh_placed : (o : Option PeerState) → IsPlaced [] o (option_map (λ (s : PeerState). fresh_seat) o)
@@ -105,7 +108,7 @@ same_deeds deeds o u h = subst (λ (ds : List (Deed Message)). IsPlaced ds o u) 
 event_placed : (e : Happening) (p : ℕ) (old new : World) (deeds : List (Deed Message)) (o : Option PeerState) (u : Option Seat) → IsPlaced deeds o u → IsPlaced deeds (option_map (peer_after e) o) (option_map (with_event e p old new) u)
 event_placed e p old new deeds None None h = tt
 event_placed e p old new deeds (Some s) (Some t) h =
-    counted-event deeds s t h (peer_after e s) (texts_after e p old new t (slice_get old.peers p) (slice_get new.peers p)) (sessions-rise s (peer_after e s) (next-of e s))
+    counted-event deeds s (counts_of t) h (peer_after e s) (sessions-rise s (peer_after e s) (next-of e s))
 event_placed e p old new deeds None (Some t) h = absurd h
 event_placed e p old new deeds (Some s) None h = absurd h
 
@@ -118,10 +121,10 @@ next_placed p s deeds said (Some peer) (Some t) is us tells more h =
     elim (does-next (sessions_at p s.world) s.closed t more) [
       | inl begins ↦
           let less : t.begun < peer.sessions = rw had at begins.less in
-          rw (tells ∙ begins.said_is, begins.seat) (counted-begins deeds peer t h less)
+          rw (tells ∙ begins.said_is, begins.seat) (counted-begins deeds peer (counts_of t) h less)
       | inr found ↦
           let hands = found.2 in
-          rw (tells ∙ hands.said_is, hands.seat) (counted-hands deeds peer t h (plain_speech.message p s) found.1 hands.some)
+          rw (tells ∙ hands.said_is, hands.seat) (counted-hands deeds peer (counts_of t) h (plain_speech.message p s) hands.some)
     ]
 next_placed p s deeds said None (Some t) is us tells more h = absurd h
 next_placed p s deeds said (Some peer) None is us tells more h = absurd h
@@ -131,7 +134,7 @@ lost_placed : (p n : ℕ) (s : Plain) (deeds : List (Deed Message)) (o : Option 
 lost_placed p n s deeds None None us may h = tt
 lost_placed p n s deeds (Some peer) (Some t) us may h =
     let there : has t.unlost n ≡ true = rw us at may in
-    counted-loses deeds peer t h (sessions_at p s.world) n there
+    counted-loses deeds peer (counts_of t) h n there
 lost_placed p n s deeds None (Some t) us may h = absurd h
 lost_placed p n s deeds (Some peer) None us may h = absurd h
 

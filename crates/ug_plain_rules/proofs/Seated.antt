@@ -18,15 +18,17 @@ use Rattle.ug_world.specs.Worlds.{is_up_in, in_session}
 use Rattle.ug_speaker.specs.Speech.{capabilities_of}
 use Rattle.ug_speaker.specs.Told.{handed_in}
 use Rattle.ug_speaker.specs.Right.{AreFor, IsToldRight}
-use Rattle.ug_packing.specs.Packing.{withdrawing, fits, text_of}
+use Rattle.ug_message.specs.Fitting.{withdrawing, fits, text_of}
 use Rattle.ug_plain_rules.specs.Changes.{changes, whole}
-use Rattle.ug_plain_rules.specs.Seats.{Seat, is_lost_at, with_session, texts_of, texts_by}
-use Rattle.ug_plain_rules.proofs.Packed.{each-append}
-use Rattle.ug_plain_rules.proofs.Batches.{IsLevel, right-longer, right-front, right-on, level-on, right-begins, level-begins, last-table}
+use Rattle.ug_plain_rules.specs.Seats.{Seat, is_lost_at, with_session, texts_of, texts_by, counts_of}
+use Rattle.ug_speaker.proofs.Each.{each-append}
+use Rattle.ug_speaker.proofs.ToldRight.{right-longer, right-front}
+use Rattle.ug_speaker.proofs.Pasts.{last-table}
+use Rattle.ug_plain_rules.proofs.Batches.{IsLevel, right-on, level-on, right-begins, level-begins}
 use Rattle.ug_plain_rules.proofs.Sent.{Tellable, IsSent, changes-sent, all_routes, whole-form, whole-tells, whole-fits}
-use Rattle.ug_plain_rules.proofs.Peers.{IsNextOf}
-use Rattle.ug_plain_rules.proofs.Counts.{IsCounted, nothing-in, begins-nothing, handed-last, handed-other, not-lost}
-use Rattle.ug_plain_rules.proofs.Bools.{both_so, both, not_so}
+use Rattle.ug_speaker.proofs.Peers.{IsNextOf}
+use Rattle.ug_speaker.proofs.Counts.{IsCounted, nothing-in, begins-nothing, handed-last, handed-other, not-lost}
+use Rattle.ug_speaker.proofs.Bools.{both_so, both, not_so}
 
 -- what is still to be handed out in a session: the list, where it is the present one
 abbrev pub rest_in : ℕ → ℕ → List Message → List Message
@@ -85,7 +87,7 @@ no_live false lost e h = absurd cc
 
 -- ---- a session begins, and a message is handed out
 
-module _ (p : ℕ) (worlds : List World) (w : World) (deeds : List (Deed Message)) (s : PeerState) (t : Seat) (rest : List Message) (counted : IsCounted deeds s t) (seated : IsSeated p worlds w deeds s t rest) where
+module _ (p : ℕ) (worlds : List World) (w : World) (deeds : List (Deed Message)) (s : PeerState) (t : Seat) (rest : List Message) (counted : IsCounted deeds s (counts_of t)) (seated : IsSeated p worlds w deeds s t rest) where
   pub begins-alike : (n : ℕ) → stream n (deeds ++ BeginsDeed (t.begun + 1) ∷ []) s rest ≡ stream n deeds s rest
   begins-alike n =
       ap (λ (found : List (Session Message)). handed_in n found ++ rest_in n s.sessions rest) (sessions_of-append deeds (BeginsDeed (t.begun + 1) ∷ []))
@@ -101,7 +103,7 @@ module _ (p : ℕ) (worlds : List World) (w : World) (deeds : List (Deed Message
     quiet = λ live. seated.quiet (sym same ∙ live);
   }
 
-module _ (p : ℕ) (worlds : List World) (w : World) (deeds : List (Deed Message)) (s : PeerState) (t : Seat) (m : Message) (rest : List Message) (counted : IsCounted deeds s t) (seated : IsSeated p worlds w deeds s t (m ∷ rest))
+module _ (p : ℕ) (worlds : List World) (w : World) (deeds : List (Deed Message)) (s : PeerState) (t : Seat) (m : Message) (rest : List Message) (counted : IsCounted deeds s (counts_of t)) (seated : IsSeated p worlds w deeds s t (m ∷ rest))
     (all : t.begun ≡ s.sessions) (some : 0 < t.begun) where
   pub hands-alike : (n : ℕ) → stream n (deeds ++ Hands t.begun m ∷ []) s rest ≡ stream n deeds s (m ∷ rest)
   hands-alike n =
@@ -179,7 +181,7 @@ module _ (p : ℕ) (worlds : List World) (w : World) (deeds : List (Deed Message
 -- ---- an event
 
 module _ (p : ℕ) (front : List World) (w : World) (deeds : List (Deed Message)) (s s' : PeerState) (t : Seat) (rest : List Message) (e : Happening)
-    (counted : IsCounted deeds s t) (seated : IsSeated p (front ++ w ∷ []) w deeds s t rest) (is : slice_get w.peers p ≡ Some s) (later : slice_get (after w e).peers p ≡ Some s') (next : IsNextOf s s')
+    (counted : IsCounted deeds s (counts_of t)) (seated : IsSeated p (front ++ w ∷ []) w deeds s t rest) (is : slice_get w.peers p ≡ Some s) (later : slice_get (after w e).peers p ≡ Some s') (next : IsNextOf s s')
     (tell_old : Tellable (capabilities_of s'.peer) (private_table p w)) (tell_new : Tellable (capabilities_of s'.peer) (private_table p (after w e))) where
   abbrev then_worlds : List World
   then_worlds = (front ++ w ∷ []) ++ after w e ∷ []
@@ -242,7 +244,7 @@ module _ (p : ℕ) (front : List World) (w : World) (deeds : List (Deed Message)
           (level-begins p s'.sessions s'.peer (front ++ w ∷ []) (after w e) routes (whole-tells (after w e) p s' later tell_new) (in_session_now up));
       quiet = λ dead.
           let few = counted.begun in
-          let fresh = not-lost t s'.sessions (omega arith) in
+          let fresh = not-lost (counts_of t) s'.sessions (omega arith) in
           let live : live_at s' t ≡ true = both s'.up (not (is_lost_at t s'.sessions)) up (ap not fresh) in absurd cc;
     }
 

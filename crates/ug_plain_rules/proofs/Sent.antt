@@ -1,20 +1,18 @@
 -- What a peer is sent leads its table to the next one, or tells it whole, and each message of it has a text.
 use Rattle.std.proofs.Common.{◌≡◌, ◌≢◌, ℕ, ◌⊎◌, inl, inr, Bool, true, false, List, [], ◌∷◌, ◌++◌, slice_get, Option, Some, None, refl, sym, ◌∙◌, ap, subst}
-use Rattle.std.specs.Prelude.{◌&&◌, is_some, is_none, filter, if◌then◌else◌}
+use Rattle.std.specs.Prelude.{◌&&◌, ◌||◌, is_some, is_none, filter, if◌then◌else◌}
 use Rattle.std.specs.List.{list_any}
 use Rattle.std.proofs.lemmas.List.Folds.{list_any-append}
+use Rattle.std.proofs.lemmas.Map.Views.{any-filter_same}
+use Rattle.ug_types.specs.Keys.{same_key}
 use Rattle.ug_types.specs.Attributes.{Attributes}
 use Rattle.ug_types.specs.declared.capabilities.Capabilities.{Capabilities}
-use Rattle.ug_types.specs.declared.family.Family.{Family}
-use Rattle.ug_types.specs.declared.family.Family.TheVariants.{V4, V6}
 use Rattle.ug_types.specs.declared.key.Key.{Key}
 use Rattle.ug_types.specs.Messages.{Message, Updates, Begins, Ends, Ignored}
 use Rattle.ug_table_rules.specs.Tables.{Table, among}
 use Rattle.ug_table_rules.specs.Decisions.{decided_option, decided_attributes}
 use Rattle.ug_history_rules.specs.Deeds.{Each}
 use Rattle.ug_message.specs.Streams.{AreOf}
-use Rattle.ug_message.specs.Texts.{written, framed, withdrawal}
-use Rattle.ug_message.specs.Spelling.{mp_unreach_nlri, attribute}
 use Rattle.ug_events.specs.Events.{Happening}
 use Rattle.ug_world.specs.declared.peer_state.PeerState.{PeerState}
 use Rattle.ug_world.specs.World.{World}
@@ -23,16 +21,28 @@ use Rattle.ug_world.specs.After.{after}
 use Rattle.ug_world.specs.Touches.{is_about}
 use Rattle.ug_speaker.specs.Speech.{capabilities_of, is_request}
 use Rattle.ug_speaker.specs.Right.{FitsAlone, announces, BeginsWhere}
-use Rattle.ug_packing.specs.Packing.{withdrawing, fits, withdrawals, announcements, is_gone, differ, is_new}
+use Rattle.ug_message.specs.Fitting.{withdrawing, fits}
+use Rattle.ug_packing.specs.Packing.{withdrawals, announcements, is_gone, differ, is_new}
+use Rattle.ug_message.proofs.Fitting.{end-fits, marks-fit}
 use Rattle.ug_plain_rules.specs.Changes.{keys_at, in_marks, messages_by, changes, whole}
-use Rattle.ug_plain_rules.proofs.SameKeys.{among-filter}
-use Rattle.ug_plain_rules.proofs.Telling.{mentions, IsTelling}
-use Rattle.ug_plain_rules.proofs.Packed.{each-append, IsReady, AreReady, ready-tells, ready-fits, IsGone, withdrawals-ready, withdrawals-mention, CanAnnounce, announcements-ready, announcements-mention}
+use Rattle.ug_speaker.proofs.SameKeys.{same-is}
+use Rattle.ug_speaker.proofs.Readings.{mentions}
+use Rattle.ug_plain_rules.proofs.Telling.{IsTelling}
+use Rattle.ug_speaker.proofs.Each.{each-append}
+use Rattle.ug_plain_rules.proofs.Packed.{IsReady, AreReady, ready-tells, ready-fits, IsGone, withdrawals-ready, withdrawals-mention, CanAnnounce, announcements-ready, announcements-mention}
 use Rattle.ug_plain_rules.proofs.Touched.{event-stays, route-in_world, request-keys}
 use Rattle.ug_plain_rules.proofs.Batches.{IsPlainBatch, IsMarkedBatch, IsBatch, IsWholeTable}
-use Rattle.ug_plain_rules.proofs.Bools.{both, true_or, or_true, or_so, neither}
+use Rattle.ug_speaker.proofs.Bools.{both, true_or, or_true, or_so}
 
 -- ---- lists
+
+neither : (a b : Bool) → (a || b) ≡ false → (a ≡ false) × (b ≡ false)
+neither true b e = absurd cc
+neither false b e = (refl, e)
+
+-- a key among some is among those of them that pass a test that it passes
+among-filter : (test : Key → Bool) (keys : List Key) (key : Key) → test key ≡ true → among keys key ≡ true → among (filter test keys) key ≡ true
+among-filter test keys key passes is = any-filter_same (same_key key) test true (λ k same. ap test (sym (same-is key k same)) ∙ passes) keys ∙ is
 
 each_filter : (P : Key → Type 0) (test : Key → Bool) (keys : List Key) → ((key : Key) → test key ≡ true → P key) → Each P (filter test keys)
 each_filter P test [] follows = tt
@@ -87,20 +97,6 @@ batch-announces enhanced old new ms key a batch is =
     by_marked updates false e marked = let none = marked.covers key e in inl (none.0 ∙ sym none.1)
 
 -- ---- texts
-
-pub marks-fit : (c : Capabilities) → (fits c Begins ≡ true) × (fits c Ends ≡ true)
-unfolding fits written
-marks-fit c = (refl, refl)
-
-end_fits : (family : Family) (add_path extended : Bool) → fits (record { family = family; add_path = add_path; extended = extended }) (withdrawing []) ≡ true
-unfolding fits written withdrawal framed mp_unreach_nlri attribute
-end_fits V4 add_path true = refl
-end_fits V4 add_path false = refl
-end_fits V6 add_path true = refl
-end_fits V6 add_path false = refl
-
-pub end-fits : (c : Capabilities) → fits c (withdrawing []) ≡ true
-end-fits c = end_fits c.family c.add_path c.extended
 
 fit_marks : (b : Bool) (c : Capabilities) (ms : List Message) → Each (λ m. fits c m ≡ true) ms → Each (λ m. fits c m ≡ true) (in_marks b ms)
 fit_marks true c ms h = ((marks-fit c).0, each-append (λ m. fits c m ≡ true) ms (Ends ∷ []) h ((marks-fit c).1, tt))

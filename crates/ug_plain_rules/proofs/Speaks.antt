@@ -21,17 +21,21 @@ use Rattle.ug_speaker.specs.Speech.{Purpose, TakesEvent, MarksTold, Ends, Prepar
 use Rattle.ug_speaker.specs.Told.{worlds_of, deeds_to, told, is_live}
 use Rattle.ug_speaker.specs.Right.{IsToldRight, IsToldAll, IsToldAgain}
 use Rattle.ug_speaker.specs.Owes.{IsCourse, HistoriesRight, IsSpeaker}
-use Rattle.ug_packing.specs.Packing.{fits, text_of}
-use Rattle.ug_plain_rules.specs.Seats.{Seat, Plain, sessions_at, texts_of}
+use Rattle.ug_message.specs.Fitting.{fits, text_of}
+use Rattle.ug_speaker.specs.Counts.{sessions_at}
+use Rattle.ug_plain_rules.specs.Seats.{Seat, Plain, texts_of, counts_of}
 use Rattle.ug_plain_rules.specs.Plain.{is_drained, front_of, texts_at, next_said, plain_rules, plain_speech}
 use Rattle.ug_plain_rules.proofs.Steps.{plain_steps}
-use Rattle.ug_plain_rules.proofs.Batches.{IsLevel, right-front}
-use Rattle.ug_plain_rules.proofs.Counts.{IsCounted}
+use Rattle.ug_speaker.proofs.ToldRight.{right-front}
+use Rattle.ug_plain_rules.proofs.Batches.{IsLevel}
+use Rattle.ug_speaker.proofs.Counts.{IsCounted}
 use Rattle.ug_plain_rules.proofs.Seated.{live_at, stream, rest_in, rest-none}
 use Rattle.ug_plain_rules.proofs.Growing.{PlainEntry}
 use Rattle.ug_plain_rules.proofs.Placed.{DoesNext, does-next, ArePlaced, are-placed}
 use Rattle.ug_plain_rules.proofs.Marks.{begun-at_most, begun-all, losses-told, marks-told, quiet-seat, seat-of}
-use Rattle.ug_plain_rules.proofs.Keeping.{has-text, text-short, message_is}
+use Rattle.ug_message.proofs.Fitting.{has-text}
+use Rattle.ug_speaker.proofs.Buffers.{text-short}
+use Rattle.ug_plain_rules.proofs.Keeping.{message_is}
 use Rattle.ug_plain_rules.proofs.Courses.{More, Nothing, KeptAt, are-kept}
 use Rattle.ug_plain_rules.proofs.Again.{IsAgain, Asked, asked-later}
 
@@ -70,7 +74,7 @@ module _ (opening : World) (h : List PlainEntry) (course : IsCourse plain_rules 
     live_here =
         let found = seat-of opening h placed p s at.kept.peer in
         let same : found.0 ≡ at.seat = (let both : Some found.0 ≡ Some at.seat = sym found.1 ∙ at.kept.seat in cc) in
-        let counted : IsCounted (deeds_to plain_rules plain_speech p opening h) s at.seat = subst (λ (t : Seat). IsCounted (deeds_to plain_rules plain_speech p opening h) s t) same found.2 in
+        let counted : IsCounted (deeds_to plain_rules plain_speech p opening h) s (counts_of at.seat) = subst (λ (t : Seat). IsCounted (deeds_to plain_rules plain_speech p opening h) s (counts_of t)) same found.2 in
         ap (λ (b : Bool). s.up && not b) (counted.lost s.sessions)
 
   all_told : (p : ℕ) (s : PeerState) → slice_get here.world.peers p ≡ Some s → is_drained here ≡ true → is_live plain_rules plain_speech p s opening h ≡ true
@@ -106,7 +110,7 @@ module _ (opening : World) (h : List PlainEntry) (course : IsCourse plain_rules 
         let first : text ≡ text_of (capabilities_of s.peer) m = cc in
         let found = seat-of opening h placed p s is in
         let same : found.0 ≡ at.seat = (let both : Some found.0 ≡ Some at.seat = sym found.1 ∙ at.kept.seat in cc) in
-        let counted : IsCounted (deeds_to plain_rules plain_speech p opening h) s at.seat = subst (λ (t : Seat). IsCounted (deeds_to plain_rules plain_speech p opening h) s t) same found.2 in
+        let counted : IsCounted (deeds_to plain_rules plain_speech p opening h) s (counts_of at.seat) = subst (λ (t : Seat). IsCounted (deeds_to plain_rules plain_speech p opening h) s (counts_of t)) same found.2 in
         let bytes : plain_rules.handed p here ≡ front_of (text ∷ []) = ap (λ (o : Option Seat). front_of (texts_at o)) at.kept.seat ∙ ap front_of list in
         ap (written (capabilities_of s.peer)) (message_is p (worlds_of plain_rules plain_speech opening h) here (deeds_to plain_rules plain_speech p opening h) s at.seat at.rest at.kept counted m more rest)
         ∙ written_first (capabilities_of s.peer) m text fit.0 first

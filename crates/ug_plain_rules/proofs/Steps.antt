@@ -10,10 +10,12 @@ use Rattle.ug_board.specs.Rules.{counts, says_more}
 use Rattle.ug_world.specs.declared.peer_state.PeerState.{PeerState}
 use Rattle.ug_speaker.specs.Speech.{Purpose, TakesEvent, MarksTold, Ends, Prepares}
 use Rattle.ug_speaker.specs.Owes.{StepsRight, IsTimely, StaysDrained, closed_by, world_by}
-use Rattle.ug_plain_rules.specs.Seats.{Seat, Plain, sessions_at, sessions_had, change_at, with_loss}
+use Rattle.ug_speaker.specs.Counts.{sessions_at, sessions_had}
+use Rattle.ug_speaker.specs.Places.{change_at}
+use Rattle.ug_plain_rules.specs.Seats.{Seat, Plain, with_loss}
 use Rattle.ug_plain_rules.specs.Plain.{job_legal, after_job, is_quiet, are_quiet, is_drained, at_rest, said_of, next_said, lane_reply, after_lane, plain_rules, plain_speech}
 use Rattle.ug_plain_rules.proofs.Lawful.{rest_says}
-use Rattle.ug_plain_rules.proofs.Bools.{both_so, both}
+use Rattle.ug_speaker.proofs.Bools.{both_so, both}
 
 timely : (job : Purpose) (s : Plain) → IsTimely plain_rules plain_speech job (job_legal job s) s
 timely (TakesEvent e) s = refl

@@ -10,7 +10,8 @@ use Rattle.ug_world.specs.World.{World, paths_to}
 use Rattle.ug_world.specs.Private.{keys_to, keys_of, private_table}
 use Rattle.ug_world.specs.Touches.{is_about}
 use Rattle.ug_speaker.specs.Speech.{capabilities_of, is_request}
-use Rattle.ug_packing.specs.Packing.{withdrawing, withdrawals, announcements, is_gone, is_new}
+use Rattle.ug_message.specs.Fitting.{withdrawing}
+use Rattle.ug_packing.specs.Packing.{withdrawals, announcements, is_gone, is_new}
 
 -- The keys of a world that an event can change: those of its prefix, and of any other event all.
 abbrev pub keys_at : Happening → Bool → World → List Key

@@ -18,7 +18,9 @@ use Rattle.ug_world.specs.Verdicts.{verdict, path_count}
 use Rattle.ug_world.specs.After.{after}
 use Rattle.ug_world.specs.Touches.{is_about}
 use Rattle.ug_speaker.specs.Speech.{Purpose, TakesEvent, MarksTold, Ends, Prepares, Speech, capabilities_of, is_request}
-use Rattle.ug_plain_rules.specs.Seats.{Seat, Plain, fresh, sessions_at, has, is_lost_at, change_at, with_next, with_loss, with_event_from}
+use Rattle.ug_speaker.specs.Counts.{sessions_at, has}
+use Rattle.ug_speaker.specs.Places.{change_at}
+use Rattle.ug_plain_rules.specs.Seats.{Seat, Plain, fresh, is_lost_at, with_next, with_loss, with_event_from}
 
 -- ---- jobs
 

@@ -1,12 +1,12 @@
 -- The state of a machine that keeps for each peer its own list of messages.
-use Rattle.std.specs.Prelude.{ℕ, zero, suc, ◌+◌, ◌==◌, nat_lt, nat_le, Bool, true, false, ◌&&◌, not, List, [], ◌∷◌, ◌++◌, map, filter, slice_get, Option, Some, None, if◌then◌else◌}
-use Rattle.std.specs.List.{list_any}
+use Rattle.std.specs.Prelude.{ℕ, ◌+◌, ◌==◌, nat_lt, Bool, true, false, ◌&&◌, not, List, [], ◌∷◌, ◌++◌, map, filter, slice_get, Option, Some, None, if◌then◌else◌}
 use Rattle.ug_types.specs.Messages.{Message}
 use Rattle.ug_events.specs.Events.{Happening}
 use Rattle.ug_world.specs.declared.peer_state.PeerState.{PeerState}
 use Rattle.ug_world.specs.World.{World}
 use Rattle.ug_speaker.specs.Speech.{capabilities_of}
-use Rattle.ug_packing.specs.Packing.{text_of}
+use Rattle.ug_speaker.specs.Counts as counts
+use Rattle.ug_message.specs.Fitting.{text_of}
 use Rattle.ug_plain_rules.specs.Changes.{changes, whole}
 
 -- How many sessions were begun, which of them aren't lost, how many messages were handed out in the last of them, and
@@ -29,27 +29,13 @@ fresh_seat = record { begun = 0; unlost = []; handed = 0; texts = [] }
 abbrev pub fresh : World → Plain
 fresh w = record { world = w; closed = false; seats = map (λ (s : PeerState). fresh_seat) w.peers }
 
-abbrev pub sessions_had : Option PeerState → ℕ
-sessions_had None = 0
-sessions_had (Some s) = s.sessions
-
--- how many sessions a peer has had
-abbrev pub sessions_at : ℕ → World → ℕ
-sessions_at p w = sessions_had (slice_get w.peers p)
-
--- this number stands in the list
-abbrev pub has : List ℕ → ℕ → Bool
-has numbers n = list_any (λ (m : ℕ). m == n) numbers
+-- what is counted of the sessions
+abbrev pub counts_of : Seat → counts.Counts
+counts_of t = record { begun = t.begun; unlost = t.unlost; handed = t.handed }
 
 -- the session was begun, and is lost
 abbrev pub is_lost_at : Seat → ℕ → Bool
-is_lost_at t n = nat_le 1 n && (nat_le n t.begun && not (has t.unlost n))
-
--- the thing at a place is changed
-abbrev pub change_at : {T : Type 0} → (T → T) → ℕ → List T → List T
-change_at change p [] = []
-change_at change zero (x ∷ xs) = change x ∷ xs
-change_at change (suc p) (x ∷ xs) = x ∷ change_at change p xs
+is_lost_at t n = counts.is_lost_at (counts_of t) n
 
 -- ---- what a lane does to a seat of a peer that has had so many sessions
 

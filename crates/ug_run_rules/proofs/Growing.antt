@@ -13,9 +13,7 @@ use Rattle.ug_world.specs.World.{World}
 use Rattle.ug_world.specs.After.{after}
 use Rattle.ug_speaker.specs.Speech.{Purpose, TakesEvent, MarksTold, Ends, Prepares, Speech, events_for}
 use Rattle.ug_speaker.specs.Told.{world_after, step_events, events_in, world_at}
-use Rattle.ug_speaker.specs.Ranges.{IsEventInRange, AreInRange}
 use Rattle.ug_speaker.specs.Owes.{AreEvents, IsCourse, StepsRight, world_by}
-use Rattle.ug_run_rules.proofs.Lists.{each-front}
 
 pub events-front : (es fs : List Happening) → AreEvents (es ++ fs) → AreEvents es
 events-front [] fs h = tt
@@ -51,9 +49,6 @@ module _ {Opening State Job Said : Type 0} (rules : Rules Opening State Job Said
     opens = course.opens;
     legal = legal-front rules (rules.start opening) h more course.legal;
     events = events-front (events_in rules speech h) (events_in rules speech more) (subst (λ (es : List Happening). AreEvents es) (events-append h more) course.events);
-    in_range =
-        each-front IsEventInRange (events_in rules speech h) (events_in rules speech more)
-        (subst (λ (es : List Happening). AreInRange es) (events-append h more) course.in_range);
   }
 
   -- ---- the world that steps lead to

@@ -18,7 +18,6 @@ use Rattle.ug_world.specs.Verdicts.{verdict}
 use Rattle.ug_world.specs.Worlds.{judged, outcome, world_after as next_world, where_accepted, accepted_worlds, worlds, last_world}
 use Rattle.ug_speaker.specs.Speech.{Purpose, TakesEvent, MarksTold, Ends, Prepares, Speech, events_for}
 use Rattle.ug_speaker.specs.Told.{worlds_through, world_after, step_events, events_in, world_at}
-use Rattle.ug_speaker.specs.Ranges.{IsEventInRange, AreInRange}
 use Rattle.ug_speaker.specs.Owes.{AreEvents, StepsRight}
 use Rattle.ug_speaker.specs.Story.{IsSound, IsUnasked, IsUnaskedStep, IsBetween, IsDone, IsNothing, DoesEvent, Does, IsStory}
 use Rattle.ug_run_rules.proofs.Lists.{each-front, each-back, each-join, each-so}
@@ -72,26 +71,21 @@ worlds-accepted w (Ok SaysSync ∷ lines) = worlds-accepted w lines
 worlds-accepted w (Ok (Says e) ∷ lines) = through_verdict w e lines (verdict w e) (λ u. worlds-accepted u lines)
 worlds-accepted w (Err refusal ∷ lines) = worlds-accepted w lines
 
--- the events are of their form, with values in range
-abbrev AreSound : List Happening → Type 0
-AreSound es = AreEvents es × AreInRange es
+-- the events are of their form
+sound_event : (e : Happening) (v : Option ℕ) → IsSound (Ok (Says e)) → AreEvents (accepted_event v e)
+sound_event e None sound = (sound, tt)
+sound_event e (Some number) sound = tt
 
-sound_event : (e : Happening) (v : Option ℕ) → IsSound (Ok (Says e)) → AreSound (accepted_event v e)
-sound_event e None (event, ranged) = ((event, tt), (ranged, tt))
-sound_event e (Some number) sound = (tt, tt)
-
-sound_line : (w : World) (line : Reads Saying) → IsSound line → AreSound (line_events w line)
-sound_line w (Ok SaysNothing) sound = (tt, tt)
-sound_line w (Ok SaysSync) sound = (tt, tt)
+sound_line : (w : World) (line : Reads Saying) → IsSound line → AreEvents (line_events w line)
+sound_line w (Ok SaysNothing) sound = tt
+sound_line w (Ok SaysSync) sound = tt
 sound_line w (Ok (Says e)) sound = sound_event e (verdict w e) sound
-sound_line w (Err refusal) sound = (tt, tt)
+sound_line w (Err refusal) sound = tt
 
-pub accepted-sound : (w : World) (lines : List (Reads Saying)) → Each IsSound lines → AreSound (accepted w lines)
-accepted-sound w [] sound = (tt, tt)
+pub accepted-sound : (w : World) (lines : List (Reads Saying)) → Each IsSound lines → AreEvents (accepted w lines)
+accepted-sound w [] sound = tt
 accepted-sound w (line ∷ lines) (first, more) =
-    let here = sound_line w line first in
-    let rest = accepted-sound (next_world w (outcome w line)) lines more in
-    (events-join (line_events w line) (accepted (next_world w (outcome w line)) lines) here.0 rest.0, each-join IsEventInRange (line_events w line) (accepted (next_world w (outcome w line)) lines) here.1 rest.1)
+    events-join (line_events w line) (accepted (next_world w (outcome w line)) lines) (sound_line w line first) (accepted-sound (next_world w (outcome w line)) lines more)
 
 module _ {Opening State Job Said : Type 0} (rules : Rules Opening State Job Said) (speech : Speech Opening State Job Said) where
   -- ---- the builder's entries are jobs

@@ -1,83 +1,18 @@
--- What an event makes of a peer.
-use Rattle.std.proofs.Common.{◌≡◌, ℕ, Bool, true, false, List, [], ◌∷◌, slice_get, Option, Some, None, refl, ◌∙◌, ap}
-use Rattle.std.specs.Prelude.{if◌then◌else◌}
+-- A peer after many events.
+use Rattle.std.proofs.Common.{◌≡◌, ℕ, List, [], ◌∷◌, slice_get, Some, refl, ◌∙◌, ap}
 use Rattle.std.specs.Option.{option_map}
-use Rattle.std.proofs.lemmas.Option.{slice_get-map}
-use Rattle.ug_types.specs.Bytes.{same_bytes}
-use Rattle.ug_events.specs.Events.{Happening, ComesUp, GoesDown, HasPaths, HasNone, HasPolicy, HasEntries, AsksAgain, SendsRequest, SendsList}
+use Rattle.ug_events.specs.Events.{Happening}
 use Rattle.ug_world.specs.declared.peer_state.PeerState.{PeerState}
 use Rattle.ug_world.specs.World.{World}
-use Rattle.ug_world.specs.After.{come_up, gone_down, with_policy, refiltered, with_orf, changed_peer, after}
-use Rattle.ug_world.specs.Touches.{is_about}
+use Rattle.ug_world.specs.After.{after}
 use Rattle.ug_speaker.specs.Speech.{capabilities_of}
 use Rattle.ug_speaker.specs.Told.{world_after}
-
--- the peer after an event
-abbrev pub peer_after : Happening → PeerState → PeerState
-peer_after (ComesUp name) s = changed_peer name come_up s
-peer_after (GoesDown name) s = changed_peer name gone_down s
-peer_after (AsksAgain name) s = changed_peer name refiltered s
-peer_after (SendsRequest name) s = changed_peer name refiltered s
-peer_after (SendsList name request) s = changed_peer name (with_orf request) s
-peer_after (HasPolicy name policy) s = changed_peer name (with_policy policy) s
-peer_after (HasEntries name entries) s = s
-peer_after (HasPaths prefix paths) s = s
-peer_after (HasNone prefix) s = s
-
-same_option : (o : Option PeerState) → o ≡ option_map (λ s. s) o
-same_option None = refl
-same_option (Some s) = refl
-
-pub peers-after : (e : Happening) (w : World) (p : ℕ) → slice_get (after w e).peers p ≡ option_map (peer_after e) (slice_get w.peers p)
-unfolding after
-peers-after (ComesUp name) w p = slice_get-map (changed_peer name come_up) w.peers p
-peers-after (GoesDown name) w p = slice_get-map (changed_peer name gone_down) w.peers p
-peers-after (AsksAgain name) w p = slice_get-map (changed_peer name refiltered) w.peers p
-peers-after (SendsRequest name) w p = slice_get-map (changed_peer name refiltered) w.peers p
-peers-after (SendsList name request) w p = slice_get-map (changed_peer name (with_orf request)) w.peers p
-peers-after (HasPolicy name policy) w p = slice_get-map (changed_peer name (with_policy policy)) w.peers p
-peers-after (HasEntries name entries) w p = same_option (slice_get w.peers p)
-peers-after (HasPaths prefix paths) w p = same_option (slice_get w.peers p)
-peers-after (HasNone prefix) w p = same_option (slice_get w.peers p)
+use Rattle.ug_speaker.proofs.Peers.{peer_after, peers-after, next-of}
 
 -- It is the same peer: its sessions are opened with the same capabilities, and it has the same name.
 pub record IsSamePeer (s s' : PeerState) : Type 0 where
   pub capabilities : capabilities_of s'.peer ≡ capabilities_of s.peer
   pub named : s'.peer.name ≡ s.peer.name
-
-still : (s : PeerState) → IsSamePeer s s
-still s = record { capabilities = refl; named = refl }
-
-one_changed : (name : List ℕ) (change : PeerState → PeerState) (s : PeerState) → IsSamePeer s (change s) → IsSamePeer s (changed_peer name change s)
-one_changed name change s next = by (same_bytes s.peer.name name)
-  where
-    by : (b : Bool) → IsSamePeer s (if b then change s else s)
-    by true = next
-    by false = still s
-
-pub next-of : (e : Happening) (s : PeerState) → IsSamePeer s (peer_after e s)
-next-of (ComesUp name) s = one_changed name come_up s (record { capabilities = refl; named = refl })
-next-of (GoesDown name) s = one_changed name gone_down s (record { capabilities = refl; named = refl })
-next-of (AsksAgain name) s = one_changed name refiltered s (record { capabilities = refl; named = refl })
-next-of (SendsRequest name) s = one_changed name refiltered s (record { capabilities = refl; named = refl })
-next-of (SendsList name request) s = one_changed name (with_orf request) s (record { capabilities = refl; named = refl })
-next-of (HasPolicy name policy) s = one_changed name (with_policy policy) s (record { capabilities = refl; named = refl })
-next-of (HasEntries name entries) s = still s
-next-of (HasPaths prefix paths) s = still s
-next-of (HasNone prefix) s = still s
-
-pub about-alike : (e : Happening) (s s' : PeerState) → s'.peer.name ≡ s.peer.name → is_about e s' ≡ is_about e s
-about-alike (ComesUp name) s s' same = ap (λ (n : List ℕ). same_bytes n name) same
-about-alike (GoesDown name) s s' same = ap (λ (n : List ℕ). same_bytes n name) same
-about-alike (AsksAgain name) s s' same = ap (λ (n : List ℕ). same_bytes n name) same
-about-alike (SendsRequest name) s s' same = ap (λ (n : List ℕ). same_bytes n name) same
-about-alike (SendsList name request) s s' same = ap (λ (n : List ℕ). same_bytes n name) same
-about-alike (HasPolicy name policy) s s' same = ap (λ (n : List ℕ). same_bytes n name) same
-about-alike (HasEntries name entries) s s' same = refl
-about-alike (HasPaths prefix paths) s s' same = refl
-about-alike (HasNone prefix) s s' same = refl
-
--- ---- many events
 
 -- A peer is there after all events.
 pub peer-through : (w : World) (es : List Happening) (p : ℕ) (s : PeerState) → slice_get w.peers p ≡ Some s

@@ -26,7 +26,7 @@ use Rattle.ug_speaker.specs.Story.{IsDone, DoesEvent}
 use Rattle.ug_run_rules.specs.Contents.{WireTold}
 use Rattle.ug_run_rules.specs.Crew.{IsClosed}
 use Rattle.ug_run_rules.proofs.Growing.{world-further}
-use Rattle.ug_run_rules.proofs.Peers.{peer_after, peers-after, next-of, about-alike}
+use Rattle.ug_speaker.proofs.Peers.{peer_after, peers-after, next-of, about-alike}
 use Rattle.ug_run_rules.proofs.Growth.{job-tells-none}
 use Rattle.ug_run_rules.proofs.Lines.{did-one}
 use Rattle.ug_run_rules.proofs.Marking.{IsMarkAmong, mark-among, marks-told}

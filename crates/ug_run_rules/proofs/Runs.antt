@@ -13,7 +13,6 @@ use Rattle.ug_world.specs.After.{after, come_up, gone_down, with_policy, refilte
 use Rattle.ug_world.specs.Worlds.{worlds, last_world}
 use Rattle.ug_speaker.specs.Speech.{Speech, capabilities_of}
 use Rattle.ug_speaker.specs.Told.{worlds_through, world_after, events_in, worlds_of, world_at}
-use Rattle.ug_speaker.specs.Ranges.{AreInRange}
 use Rattle.ug_speaker.specs.Owes.{AreEvents, IsCourse, IsSpeaker}
 use Rattle.ug_run_rules.specs.Contents.{WireTold}
 use Rattle.ug_run_rules.specs.Crew.{IsClosed}
@@ -59,14 +58,11 @@ module _ {Opening State Job Said : Type 0} (rules : Rules Opening State Job Said
       ∙ ap (λ (w : World). accepted w lines) (speaks.steps.first_world opening)
 
   pub course-is : IsCourse rules speech opening history
-  course-is =
-      let sound = accepted-sound first lines closed.sound in
-      record {
-        opens = closed.opens;
-        legal = closed.legal;
-        events = subst (λ (es : List Happening). AreEvents es) (sym events-are) sound.0;
-        in_range = subst (λ (es : List Happening). AreInRange es) (sym events-are) sound.1;
-      }
+  course-is = record {
+    opens = closed.opens;
+    legal = closed.legal;
+    events = subst (λ (es : List Happening). AreEvents es) (sym events-are) (accepted-sound first lines closed.sound);
+  }
 
   pub course-at : (front more : List (Entry Job Said)) → history ≡ front ++ more → IsCourse rules speech opening front
   course-at front more parts = course-front rules speech opening front more (subst (λ (h : List (Entry Job Said)). IsCourse rules speech opening h) parts course-is)

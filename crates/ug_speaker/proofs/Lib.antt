@@ -1,4 +1,14 @@
 pub mod Sizes
-pub mod Spelled
-pub mod Ranged
+pub mod Bounded
 pub mod Worlds
+pub mod Bools
+pub mod Places
+pub mod Each
+pub mod SameKeys
+pub mod Peers
+pub mod Counts
+pub mod Readings
+pub mod Pasts
+pub mod ToldRight
+pub mod Buffers
+pub mod PathKeys

@@ -1,7 +1,8 @@
 pub mod Speech
 pub mod Told
+pub mod Places
+pub mod Counts
 pub mod Right
-pub mod Ranges
 pub mod Owes
 pub mod Story
 pub mod StoryLaws

@@ -16,9 +16,9 @@ use Rattle.ug_world.specs.World.{World}
 use Rattle.ug_world.specs.Verdicts.{verdict}
 use Rattle.ug_world.specs.After.{after}
 use Rattle.ug_world.specs.Touches.{is_about}
+use Rattle.ug_world.specs.Good.{IsWorldInRange}
 use Rattle.ug_speaker.specs.Speech.{Purpose, TakesEvent, MarksTold, Ends, Prepares, Speech, capabilities_of, is_request}
 use Rattle.ug_speaker.specs.Told.{events_in, worlds_of, world_after, told, is_lost, begun, is_live, world_at, marks_of_all, marks_of_asker}
-use Rattle.ug_speaker.specs.Ranges.{IsWorldInRange, AreInRange}
 use Rattle.ug_speaker.specs.Right.{IsToldRight, IsToldAll, IsToldAgain}
 
 -- A world in which a run may begin: nobody is up and there are no routes, each route map sets little, and the values of
@@ -83,13 +83,11 @@ module _ {Opening State Job Said : Type 0} (rules : Rules Opening State Job Said
     pub stops : (p : ℕ) (s : State) → rules.lane_reply (Next p) s ≡ Stop → speech.closed s ≡ true
     pub rests : (p : ℕ) (s : State) → rules.lane_reply (Next p) s ≡ Idle → speech.closed s ≡ false
 
-  -- A history that may have come about: from an opening world, each step legal, each event of its form, with values
-  -- that can be spelled.
+  -- A history that may have come about: from an opening world, each step legal, each event of its form.
   pub record IsCourse (opening : Opening) (history : List (Entry Job Said)) : Type 0 where
     pub opens : IsOpening (speech.first opening)
     pub legal : IsLegal rules opening history
     pub events : AreEvents (events_in rules speech history)
-    pub in_range : AreInRange (events_in rules speech history)
 
   -- a peer of the configuration, as it now is
   abbrev pub IsPeer : ℕ → PeerState → Opening → List (Entry Job Said) → Type 0

@@ -12,13 +12,12 @@ use Rattle.ug_events.specs.Reads.{Reads}
 use Rattle.ug_world.specs.Verdicts.{verdict}
 use Rattle.ug_speaker.specs.Speech.{Purpose, TakesEvent, MarksTold, Ends, Prepares, Speech}
 use Rattle.ug_speaker.specs.Told.{world_at}
-use Rattle.ug_speaker.specs.Ranges.{IsEventInRange}
 
--- A line's event is of its form, with values that can be spelled.
+-- A line's event is of its form.
 abbrev pub IsSound : Reads Saying → Type 0
 IsSound (Ok SaysNothing) = Unit {0}
 IsSound (Ok SaysSync) = Unit {0}
-IsSound (Ok (Says e)) = IsEvent e × IsEventInRange e
+IsSound (Ok (Says e)) = IsEvent e
 IsSound (Err refusal) = Unit {0}
 
 -- work that no line asks for

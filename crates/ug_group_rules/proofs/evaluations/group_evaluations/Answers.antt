@@ -1,5 +1,5 @@
 use Rattle.ug_group_rules.proofs.Keys.{live-distinct}
-use Rattle.ug_group_rules.proofs.Counting.{keys-told, keys-of-live, evaluates, evaluates-few, evaluates-none}
+use Rattle.ug_group_rules.proofs.Evaluated.{keys-told, keys-of-live, evaluates, evaluates-few, evaluates-none}
 use Rattle.ug_group_rules.proofs.InAll.{evaluated-few}
 use Rattle.ug_group_rules.proofs.evaluations.group_evaluations.Goals as goal
 

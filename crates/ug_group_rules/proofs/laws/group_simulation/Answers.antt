@@ -4,7 +4,7 @@ use Rattle.ug_speaker.specs.Told.{told}
 use Rattle.ug_group_rules.specs.Machine.{Seat, Take, seat_at}
 use Rattle.ug_group_rules.specs.Rules.{group_rules, group_speech}
 use Rattle.ug_group_rules.specs.Simulates.{rest_to}
-use Rattle.ug_group_rules.proofs.Renewed.{asked-whole, answered-since}
+use Rattle.ug_group_rules.proofs.AskedHistories.{asked-whole, answered-since}
 use Rattle.ug_group_rules.proofs.Simulating.{seated-live, stood-for}
 use Rattle.ug_group_rules.proofs.laws.group_simulation.Goals as goal
 

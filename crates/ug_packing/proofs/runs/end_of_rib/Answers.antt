@@ -4,7 +4,7 @@ use Rattle.ug_types.specs.Listed.{Listed}
 use Rattle.ug_types.specs.declared.capabilities.Capabilities.{Capabilities}
 use Rattle.ug_types.specs.declared.family.Family.TheVariants.{V4, V6}
 use Rattle.ug_message.specs.Texts.{written}
-use Rattle.ug_packing.specs.Packing.{withdrawing, text_of}
+use Rattle.ug_message.specs.Fitting.{withdrawing, text_of}
 use Rattle.ug_packing.proofs.Fitting.{text_is}
 use Rattle.ug_packing.proofs.runs.end_of_rib.Goals as goal
 

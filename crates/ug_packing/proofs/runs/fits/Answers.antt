@@ -1,7 +1,7 @@
 use Rattle.std.proofs.Common.{◌≡◌, ◌+◌, ℕ, Bool, true, false, nat_le, length, refl, ap, sym, ◌∙◌}
 use Rattle.std.specs.Prelude.{is_some, not}
 use Rattle.std.specs.Option.{option_map}
-use Rattle.ug_packing.specs.Frames.{routes_around}
+use Rattle.ug_message.specs.Frames.{routes_around}
 use Rattle.ug_packing.proofs.Fitting.{fits_none, fits_bad, fits_long, fits_so, front_none, front_some, some_mapped}
 use Rattle.ug_packing.proofs.runs.fits.Goals as goal
 

@@ -1,8 +1,8 @@
 use Rattle.std.proofs.Common.{ℕ, List, [], ◌∷◌, ◌++◌, ap, sym, ◌∙◌}
 use Rattle.std.specs.Option.{option_map}
 use Rattle.std.proofs.lemmas.Result.{IfOk-equal}
-use Rattle.ug_packing.specs.Packing.{text_of}
-use Rattle.ug_packing.specs.Frames.{said}
+use Rattle.ug_message.specs.Fitting.{text_of}
+use Rattle.ug_message.specs.Frames.{said}
 use Rattle.ug_packing.proofs.Fitting.{no_text}
 use Rattle.ug_packing.proofs.runs.put_run.Goals as goal
 

@@ -1,8 +1,10 @@
 use Rattle.std.proofs.Common.{ℕ, ◌+◌, ◌<◌, ◌≤◌, List, ◌∷◌, [], ◌++◌, length, map, drop, ap, sym, subst, ◌∙◌, arith, append_assoc, length-append}
 use Rattle.std.specs.Option.{option_map}
 use Rattle.ug_types.specs.declared.key.Key.{Key}
-use Rattle.ug_packing.specs.Packing.{fits, text_of, runs_from}
-use Rattle.ug_packing.specs.Frames.{said, IsLoad}
+use Rattle.ug_message.specs.Fitting.{fits, text_of}
+use Rattle.ug_packing.specs.Packing.{runs_from}
+use Rattle.ug_message.specs.Frames.{said}
+use Rattle.ug_packing.specs.Frames.{IsLoad}
 use Rattle.ug_packing.proofs.Running.{between, between_more, between_one, goes_on, is_cut}
 use Rattle.ug_packing.proofs.runs.put_runs.Goals as goal
 

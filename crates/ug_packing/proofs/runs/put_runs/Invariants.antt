@@ -1,8 +1,10 @@
 use Rattle.std.proofs.Common.{◌≡◌, ◌<◌, ◌≤◌, ◌++◌, List, map, drop}
 use Rattle.std.specs.Option.{option_map}
 use Rattle.ug_types.specs.declared.key.Key.{Key}
-use Rattle.ug_packing.specs.Packing.{fits, text_of, runs_from}
-use Rattle.ug_packing.specs.Frames.{said, texts_of_runs, IsLoad}
+use Rattle.ug_message.specs.Fitting.{fits, text_of}
+use Rattle.ug_packing.specs.Packing.{runs_from}
+use Rattle.ug_message.specs.Frames.{said}
+use Rattle.ug_packing.specs.Frames.{texts_of_runs, IsLoad}
 use Rattle.ug_packing.proofs.Running.{between}
 use Rattle.ug_packing.proofs.runs.put_runs.Given as goal
 

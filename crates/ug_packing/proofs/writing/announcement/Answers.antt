@@ -7,8 +7,8 @@ use Rattle.ug_types.specs.declared.family.Family.TheVariants.{V4, V6}
 use Rattle.ug_message.specs.Spelling.{routes, attributes, attributes_but_next_hop}
 use Rattle.ug_message.specs.Texts.{framed}
 use Rattle.ug_message.specs.Texts as texts
-use Rattle.ug_packing.specs.Packing.{announcing, text_of}
-use Rattle.ug_packing.specs.Frames.{attributes_text}
+use Rattle.ug_message.specs.Fitting.{announcing, text_of}
+use Rattle.ug_message.specs.Frames.{attributes_text}
 use Rattle.ug_packing.proofs.Fitting.{announcing_short, announcing_text}
 use Rattle.ug_packing.proofs.writing.announcement.Goals as goal
 

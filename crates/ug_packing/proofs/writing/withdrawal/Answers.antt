@@ -7,7 +7,7 @@ use Rattle.ug_message.specs.Texts.{framed}
 use Rattle.ug_message.specs.Texts as texts
 use Rattle.ug_types.specs.Listed.{Listed}
 use Rattle.std.specs.Prelude.{ℕ}
-use Rattle.ug_packing.specs.Packing.{withdrawing, text_of}
+use Rattle.ug_message.specs.Fitting.{withdrawing, text_of}
 use Rattle.ug_packing.proofs.Fitting.{withdrawing_short, withdrawing_text}
 use Rattle.ug_packing.proofs.writing.withdrawal.Goals as goal
 

@@ -1,5 +1,5 @@
 use Rattle.std.proofs.Common.{◌≡◌, drop}
-use Rattle.ug_plain_rules.specs.Seats.{has}
+use Rattle.ug_speaker.specs.Counts.{has}
 use Rattle.ug_plain.proofs.seat.has_unlost.Given as goal
 
 -- the numbers that are left decide

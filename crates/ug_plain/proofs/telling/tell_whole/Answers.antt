@@ -1,7 +1,8 @@
 use Rattle.std.proofs.Common.{◌≡◌, ℕ, List, ◌∷◌, [], ◌++◌, map, length, ap, sym, subst, ◌∙◌, ◌+◌, ◌≤◌}
 use Rattle.ug_types.specs.declared.key.Key.{Key}
 use Rattle.ug_world.specs.Private.{private_table}
-use Rattle.ug_packing.specs.Packing.{announcements, withdrawing}
+use Rattle.ug_message.specs.Fitting.{withdrawing}
+use Rattle.ug_packing.specs.Packing.{announcements}
 use Rattle.ug_packing.specs.Seen.{texts_in}
 use Rattle.ug_plain.proofs.Joined.{two_parts, whole_is}
 use Rattle.ug_plain.proofs.telling.tell_whole.Goals as goal

@@ -2,7 +2,9 @@ use Rattle.std.proofs.Common.{ℕ, ◌<◌, List, length, ap, sym, ◌∙◌, ar
 use Rattle.std.proofs.lemmas.Grind.{common_steps}
 use Rattle.ug_board.specs.declared.steps.LaneStep.TheVariants.{Lost}
 use Rattle.ug_plain_rules.specs.Seats as rules
-use Rattle.ug_plain_rules.specs.Seats.{sessions_at, change_at, with_loss}
+use Rattle.ug_speaker.specs.Counts.{sessions_at}
+use Rattle.ug_speaker.specs.Places.{change_at}
+use Rattle.ug_plain_rules.specs.Seats.{with_loss}
 use Rattle.ug_plain_rules.specs.Plain.{with_seats, seats_due}
 use Rattle.ug_plain.specs.Seated.{seat_of}
 use Rattle.ug_plain.proofs.Placed.{few, room_at, room_set, seats_set, had_is}

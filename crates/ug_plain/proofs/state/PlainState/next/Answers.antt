@@ -2,7 +2,9 @@ use Rattle.std.proofs.Common.{ℕ, ◌<◌, List, length, Option, Some, ap, sym,
 use Rattle.std.proofs.lemmas.Grind.{common_steps}
 use Rattle.std.specs.Prelude.{slice_get}
 use Rattle.ug_plain_rules.specs.Seats as rules
-use Rattle.ug_plain_rules.specs.Seats.{sessions_at, change_at, with_next}
+use Rattle.ug_speaker.specs.Counts.{sessions_at}
+use Rattle.ug_speaker.specs.Places.{change_at}
+use Rattle.ug_plain_rules.specs.Seats.{with_next}
 use Rattle.ug_plain_rules.specs.Plain.{with_seats, next_said, seats_due}
 use Rattle.ug_plain.specs.Seated.{seat_of}
 use Rattle.ug_plain.proofs.Placed.{few, room_at, room_set, seats_set, seat_at, had_is}

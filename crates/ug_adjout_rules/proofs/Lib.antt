@@ -1,0 +1,2 @@
+pub mod SameTables
+pub mod Desiring
