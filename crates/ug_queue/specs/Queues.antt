@@ -89,3 +89,23 @@ module _ {P : Type 0} where
 
   abbrev pub without_member : Queued P → ℕ → Queued P
   without_member q m = record { packets = q.packets; places = remove_entry (is_member m) q.places; limit = q.limit }
+
+  -- with these members, whose cursors are at the end
+  abbrev pub with_members : Queued P → List ℕ → Queued P
+  with_members q [] = q
+  with_members q (m ∷ ms) = with_members (with_member q m (length q.packets)) ms
+
+  -- none of them is a member, and each is listed once
+  abbrev pub AreNewcomers : Queued P → List ℕ → Type 0
+  AreNewcomers q [] = Unit {0}
+  AreNewcomers q (m ∷ ms) = (place_of q m ≡ None) × AreNewcomers (with_member q m (length q.packets)) ms
+
+  -- without these members
+  abbrev pub without_members : Queued P → List ℕ → Queued P
+  without_members q [] = q
+  without_members q (m ∷ ms) = without_members (without_member q m) ms
+
+  -- each of them is a member, and is listed once
+  abbrev pub AreMembers : Queued P → List ℕ → Type 0
+  AreMembers q [] = Unit {0}
+  AreMembers q (m ∷ ms) = IsMember q m × AreMembers (without_member q m) ms

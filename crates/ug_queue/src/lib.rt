@@ -5,5 +5,5 @@ mod laws;
 mod line;
 mod queue;
 
-pub use laws::rest_laws;
+pub use laws::{member_laws, rest_laws};
 pub use queue::Queue;

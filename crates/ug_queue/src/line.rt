@@ -1,15 +1,15 @@
 //! The packets and the members' cursors, before packets that nobody waits for are dropped.
-ghost use Rattle.std.specs.Prelude.{◌≡◌, ◌+◌, ◌-◌, ◌<◌, ◌≤◌, ◌^◌, ℕ, length, get_or, slice_get, slice_set, OnOk, OnErr, IfErr, IsTrue, ◌↔◌, false, Some, None};
+ghost use Rattle.std.specs.Prelude.{◌≡◌, ◌+◌, ◌-◌, ◌<◌, ◌≤◌, ◌^◌, ℕ, length, get_or, slice_get, slice_set, IfOk, OnOk, OnErr, IfErr, IsTrue, ◌↔◌, false, Some, None};
 ghost use Rattle.std.specs.Map.{keys_of};
 ghost use Rattle.std.specs.List.Sorted.{IsStrictlySortedBy};
 ghost use Rattle.std.specs.Ordering.{nat_cmp};
-ghost use Rattle.ug_queue.specs.Queues.{empty_queue, with_packet, with_member, without_member, past_next, without_first, place_of, rest_of, IsMember, passed};
+ghost use Rattle.ug_queue.specs.Queues.{empty_queue, with_packet, with_member, without_member, past_next, without_first, place_of, rest_of, IsMember, passed, standing};
 
 use std::alloc::Global;
 use std::collections::{BTreeMap, VecDeque};
 use std::marker::Model;
 use ug_segchain::SegChain;
-use ug_types::{NoMemory, PeerId};
+use ug_types::{NoMemory, PeerId, PeerList, Sequence};
 
 /// The packets, the members' cursors, and for each place how many members stand there. A cursor counts from `start` on,
 /// round the end of 64 bits: where a packet goes, `start` moves and no cursor does.
@@ -109,12 +109,38 @@ impl<P> Line<P> {
         self.cursors.contains_key(&member)
     }
 
+    /// Whether no member of the other is one of this.
+    pub fn is_apart(&self, other: &Line<P>) -> bool
+        ensures { IsTrue result → (m : ℕ) → IsMember other.now m → place_of self.now m ≡ None }
+    {
+        for member in other.cursors.keys() {
+            if self.has(*member) {
+                return false;
+            }
+        }
+        true
+    }
+
     /// The number of members.
     pub fn member_count(&self) -> usize
         ensures count { result ≡ length self.now.places }
         ensures sorted { IsStrictlySortedBy nat_cmp (keys_of self.now.places) }
     {
         self.cursors.len()
+    }
+
+    /// The members, by rising number.
+    pub fn members(&self, alloc: Global) -> Result<PeerList, NoMemory>
+        ensures members { IfOk result (λ members. members.items ≡ keys_of self.now.places) }
+        ensures sorted { IsStrictlySortedBy nat_cmp (keys_of self.now.places) }
+    {
+        let mut members = Sequence::new(alloc);
+        for member in self.cursors.keys() {
+            let Ok(()) = members.push(*member) else {
+                return Err(NoMemory);
+            };
+        }
+        Ok(members)
     }
 
     /// The number of packets in front of the member's cursor.
@@ -188,6 +214,16 @@ impl<P> Line<P> {
         let place = self.place(member);
         self.cursors.remove(&member);
         lower(&mut self.waiting, place);
+    }
+
+    /// How many members' cursors are at the front, before the first packet.
+    pub fn count_at_front(&self) -> usize
+        ensures { result ≡ standing self.now.places 0 }
+    {
+        if self.waiting.is_empty() {
+            return 0;
+        }
+        self.waiting[0]
     }
 
     /// Whether every member's cursor has passed the first packet.

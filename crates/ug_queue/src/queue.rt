@@ -1,10 +1,10 @@
 //! The queue: a packet goes as soon as every member's cursor has passed it.
-ghost use Rattle.std.specs.Prelude.{◌≡◌, ◌+◌, ◌-◌, ◌<◌, ◌≤◌, [], ◌++◌, length, drop, slice_get, OnOk, OnErr, IfOk, IfErr, IsTrue, ◌↔◌, false, Some, None, option_copied, All};
+ghost use Rattle.std.specs.Prelude.{◌≡◌, ℕ, ◌+◌, ◌-◌, ◌<◌, ◌≤◌, [], ◌++◌, length, drop, slice_get, OnOk, OnErr, IfOk, IfErr, IsTrue, ◌↔◌, false, Some, None, option_copied, All};
 ghost use Rattle.std.specs.Map.{keys_of};
 ghost use Rattle.std.specs.List.Sorted.{IsStrictlySortedBy};
 ghost use Rattle.std.specs.Ordering.{nat_cmp};
 ghost use Rattle.ug_queue.specs.Rests.{IsInside};
-ghost use Rattle.ug_queue.specs.Queues.{empty_queue, with_packet, with_member, without_member, past_next, shed, place_of, rest_of, IsMember, passed, seat_all, AreNew};
+ghost use Rattle.ug_queue.specs.Queues.{empty_queue, with_packet, with_member, without_member, past_next, shed, place_of, rest_of, IsMember, passed, standing, seat_all, AreNew, with_members, AreNewcomers, without_members, AreMembers};
 
 use crate::line::Line;
 use std::alloc::Global;
@@ -82,12 +82,27 @@ impl<P> Queue<P> {
         self.line.has(member)
     }
 
+    /// Whether they have no member in common.
+    pub fn is_apart(&self, other: &Queue<P>) -> bool
+        ensures { IsTrue result → (m : ℕ) → IsMember other.now m → place_of self.now m ≡ None }
+    {
+        self.line.is_apart(&other.line)
+    }
+
     /// The number of members.
     pub fn member_count(&self) -> usize
         ensures count { result ≡ length self.now.places }
         ensures sorted { IsStrictlySortedBy nat_cmp (keys_of self.now.places) }
     {
         self.line.member_count()
+    }
+
+    /// The members, by rising number.
+    pub fn members(&self) -> Result<PeerList, NoMemory>
+        ensures members { IfOk result (λ members. members.items ≡ keys_of self.now.places) }
+        ensures sorted { IsStrictlySortedBy nat_cmp (keys_of self.now.places) }
+    {
+        self.line.members(self.alloc)
     }
 
     /// The next packet of the member; None exactly where its cursor is at the end.
@@ -119,6 +134,13 @@ impl<P> Queue<P> {
         self.line.place(member) == 0
     }
 
+    /// How many members' cursors are at the queue's front. It takes the same time however many members there are.
+    pub fn count_at_front(&self) -> usize
+        ensures { result ≡ standing self.now.places 0 }
+    {
+        self.line.count_at_front()
+    }
+
     /// Adds a packet at the end. Want of memory hands it back and leaves the queue as it was.
     pub fn append(&mut self, packet: P) -> Result<(), P>
         requires room { length self.old.packets < self.old.limit }
@@ -137,6 +159,15 @@ impl<P> Queue<P> {
         ensures err { OnErr result (self.new ≡ self.old) }
     {
         self.line.join(member)
+    }
+
+    /// Takes in members, whose cursors are at the end. Want of memory leaves the queue as it was.
+    pub fn join_all_at_end(&mut self, members: &[PeerId]) -> Result<(), NoMemory>
+        requires { AreNewcomers self.old members.now }
+        ensures ok { OnOk result (self.new ≡ with_members self.old members.now) }
+        ensures err { OnErr result (self.new ≡ self.old) }
+    {
+        join_each(&mut self.line, members)
     }
 }
 
@@ -157,6 +188,47 @@ impl<P: Drop> Queue<P> {
     {
         self.line.remove(member);
         shed_passed(&mut self.line);
+    }
+
+    /// Lets several members go.
+    pub fn leave_all(&mut self, members: &[PeerId])
+        requires { AreMembers self.old members.now }
+        ensures { self.new ≡ shed (without_members self.old members.now) }
+    {
+        remove_each(&mut self.line, members);
+        shed_passed(&mut self.line);
+    }
+}
+
+/// Takes in members at the end: all of them, or none.
+fn join_each<P>(line: &mut Line<P>, members: &[PeerId]) -> Result<(), NoMemory>
+    requires { AreNewcomers line.old members.now }
+    ensures ok { OnOk result (line.new ≡ with_members line.old members.now) }
+    ensures packets { OnOk result (line.new.packets ≡ line.old.packets) }
+    ensures limit { OnOk result (line.new.limit ≡ line.old.limit) }
+    ensures needed { OnOk result (passed line.new ≡ passed line.old) }
+    ensures err { OnErr result (line.new ≡ line.old) }
+{
+    let [first, rest @ ..] = members else {
+        return Ok(());
+    };
+    line.join(*first)?;
+    let Err(NoMemory) = join_each(line, rest) else {
+        return Ok(());
+    };
+    line.remove(*first);
+    Err(NoMemory)
+}
+
+/// Lets members go.
+fn remove_each<P>(line: &mut Line<P>, members: &[PeerId])
+    requires { AreMembers line.old members.now }
+    ensures line { line.new ≡ without_members line.old members.now }
+    ensures packets { line.new.packets ≡ line.old.packets }
+    ensures limit { line.new.limit ≡ line.old.limit }
+{
+    for member in members {
+        line.remove(*member);
     }
 }
 

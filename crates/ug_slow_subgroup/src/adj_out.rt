@@ -1,8 +1,8 @@
 //! The Adj-RIB-Out of a subgroup.
 
-ghost use Rattle.std.specs.Prelude.{◌≡◌, IfOk, OnOk, not};
+ghost use Rattle.std.specs.Prelude.{◌≡◌, IfOk, OnOk, not, option_copied};
 ghost use Rattle.ug_types.specs.Bytes.{is_empty};
-ghost use Rattle.ug_adjout_rules.specs.Pending.{nothing_out, with_formatted};
+ghost use Rattle.ug_adjout_rules.specs.Pending.{nothing_out, with_desired, with_formatted};
 ghost use Rattle.ug_pack.specs.Ready.{key_order};
 ghost use Rattle.ug_group_rules.specs.Packets.{same_out, with_all_desired, all_forced, with_told, routes_due};
 ghost use Rattle.ug_slow_subgroup.specs.Views.{due_of};
@@ -11,6 +11,7 @@ use crate::due::Due;
 use crate::keys::without;
 use crate::next::routes_due;
 use crate::rows::{Row, copy_rows, keys_of_both, value_at, with_value};
+use crate::shared::SharedAttrs;
 use crate::waits::{requeued, still_forced};
 use std::alloc::Global;
 use std::marker::Model;
@@ -64,6 +65,20 @@ impl AdjOut {
         !self.forced.is_empty()
     }
 
+    /// What its packets have told, in key order.
+    pub fn formatted(&self) -> &[Row]
+        ensures { result.now ≡ self.now.formatted }
+    {
+        self.formatted.as_slice()
+    }
+
+    /// What its members should have, in key order.
+    pub fn desired(&self) -> &[Row]
+        ensures { result.now ≡ self.now.desired }
+    {
+        self.desired.as_slice()
+    }
+
     /// These rows are desired from now on.
     pub fn want(&mut self, desired: Vec<Row>) -> Result<(), NoMemory>
         ensures { OnOk result (self.new ≡ with_all_desired desired.items self.old) }
@@ -83,6 +98,32 @@ impl AdjOut {
             forced.as_slice(),
             self.pending.as_slice(),
             changed.as_slice(),
+        )?;
+        self.desired = desired;
+        self.forced = forced;
+        self.pending = pending;
+        Ok(())
+    }
+
+    /// The key is desired with this value from now on, or no more.
+    pub fn want_key(&mut self, key: &Key, value: Option<&SharedAttrs>) -> Result<(), NoMemory>
+        ensures { OnOk result (self.new ≡ with_desired key_order same_out self.old key.now (option_copied value.entry)) }
+    {
+        let formatted = self.formatted.as_slice();
+        let desired = with_value(self.alloc, self.desired.as_slice(), key, value)?;
+        let forced = still_forced(
+            self.alloc,
+            formatted,
+            desired.as_slice(),
+            self.forced.as_slice(),
+        )?;
+        let pending = requeued(
+            self.alloc,
+            formatted,
+            desired.as_slice(),
+            forced.as_slice(),
+            self.pending.as_slice(),
+            &[*key],
         )?;
         self.desired = desired;
         self.forced = forced;

@@ -19,6 +19,7 @@ mod waits;
 mod wanted;
 
 pub use packet::Packet;
+pub use rows::Row;
 pub use saying::Saying;
 pub use says::Says;
 pub use shared::SharedAttrs;

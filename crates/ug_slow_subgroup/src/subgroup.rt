@@ -1,21 +1,26 @@
 //! A subgroup.
 
-ghost use Rattle.std.specs.Prelude.{◌≡◌, ◌+◌, ◌&&◌, IfOk, OnOk, if◌then◌else◌};
+ghost use Rattle.std.specs.Prelude.{◌≡◌, true, ◌+◌, ◌&&◌, IfOk, OnOk, option_copied, if◌then◌else◌};
 ghost use Rattle.ug_adjout_rules.specs.Formatting.Due.{Nothing};
-ghost use Rattle.ug_group_rules.specs.Packets.{same_group};
+ghost use Rattle.ug_group_rules.specs.declared.phase.Phase.TheVariants.{Quiet};
+ghost use Rattle.ug_group_rules.specs.Packets.{same_group, same_out};
 ghost use Rattle.ug_group_rules.specs.Machine.{is_owed, is_quiet, is_pending, owes, is_level, is_joinable, unstuck, with_routes, next_packet, formatted, fresh_subgroup, rekeyed, asked, retabled};
+ghost use Rattle.ug_adjout_rules.specs.Pending.{nothing_out, with_desired};
+ghost use Rattle.ug_pack.specs.Ready.{key_order};
 ghost use Rattle.ug_slow_subgroup.specs.Views.{due_of};
 
 use crate::adj_out::AdjOut;
 use crate::due::Due;
+use crate::rows::Row;
 use crate::saying::Saying;
 use crate::says::Says;
+use crate::shared::SharedAttrs;
 use crate::wanted::wanted_rows;
 use std::alloc::Global;
 use std::marker::Model;
 use ug_group_rules::Phase;
 use ug_outbound::GroupKey;
-use ug_types::NoMemory;
+use ug_types::{Key, NoMemory};
 use ug_world::World;
 
 /// Peers of one group key that stand at the same point: what its packets have told and what its members should have,
@@ -58,6 +63,21 @@ impl Subgroup {
             phase: Phase::Quiet,
             stuck: 0,
         })
+    }
+
+    /// One of which nothing was formatted and nothing is desired. It takes no memory.
+    pub fn new(alloc: Global, key: GroupKey) -> Subgroup
+        ensures { result ≡ record { key = key; out = nothing_out; ending = true; fresh = true; phase = Quiet; stuck = 0 } }
+    {
+        Subgroup {
+            alloc,
+            key,
+            out: AdjOut::new(alloc),
+            ending: true,
+            fresh: true,
+            phase: Phase::Quiet,
+            stuck: 0,
+        }
     }
 
     /// An equal one of its own, which shares the attributes.
@@ -212,6 +232,34 @@ impl Subgroup {
         ensures { OnOk result (self.new ≡ retabled world.now self.old) }
     {
         self.out.want(wanted_rows(self.alloc, &self.key, world)?)
+    }
+
+    /// A key is desired with this value from now on, or no more.
+    pub fn desire(&mut self, key: &Key, value: Option<&SharedAttrs>) -> Result<(), NoMemory>
+        ensures { OnOk result (self.new ≡ record self.old { out = with_desired key_order same_out self.old.out key.now (option_copied value.entry) }) }
+    {
+        self.out.want_key(key, value)
+    }
+
+    /// What its packets have told, in key order.
+    pub fn formatted(&self) -> &[Row]
+        ensures { result.now ≡ self.now.out.formatted }
+    {
+        self.out.formatted()
+    }
+
+    /// What its members should have, in key order.
+    pub fn desired(&self) -> &[Row]
+        ensures { result.now ≡ self.now.out.desired }
+    {
+        self.out.desired()
+    }
+
+    /// It has another key.
+    pub fn with_key(&mut self, key: GroupKey)
+        ensures { self.new ≡ record self.old { key = key } }
+    {
+        self.key = key;
     }
 
     /// Its queue was never full with keys pending.

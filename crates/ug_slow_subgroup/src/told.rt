@@ -3,7 +3,7 @@
 ghost use Rattle.std.specs.Prelude.{◌≡◌, IfOk};
 ghost use Rattle.ug_types.specs.Messages.{message_of};
 ghost use Rattle.ug_rewrite.specs.NextHops.{told_to};
-ghost use Rattle.ug_packing.specs.Packing.{announcing, withdrawing};
+ghost use Rattle.ug_message.specs.Fitting.{announcing, withdrawing};
 
 use std::alloc::Global;
 use ug_rewrite::next_hop;

@@ -1,5 +1,5 @@
 use Rattle.std.proofs.Common.{arith}
-use Rattle.ug_packing.proofs.Loads.{rest_segments}
+use Rattle.ug_message.proofs.Segments.{rest_segments}
 use Rattle.ug_slow_subgroup.proofs.short.is_short_path.Goals as goal
 
 pub returns-then-count-gt16383 : goal.returns-then-count-gt16383

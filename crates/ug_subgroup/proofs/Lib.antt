@@ -1,0 +1,11 @@
+pub mod IdValues
+pub mod Holders
+pub mod TableHolders
+pub mod ToldKeys
+pub mod DueRoutes
+pub mod KeptRibs
+pub mod PlainPackets
+pub mod Formats
+pub mod SaidQueues
+pub mod Together
+pub mod HandedTexts
