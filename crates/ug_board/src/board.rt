@@ -6,6 +6,7 @@ ghost use Rattle.ug_board.specs.declared.steps.LaneSaid.TheVariants.{Stop, Noted
 ghost use Rattle.ug_board.specs.Rules.{buffer_size, lane_said, LeavesHanded};
 ghost use Rattle.ug_board.specs.History.{IsLegal, fresh_board, state_of, job_entry, lane_entries, spent_said};
 
+use crate::behind::{due_behind, job_behind, lane_behind, may_lose_behind};
 use crate::entry::{BoardEntry, HistoryList};
 use crate::machine::Machine;
 use crate::steps::{LaneSaid, LaneStep};
@@ -17,10 +18,11 @@ use ug_types::{NoMemory, PeerId, Sequence, Steps};
 
 /// A machine and the history of its steps. Contracts see the opening, the history and whether the board is spent.
 /// The history is legal, and unless the board is spent its machine stands where the history leads and there is
-/// room for all entries that lanes can add before the next job.
+/// room for all entries that lanes can add before the next job. The machine stands behind a pointer, so that a board is
+/// moved at the cost of a few words, however large its machine is: each turn moves it.
 #[derive(Drop)]
 pub struct Board<M: Machine> {
-    machine: M,
+    machine: Box<M>,
     history: HistoryList<M>,
     spent: bool,
 }
@@ -31,9 +33,9 @@ impl<M: Machine> Model for Board<M> {
 
     ghost Value = { BoardState M.Opening M.Job M.Said };
 
-    ghost view = { λ b. record { opening = M.opening b.machine; history = b.history.items; spent = b.spent } };
+    ghost view = { λ b. record { opening = M.opening b.machine.value; history = b.history.items; spent = b.spent } };
 
-    ghost invariant = { λ b. IsLegal M.rules (M.opening b.machine) b.history.items × (b.spent ≡ false → IsInStep M.rules (M.opening b.machine) b.history.items b.history.spare (M.state b.machine) (M.jobs b.machine)) };
+    ghost invariant = { λ b. IsLegal M.rules (M.opening b.machine.value) b.history.items × (b.spent ≡ false → IsInStep M.rules (M.opening b.machine.value) b.history.items b.history.spare (M.state b.machine.value) (M.jobs b.machine.value)) };
 }
 
 impl<M: Machine> Board<M> {
@@ -48,11 +50,14 @@ impl<M: Machine> Board<M> {
         let Ok(()) = history.reserve(machine.due() as usize) else {
             return Err(machine);
         };
-        Ok(Board {
-            machine,
-            history,
-            spent: false,
-        })
+        match Box::new(alloc, machine) {
+            Ok(machine) => Ok(Board {
+                machine,
+                history,
+                spent: false,
+            }),
+            Err(refused) => Err(refused.value),
+        }
     }
 
     /// Does a job, which is an entry of the history. After `NoMemory` the board is spent, and has its entries.
@@ -79,9 +84,9 @@ impl<M: Machine> Board<M> {
         if self.history.len() == usize::MAX {
             return Err(NoMemory);
         }
-        let said = self.machine.job(&job, steps)?;
+        let said = job_behind(&mut self.machine, &job, steps)?;
         let kept = M::copy_said(&said)?;
-        make_room(&mut self.history, self.machine.due())?;
+        make_room(&mut self.history, due_behind(&self.machine))?;
         record(&mut self.history, BoardEntry::of_job(pass, job, kept));
         self.spent = false;
         Ok(said)
@@ -122,7 +127,7 @@ impl<M: Machine> Board<M> {
         if self.spent {
             return LaneSaid::Stop;
         }
-        let said = self.machine.lane(LaneStep::Next { peer }, buf);
+        let said = lane_behind(&mut self.machine, LaneStep::Next { peer }, buf);
         match said {
             LaneSaid::Begun { session } => record(
                 &mut self.history,
@@ -147,8 +152,8 @@ impl<M: Machine> Board<M> {
         ensures opening { self.new.opening ≡ self.old.opening }
         ensures legal { IsLegal M.rules self.new.opening self.new.history }
     {
-        if !self.spent && self.machine.may_lose(peer, session) {
-            let _said = self.machine.lane(LaneStep::Lost { peer, session }, buf);
+        if !self.spent && may_lose_behind(&self.machine, peer, session) {
+            let _said = lane_behind(&mut self.machine, LaneStep::Lost { peer, session }, buf);
             record(&mut self.history, BoardEntry::of_lost(pass, peer, session));
         }
         LaneSaid::Noted

@@ -1,6 +1,7 @@
 //! A machine that takes one step at a time, and a board that holds it beside the history of its steps.
 #![tactic(auto)]
 
+mod behind;
 mod board;
 mod entry;
 mod machine;

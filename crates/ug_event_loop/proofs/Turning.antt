@@ -1,6 +1,6 @@
 -- What turns come to, one after the other.
 use Rattle.std.proofs.Common.{◌≡◌, ℕ, Bool, true, false, List, [], ◌∷◌, ◌++◌, Option, Some, None, Ok, Err, refl, sym, ◌∙◌, ap, subst, append_assoc}
-use Rattle.std.specs.Prelude.{filter}
+use Rattle.std.specs.Prelude.{filter, not}
 use Rattle.std.proofs.lemmas.List.{append-nil}
 use Rattle.std.proofs.lemmas.List.Elements.{filter-append, All-append, All-nil}
 use Rattle.ug_board.specs.Entry.{Entry}
@@ -14,7 +14,7 @@ use Rattle.ug_events.specs.Reads.{Reads}
 use Rattle.ug_world.specs.Verdicts.{verdict}
 use Rattle.ug_speaker.specs.Speech.{Speech, Purpose, TakesEvent, MarksTold, Ends}
 use Rattle.ug_speaker.specs.Told.{world_at}
-use Rattle.ug_speaker.specs.Owes.{StepsRight, StaysDrained, closed_by}
+use Rattle.ug_speaker.specs.Owes.{StepsRight, IsTimely, StaysDrained, closed_by}
 use Rattle.ug_speaker.specs.Story.{IsUnasked, IsBetween}
 use Rattle.ug_report.specs.Report.{Answer, Passed, Refused, Took, Synced}
 use Rattle.ug_event_loop.specs.Turns.{GoesOn, Answers, AnswersAt}
@@ -175,6 +175,24 @@ module _ {Opening State Job Said : Type 0} (rules : Rules Opening State Job Said
       ∙ (ap (replay rules old.opening) history
       ∙ replay_from-append rules (rules.start old.opening) old.history (job_entry rules 0 job (state_of rules old) ∷ [])) in
       rw there (closes_by (speech.purpose job) (speech.closed (state_of rules old)) (speech.closed (rules.after job (state_of rules old))) is (steps.closed_after_job job (state_of rules old) legal))
+
+  not_false : (closed : Bool) → false ≡ not closed → closed ≡ true
+  not_false true is = refl
+  not_false false is = cc
+
+  refused_by : (purpose : Purpose) (legal : Bool) (s : State) → purpose ≡ Ends → legal ≡ false → IsTimely rules speech purpose legal s → speech.closed s ≡ true
+  refused_by purpose legal s is refused timely =
+      not_false (speech.closed s) (sym refused ∙ subst (λ (p : Purpose). IsTimely rules speech p legal s) is timely)
+
+  -- Where the end may not be made, it was made before.
+  pub refused_closed :
+      (steps : StepsRight rules speech) (old new : BoardState Opening Job Said) (job : Job) → speech.purpose job ≡ Ends
+      → rules.legal job (state_of rules old) ≡ false → new.opening ≡ old.opening → new.history ≡ old.history
+      → speech.closed (state_of rules new) ≡ true
+  refused_closed steps old new job is refused opening history =
+      let there : state_of rules new ≡ state_of rules old =
+      ap (λ (o : Opening). replay rules o new.history) opening ∙ ap (replay rules old.opening) history in
+      rw there (refused_by (speech.purpose job) (rules.legal job (state_of rules old)) (state_of rules old) is refused (steps.timely job (state_of rules old)))
 
   -- ---- lines for which nothing is done
 

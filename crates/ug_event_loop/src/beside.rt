@@ -5,7 +5,7 @@ ghost use Rattle.std.specs.Vec.{vec_len, vec_capacity};
 ghost use denote.Param.Send.{IsSend, IsSync};
 ghost use Rattle.ug_events.specs.Events.{IsEvent};
 ghost use Rattle.ug_events.specs.Views.{event_of};
-ghost use Rattle.ug_crew.specs.Posts.{AreHere, post_of, posts};
+ghost use Rattle.ug_sender.specs.Posts.{AreHere, post_of, posts};
 ghost use Rattle.ug_event_loop.specs.Reading.{first_of, IsRead};
 
 use crate::reading::Reading;
@@ -16,9 +16,8 @@ use std::sync::ledger::Ledger;
 use std::thread;
 use std::thread::Threads;
 use ug_board::Board;
-use ug_crew::{Crew, SamePost, Worker, labour, put_in, take_out};
 use ug_edge::{Sink, Source, Wire};
-use ug_sender::Lane;
+use ug_sender::{Crew, Lane, SamePost, Worker, labour, put_in, take_out};
 use ug_speaker::Speaker;
 use ug_turnstile::Turnstile;
 use ug_types::{Sequence, Steps};
@@ -54,7 +53,7 @@ pub fn read_beside<R: Threads + Wait + Sync, W: Wire, S: Speaker, E: Source, K: 
         (record { left = E.left source.new; reads_failed = E.faults source.new; held = K.held report.new; writes_failed = K.faults report.new; steps = steps.new }) reading.new.end }
     ensures posts { posts result.items ≡ crew }
     ensures files { E.files source.new ≡ E.files source.old }
-    ensures is_picked { E.is_picked source.new ≡ E.is_picked source.old }
+    ensures picks { E.picks source.new ≡ E.picks source.old }
     ensures made { E.made source.new ≡ E.made source.old }
     ensures wire_faults { E.wire_faults source.new ≡ E.wire_faults source.old }
 {
@@ -115,7 +114,7 @@ fn beside<
         (record { left = E.left result.1.source.now; reads_failed = E.faults result.1.source.now; held = K.held result.1.report.now; writes_failed = K.faults result.1.report.now; steps = result.1.steps.now })
         result.1.reading.now.end }
     ensures files { E.files result.1.source.now ≡ E.files lent.entry.source.now }
-    ensures is_picked { E.is_picked result.1.source.now ≡ E.is_picked lent.entry.source.now }
+    ensures picks { E.picks result.1.source.now ≡ E.picks lent.entry.source.now }
     ensures made { E.made result.1.source.now ≡ E.made lent.entry.source.now }
     ensures wire_faults { E.wire_faults result.1.source.now ≡ E.wire_faults lent.entry.source.now }
 {
@@ -144,7 +143,7 @@ fn beside<
                 (record { left = E.left result.1.source.now; reads_failed = E.faults result.1.source.now; held = K.held result.1.report.now; writes_failed = K.faults result.1.report.now; steps = result.1.steps.now })
                 result.1.reading.now.end }
             ensures files { E.files result.1.source.now ≡ E.files lent.entry.source.now }
-            ensures is_picked { E.is_picked result.1.source.now ≡ E.is_picked lent.entry.source.now }
+            ensures picks { E.picks result.1.source.now ≡ E.picks lent.entry.source.now }
             ensures made { E.made result.1.source.now ≡ E.made lent.entry.source.now }
             ensures wire_faults { E.wire_faults result.1.source.now ≡ E.wire_faults lent.entry.source.now }
         {

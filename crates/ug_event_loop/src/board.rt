@@ -36,11 +36,15 @@ pub(crate) fn do_job<S: Speaker, L: Ledger>(
     ensures adds { Adds (λ entry. entry.pass) 0 board.old.history board.new.history }
     ensures unchanged { OnErr result (board.new.history ≡ board.old.history) }
     ensures unspent { OnOk result (board.new.spent ≡ false) }
+    ensures refused { OnErr result (board.new.spent ≡ false → S.Machine.rules.legal job (state_of S.Machine.rules board.old) ≡ false) }
     ensures sound { IsLegal S.Machine.rules board.new.opening board.new.history }
     ensures steps_least { RisesBy steps.old steps.new (least_of S.Machine.rules board.old.opening board.old.history) (least_of S.Machine.rules board.old.opening board.new.history) }
     ensures steps_most { OnOk result (RisesWithin steps.old steps.new (most_of S.Machine.rules board.old.opening board.old.history) (most_of S.Machine.rules board.old.opening board.new.history)) }
 {
-    if board.is_spent() || !board.machine().legal(&job) {
+    if board.is_spent() {
+        return Err(NoMemory);
+    }
+    if !board.machine().legal(&job) {
         return Err(NoMemory);
     }
     board.job(BUILDER, job, steps)
@@ -190,6 +194,7 @@ fn close<S: Speaker, L: Ledger>(board: &mut Board<S>, steps: &mut Steps<L>) -> R
     ensures history { GoesOn S.Machine.rules S.speech board.old.history board.new.history }
     ensures drained { OnOk result (S.speech.drained (state_of S.Machine.rules board.old) ≡ true → S.speech.drained (state_of S.Machine.rules board.new) ≡ true) }
     ensures closed { OnOk result (S.speech.closed (state_of S.Machine.rules board.new) ≡ true) }
+    ensures closed_before { OnErr result (board.new.spent ≡ false → S.speech.closed (state_of S.Machine.rules board.new) ≡ true) }
     ensures legal { IsLegal S.Machine.rules board.new.opening board.new.history }
     ensures steps_least { RisesBy steps.old steps.new (least_of S.Machine.rules board.old.opening board.old.history) (least_of S.Machine.rules board.old.opening board.new.history) }
     ensures steps_most { OnOk result (RisesWithin steps.old steps.new (most_of S.Machine.rules board.old.opening board.old.history) (most_of S.Machine.rules board.old.opening board.new.history)) }
@@ -225,11 +230,12 @@ pub(crate) fn conclude<S: Speaker, R: Wait, L: Ledger>(
     Ok(true)
 }
 
-/// Ends the work on the board at once, unless it is spent.
+/// Ends the work on the board at once: unless the board is spent, it is closed then.
 pub(crate) fn break_off<S: Speaker, L: Ledger>(board: &mut Board<S>, steps: &mut Steps<L>)
     ensures opening { board.new.opening ≡ board.old.opening }
     ensures adds { Adds (λ entry. entry.pass) 0 board.old.history board.new.history }
     ensures history { GoesOn S.Machine.rules S.speech board.old.history board.new.history }
+    ensures closed { board.new.spent ≡ false → S.speech.closed (state_of S.Machine.rules board.new) ≡ true }
     ensures legal { IsLegal S.Machine.rules board.new.opening board.new.history }
     ensures steps_least { RisesBy steps.old steps.new (least_of S.Machine.rules board.old.opening board.old.history) (least_of S.Machine.rules board.old.opening board.new.history) }
 {

@@ -8,7 +8,7 @@ ghost use Rattle.ug_pieces.specs.Reporting.{AppendsFront};
 ghost use Rattle.ug_events.specs.Events.{IsEvent, Says, SaysSync};
 ghost use Rattle.ug_events.specs.Views.{event_of};
 ghost use Rattle.ug_report.specs.Report.{answer_texts};
-ghost use Rattle.ug_crew.specs.Posts.{AreHere};
+ghost use Rattle.ug_sender.specs.Posts.{AreHere};
 ghost use Rattle.ug_event_loop.specs.Turns.{GoesOn, AnswersAt, IsLegalAt, IsEndedAt, answer_of};
 ghost use Rattle.ug_event_loop.specs.Counts.{least_at, most_at, RisesBy, RisesWithin};
 ghost use Rattle.ug_event_loop.specs.Standing.{said_by, IsSameBuilder, BuilderStands, TakesLines, StopsWithin};
@@ -23,11 +23,11 @@ use std::marker::Model;
 use std::sync::Wait;
 use std::sync::ledger::Ledger;
 use ug_board::Board;
-use ug_crew::Crew;
 use ug_edge::{Sink, Wire};
-use ug_events::{Event, Line, LineRefusal};
+use ug_events::{Event, Line, LineReader, LineRefusal};
 use ug_pieces::write_all;
 use ug_report::{write_marks, write_refusal};
+use ug_sender::Crew;
 use ug_speaker::Speaker;
 use ug_turnstile::{Pass, Turnstile};
 use ug_types::{NameList, NoMemory, Steps};
@@ -40,6 +40,7 @@ pub struct Builder<S: Speaker> {
     pass: Pass<Board<S>>,
     names: NameList,
     grammar: Grammar,
+    reader: LineReader,
     coalesce: u32,
     tally: Tally,
 }
@@ -73,6 +74,7 @@ impl<S: Speaker> Builder<S> {
             pass,
             names,
             grammar,
+            reader: LineReader::new(alloc),
             coalesce,
             tally: Tally {
                 lines: 0,
@@ -101,6 +103,7 @@ impl<S: Speaker> Builder<S> {
             pass,
             names,
             grammar: _,
+            reader: _,
             coalesce: _,
             tally: _,
         } = self;
@@ -127,11 +130,12 @@ impl<S: Speaker> Builder<S> {
         ensures steps_most { OnOk result (RisesWithin steps.old steps.new (most_at S.Machine.rules self.old.pass.root self.old.pass.seen) (most_at S.Machine.rules self.old.pass.root self.new.pass.seen)) }
     {
         for _ in rt.forever() {
+            let rings = turnstile.back().rings();
             let marked = mark_in_turn(rt, turnstile, &mut self.pass, steps)?;
             if let Some(came) = marked {
                 return Ok(came);
             }
-            wait_for(rt, turnstile, crew);
+            wait_for(rt, turnstile, crew, rings);
         }
         unreachable!()
     }
@@ -156,7 +160,7 @@ impl<S: Speaker> Builder<S> {
         ensures steps_least { RisesBy steps.old steps.new (least_at S.Machine.rules self.old.pass.root self.old.pass.seen) (least_at S.Machine.rules self.old.pass.root self.new.pass.seen) }
         ensures steps_most { OnOk result (RisesWithin steps.old steps.new (most_at S.Machine.rules self.old.pass.root self.old.pass.seen) (most_at S.Machine.rules self.old.pass.root self.new.pass.seen)) }
     {
-        match read(self.grammar, self.alloc, line) {
+        match read(self.grammar, &mut self.reader, line) {
             Ok(Line::Blank) => Ok(Came::Passed),
             Ok(Line::Sync) => self.sync(rt, turnstile, crew, steps),
             Ok(Line::Happened(event)) => {
@@ -268,7 +272,7 @@ impl<S: Speaker> Builder<S> {
         else {
             return Err(NoMemory);
         };
-        crew.pump_here(rt, turnstile);
+        pump_where(rt, turnstile, crew, true);
         Ok(())
     }
 
@@ -292,10 +296,12 @@ impl<S: Speaker> Builder<S> {
         ensures steps_most { OnOk result (RisesWithin steps.old steps.new (most_at S.Machine.rules self.old.pass.root self.old.pass.seen) (most_at S.Machine.rules self.old.pass.root self.new.pass.seen)) }
     {
         for _ in rt.forever() {
+            let rings = turnstile.back().rings();
             if conclude_in_turn(rt, turnstile, &mut self.pass, steps)? {
+                turnstile.news().ring();
                 return Ok(());
             }
-            wait_for(rt, turnstile, crew);
+            wait_for(rt, turnstile, crew, rings);
         }
         unreachable!()
     }
@@ -315,6 +321,7 @@ impl<S: Speaker> Builder<S> {
         ensures steps_least { RisesBy steps.old steps.new (least_at S.Machine.rules self.old.pass.root self.old.pass.seen) (least_at S.Machine.rules self.old.pass.root self.new.pass.seen) }
     {
         break_off_in_turn(rt, turnstile, &mut self.pass, steps);
+        turnstile.news().ring();
     }
 }
 
@@ -323,7 +330,7 @@ fn is_multiple(accepted: u64, coalesce: u32) -> bool {
     accepted % u64::from(coalesce.max(1)) == 0
 }
 
-/// Pumps the lanes that work here, where that is due.
+/// Pumps the lanes that work here, where that is due, and rings for those that work apart.
 fn pump_where<R: Wait, W: Wire, S: Speaker>(
     rt: &R,
     turnstile: &Turnstile<Board<S>>,
@@ -334,20 +341,24 @@ fn pump_where<R: Wait, W: Wire, S: Speaker>(
     ensures posts { crew.new ≡ crew.old }
 {
     if is_due {
+        turnstile.news().ring();
         crew.pump_here(rt, turnstile);
     }
 }
 
-/// Pumps the lanes that work here, and where that did nothing pauses for a moment, in which others may have their turn.
+/// Rings for the lanes that work apart, and pumps those that work here; where that did nothing waits until a lane rang
+/// more often than that.
 fn wait_for<R: Wait, W: Wire, S: Speaker>(
     rt: &R,
     turnstile: &Turnstile<Board<S>>,
     crew: &mut Crew<W, S>,
+    rings: u64,
 )
     requires crew { AreHere turnstile.now.id crew.old }
     ensures posts { crew.new ≡ crew.old }
 {
+    turnstile.news().ring();
     if !crew.pump_here(rt, turnstile) {
-        turnstile.nap(rt);
+        turnstile.back().wait(rt, rings);
     }
 }

@@ -4,7 +4,7 @@ ghost use Rattle.std.specs.Prelude.{◌≡◌, ◌<◌, ◌≤◌, true, length,
 ghost use Rattle.ug_edge.specs.Told.{Rose, IsEnded};
 ghost use Rattle.ug_pieces.specs.Pieces.{HasRead, IsHalt};
 ghost use Rattle.ug_pieces.specs.LineSteps.{HasTakenLines, HasStoppedWithin};
-ghost use Rattle.ug_crew.specs.Posts.{AreHere};
+ghost use Rattle.ug_sender.specs.Posts.{AreHere};
 ghost use Rattle.ug_event_loop.specs.Counts.{least_at, most_at, RisesBy, RisesWithin};
 ghost use Rattle.ug_event_loop.specs.Standing.{IsSameBuilder, TakesLines, StopsWithin};
 ghost use Rattle.ug_event_loop.specs.Files.{lines_read, IsPastLimits};
@@ -18,9 +18,9 @@ use std::alloc::Global;
 use std::sync::Wait;
 use std::sync::ledger::Ledger;
 use ug_board::Board;
-use ug_crew::Crew;
 use ug_edge::{Failed, Sink, Source, Wire};
 use ug_pieces::{Halt, LineHalt, LineStop, halt_of_pieces, halt_of_stop};
+use ug_sender::Crew;
 use ug_speaker::Speaker;
 use ug_turnstile::Turnstile;
 use ug_types::Steps;
@@ -67,7 +67,7 @@ fn read_ended<R: Wait, W: Wire, S: Speaker, L: Ledger, E: Source, K: Sink>(
     ensures unharmed { (IsErrOf result Halt.Read → ⊥) → E.faults source.new ≡ E.faults source.old }
     ensures faults { E.faults source.old ≤ E.faults source.new }
     ensures files { E.files source.new ≡ E.files source.old }
-    ensures is_picked { E.is_picked source.new ≡ E.is_picked source.old }
+    ensures picks { E.picks source.new ≡ E.picks source.old }
     ensures made { E.made source.new ≡ E.made source.old }
     ensures wire_faults { E.wire_faults source.new ≡ E.wire_faults source.old }
     ensures steps_least { RisesBy steps.old steps.new (least_at S.Machine.rules builder.old.pass.root builder.old.pass.seen) (least_at S.Machine.rules builder.old.pass.root builder.new.pass.seen) }
@@ -125,7 +125,7 @@ pub(crate) fn read_events<R: Wait, W: Wire, S: Speaker, L: Ledger, E: Source, K:
     ensures unharmed { (IsErrOf result LineHalt.Read → ⊥) → E.faults source.new ≡ E.faults source.old }
     ensures faults { E.faults source.old ≤ E.faults source.new }
     ensures files { E.files source.new ≡ E.files source.old }
-    ensures is_picked { E.is_picked source.new ≡ E.is_picked source.old }
+    ensures picks { E.picks source.new ≡ E.picks source.old }
     ensures made { E.made source.new ≡ E.made source.old }
     ensures wire_faults { E.wire_faults source.new ≡ E.wire_faults source.old }
     ensures steps_least { RisesBy steps.old steps.new (least_at S.Machine.rules builder.old.pass.root builder.old.pass.seen) (least_at S.Machine.rules builder.old.pass.root builder.new.pass.seen) }

@@ -5,8 +5,7 @@ ghost use Rattle.ug_events.specs.Events.{KeepsItsRules};
 ghost use Rattle.ug_events.specs.Views.{IsRefusedBy, saying_of};
 ghost use Rattle.ug_event_loop.specs.Standing.{said_by};
 
-use std::alloc::Global;
-use ug_events::{Line, LineRefusal, read_line, read_routes_line};
+use ug_events::{Line, LineReader, LineRefusal};
 
 /// Which verbs are known: every one, or those of routes alone.
 #[derive(Clone, Copy, Debug, PartialEq, Eq)]
@@ -16,13 +15,17 @@ pub enum Grammar {
 }
 
 /// What a line says.
-pub(crate) fn read(grammar: Grammar, alloc: Global, line: &[u8]) -> Result<Line, LineRefusal>
+pub(crate) fn read(
+    grammar: Grammar,
+    reader: &mut LineReader,
+    line: &[u8],
+) -> Result<Line, LineRefusal>
     ensures read { IfOk result (λ said. said_by grammar line.now ≡ Ok (saying_of said)) }
     ensures refused { IfErr result (λ e. IsRefusedBy e (said_by grammar line.now)) }
     ensures keeps { IfOk result (λ said. KeepsItsRules (saying_of said)) }
 {
     match grammar {
-        Grammar::Every => read_line(alloc, line),
-        Grammar::Routes => read_routes_line(alloc, line),
+        Grammar::Every => reader.read(line),
+        Grammar::Routes => reader.read_routes(line),
     }
 }

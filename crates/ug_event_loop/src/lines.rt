@@ -4,7 +4,7 @@ ghost use Rattle.std.specs.Prelude.{◌≡◌, ◌≤◌, ◌<◌, ◌+◌, ◌+
 ghost use Rattle.ug_edge.specs.Told.{Rose};
 ghost use Rattle.ug_pieces.specs.Lines.{where_some};
 ghost use Rattle.ug_pieces.specs.LineSteps.{HasTakenLines, HasStoppedWithin, HasStoppedAt};
-ghost use Rattle.ug_crew.specs.Posts.{AreHere};
+ghost use Rattle.ug_sender.specs.Posts.{AreHere};
 ghost use Rattle.ug_event_loop.specs.Counts.{least_at, most_at, RisesBy, RisesWithin};
 ghost use Rattle.ug_event_loop.specs.Standing.{IsSameBuilder, TakesLines, StopsWithin};
 
@@ -14,9 +14,9 @@ use crate::stop::Stop;
 use std::sync::Wait;
 use std::sync::ledger::Ledger;
 use ug_board::Board;
-use ug_crew::Crew;
 use ug_edge::{Sink, Wire};
 use ug_pieces::{LineStop, keep_front};
+use ug_sender::Crew;
 use ug_speaker::Speaker;
 use ug_text::cut_at;
 use ug_turnstile::Turnstile;

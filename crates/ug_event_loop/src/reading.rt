@@ -5,7 +5,7 @@ ghost use Rattle.ug_edge.specs.Told.{IsEnded};
 ghost use Rattle.ug_pieces.specs.Pieces.{HasRead};
 ghost use Rattle.ug_events.specs.Events.{IsEvent};
 ghost use Rattle.ug_events.specs.Views.{event_of};
-ghost use Rattle.ug_crew.specs.Posts.{AreHere};
+ghost use Rattle.ug_sender.specs.Posts.{AreHere};
 ghost use Rattle.ug_event_loop.specs.Counts.{least_at, most_at, RisesBy, RisesWithin};
 ghost use Rattle.ug_event_loop.specs.Standing.{said_by, IsSameBuilder, BuilderStands};
 ghost use Rattle.ug_event_loop.specs.Files.{lines_read, IsPastLimits};
@@ -18,10 +18,10 @@ use std::alloc::Global;
 use std::sync::Wait;
 use std::sync::ledger::Ledger;
 use ug_board::Board;
-use ug_crew::Crew;
 use ug_edge::{Sink, Source, Wire};
 use ug_events::Event;
 use ug_pieces::LineHalt;
+use ug_sender::Crew;
 use ug_speaker::Speaker;
 use ug_turnstile::Turnstile;
 use ug_types::{NoMemory, Steps};
@@ -69,7 +69,7 @@ impl<S: Speaker> Reading<S> {
             (record { left = E.left source.new; reads_failed = E.faults source.new; held = K.held report.new; writes_failed = K.faults report.new; steps = steps.new }) self.new.end }
         ensures posts { crew.new ≡ crew.old }
         ensures files { E.files source.new ≡ E.files source.old }
-        ensures is_picked { E.is_picked source.new ≡ E.is_picked source.old }
+        ensures picks { E.picks source.new ≡ E.picks source.old }
         ensures made { E.made source.new ≡ E.made source.old }
         ensures wire_faults { E.wire_faults source.new ≡ E.wire_faults source.old }
     {
@@ -122,7 +122,7 @@ fn run<R: Wait, W: Wire, S: Speaker, L: Ledger, E: Source, K: Sink>(
         (record { left = E.left source.new; reads_failed = E.faults source.new; held = K.held report.new; writes_failed = K.faults report.new; steps = steps.new }) result }
     ensures posts { crew.new ≡ crew.old }
     ensures files { E.files source.new ≡ E.files source.old }
-    ensures is_picked { E.is_picked source.new ≡ E.is_picked source.old }
+    ensures picks { E.picks source.new ≡ E.picks source.old }
     ensures made { E.made source.new ≡ E.made source.old }
     ensures wire_faults { E.wire_faults source.new ≡ E.wire_faults source.old }
 {
@@ -172,7 +172,7 @@ fn take_all<R: Wait, W: Wire, S: Speaker, L: Ledger, E: Source, K: Sink>(
     ensures faults { E.faults source.old ≤ E.faults source.new }
     ensures writes { K.faults report.old ≤ K.faults report.new }
     ensures files { E.files source.new ≡ E.files source.old }
-    ensures is_picked { E.is_picked source.new ≡ E.is_picked source.old }
+    ensures picks { E.picks source.new ≡ E.picks source.old }
     ensures made { E.made source.new ≡ E.made source.old }
     ensures wire_faults { E.wire_faults source.new ≡ E.wire_faults source.old }
     ensures steps_least { RisesBy steps.old steps.new (least_at S.Machine.rules builder.old.pass.root builder.old.pass.seen) (least_at S.Machine.rules builder.old.pass.root builder.new.pass.seen) }

@@ -14,7 +14,7 @@ use Rattle.ug_sender.specs.Pieces.{SendsFront}
 use Rattle.ug_sender.specs.Tellings.{TellsLoss}
 
 -- the courses with the last one changed
-pub change_last : (Course → Course) → List Course → List Course
+unfoldable pub change_last : (Course → Course) → List Course → List Course
 change_last f [] = []
 change_last f (c ∷ []) = f c ∷ []
 change_last f (c ∷ d ∷ cs) = c ∷ change_last f (d ∷ cs)
@@ -50,7 +50,7 @@ or-assoc : (a b c : Bool) → (a || (b || c)) ≡ ((a || b) || c)
 or-assoc true b c = refl
 or-assoc false b c = refl
 
-or-false : (a : Bool) → (a || false) ≡ a
+pub or-false : (a : Bool) → (a || false) ≡ a
 or-false true = refl
 or-false false = refl
 
@@ -87,7 +87,7 @@ holds-begun cs n fate (Some old) None all begins = absurd begins
 holds-begun cs n fate (Some old) (Some new) all begins =
     subst (λ s. HoldsAll (cs ++ begun_course n fate ∷ []) s) (sym begins) (all-begun cs n fate old all)
 
-failures-most : (fate : Fate) → failures fate ≤ 1
+pub failures-most : (fate : Fate) → failures fate ≤ 1
 failures-most Whole = omega arith
 failures-most Noted = omega arith
 failures-most Unnoted = omega arith
@@ -103,7 +103,7 @@ failed-room cs more before after was short one grew (inl rose) = omega arith
 failed-room cs more before after was short one grew (inr full) = let most = failed-most cs in omega arith
 
 -- a wire whose sessions went well has no faults still, where the call added none
-still-harmless :
+pub still-harmless :
     (cs : List Course) (fate : Fate) (failed' faults faults' : ℕ)
     → (failed cs ≡ 0 → faults ≡ 0) → (failures fate ≡ 0 → faults' ≡ faults) → failed' ≡ failed cs + failures fate → failed' ≡ 0 → faults' ≡ 0
 still-harmless cs fate failed' faults faults' was unharmed grown none =
@@ -149,7 +149,7 @@ with_item-number_by false n x s is = rw is refl
 with_item-number : (n : ℕ) (x : List ℕ) (s : Session (List ℕ)) → (with_item n x s).number ≡ s.number
 with_item-number n x s = with_item-number_by (s.number == n) n x s refl
 
-length-handed : (f : Course → Course) (cs : List Course) → length (change_last f cs) ≡ length cs
+pub length-handed : (f : Course → Course) (cs : List Course) → length (change_last f cs) ≡ length cs
 unfolding change_last
 length-handed f [] = refl
 length-handed f (c ∷ []) = refl
@@ -167,7 +167,7 @@ map-handed n x fate (c ∷ d ∷ cs) = ap (λ l. c.session ∷ l) (map-handed n 
 IsWholeAt : ℕ → Course → Type 0
 IsWholeAt n c = (c.fate ≡ Whole) × (c.session.number ≡ n)
 
-whole-at : (fate : Fate) (number n : ℕ) → when_whole fate number ≡ Some n → (fate ≡ Whole) × (number ≡ n)
+pub whole-at : (fate : Fate) (number n : ℕ) → when_whole fate number ≡ Some n → (fate ≡ Whole) × (number ≡ n)
 whole-at Whole number n is = (refl, cc)
 whole-at Noted number n is = cc
 whole-at Unnoted number n is = cc
@@ -242,7 +242,7 @@ holds-more Whole handed x bytes piece whole took = ap (λ y. y ++ piece) whole �
 holds-more Noted handed x bytes piece whole took = front-more handed x bytes piece whole took
 holds-more Unnoted handed x bytes piece whole took = front-more handed x bytes piece whole took
 
-was-whole : (fate : Fate) (handed : List (List ℕ)) (bytes : List ℕ) → fate ≡ Whole → HoldsOf fate handed bytes → bytes ≡ concat handed
+pub was-whole : (fate : Fate) (handed : List (List ℕ)) (bytes : List ℕ) → fate ≡ Whole → HoldsOf fate handed bytes → bytes ≡ concat handed
 was-whole fate handed bytes is holds = subst (λ f. HoldsOf f handed bytes) is holds
 
 all-closed :
@@ -373,25 +373,25 @@ handed-sessions n x ds ds' grown = ap sessions_of grown ∙ sessions_of-append d
 handed-losses : (n : ℕ) (x : List ℕ) (ds ds' : List (Deed (List ℕ))) → ds' ≡ ds ++ Hands n x ∷ [] → losses ds' ≡ losses ds ++ []
 handed-losses n x ds ds' grown = ap losses grown ∙ losses-append ds (Hands n x ∷ [])
 
-begun-sessions : (n : ℕ) (ds ds' : List (Deed (List ℕ))) → ds' ≡ ds ++ Begins n ∷ [] → sessions_of ds' ≡ sessions_of ds ++ record { number = n; handed = [] } ∷ []
+pub begun-sessions : (n : ℕ) (ds ds' : List (Deed (List ℕ))) → ds' ≡ ds ++ Begins n ∷ [] → sessions_of ds' ≡ sessions_of ds ++ record { number = n; handed = [] } ∷ []
 begun-sessions n ds ds' grown = ap sessions_of grown ∙ sessions_of-append ds (Begins n ∷ [])
 
-begun-losses : (n : ℕ) (ds ds' : List (Deed (List ℕ))) → ds' ≡ ds ++ Begins n ∷ [] → losses ds' ≡ losses ds ++ []
+pub begun-losses : (n : ℕ) (ds ds' : List (Deed (List ℕ))) → ds' ≡ ds ++ Begins n ∷ [] → losses ds' ≡ losses ds ++ []
 begun-losses n ds ds' grown = ap losses grown ∙ losses-append ds (Begins n ∷ [])
 
-lost-sessions : (noted : Bool) (n : ℕ) (ds ds' : List (Deed (List ℕ))) → TellsLoss noted n ds ds' → sessions_of ds' ≡ sessions_of ds
+pub lost-sessions : (noted : Bool) (n : ℕ) (ds ds' : List (Deed (List ℕ))) → TellsLoss noted n ds ds' → sessions_of ds' ≡ sessions_of ds
 lost-sessions true n ds ds' tells = ap sessions_of tells ∙ sessions_of-append ds (Loses n ∷ [])
 lost-sessions false n ds ds' tells = ap sessions_of tells
 
-lost-losses : (noted : Bool) (n : ℕ) (ds ds' : List (Deed (List ℕ))) → TellsLoss noted n ds ds' → losses ds' ≡ losses ds ++ when_noted (fate_of noted) n
+pub lost-losses : (noted : Bool) (n : ℕ) (ds ds' : List (Deed (List ℕ))) → TellsLoss noted n ds ds' → losses ds' ≡ losses ds ++ when_noted (fate_of noted) n
 lost-losses true n ds ds' tells = ap losses tells ∙ losses-append ds (Loses n ∷ [])
 lost-losses false n ds ds' tells = ap losses tells ∙ sym (append-nil (losses ds))
 
-closed-none : (noted : Bool) (n : ℕ) → when_whole (fate_of noted) n ≡ None
+pub closed-none : (noted : Bool) (n : ℕ) → when_whole (fate_of noted) n ≡ None
 closed-none true n = refl
 closed-none false n = refl
 
-one-not-none : (noted : Bool) → failures (fate_of noted) ≡ 0 → ⊥
+pub one-not-none : (noted : Bool) → failures (fate_of noted) ≡ 0 → ⊥
 one-not-none true is = omega arith
 one-not-none false is = omega arith
 

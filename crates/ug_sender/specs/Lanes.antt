@@ -1,5 +1,6 @@
 -- A lane as contracts see it, and what it keeps.
-use Rattle.std.specs.Prelude.{◌≡◌, ℕ, ◌<◌, Bool, true, false, List, [], Option, Some, None}
+use Rattle.std.specs.Prelude.{◌≡◌, ℕ, Bool, true, false, List, [], Option, Some, None}
+use Rattle.ug_edge.specs.Told.{WireName}
 use Rattle.ug_board.specs.Entry.{Entry}
 use Rattle.ug_board.specs.declared.steps.LaneStep.TheVariants.{Next}
 use Rattle.ug_board.specs.declared.steps.LaneSaid.TheVariants.{Idle}
@@ -11,21 +12,23 @@ use Rattle.ug_sender.specs.Courses.{Course, KeepsWire}
 use Rattle.ug_turnstile.specs.Passes.{IsSamePass}
 use Rattle.ug_sender.specs.Tellings.{Shown}
 
--- A lane: its wire, its pass, its peer, the session that is open, and whether the loss of one was not taken.
+-- A lane: its wire, for whom that was made, its pass, its peer, the session that is open, and whether the loss of one was not
+-- taken.
 pub record LaneView (W Opening Job Said : Type 0) : Type 0 where
   pub wire : W
+  pub made_for : WireName
   pub pass : Held (Entry Job Said) Opening
   pub peer : ℕ
   pub latest : Option ℕ
   pub unnoted : Bool
 
--- a lane of this wire, pass and peer, before any step
-abbrev pub fresh_lane : {W Opening Job Said : Type 0} → W → Held (Entry Job Said) Opening → ℕ → LaneView W Opening Job Said
-fresh_lane wire pass peer = record { wire = wire; pass = pass; peer = peer; latest = None; unnoted = false }
+-- a lane of this wire, which was made so, and of this pass and peer, before any step
+abbrev pub fresh_lane : {W Opening Job Said : Type 0} → W → WireName → Held (Entry Job Said) Opening → ℕ → LaneView W Opening Job Said
+fresh_lane wire made_for pass peer = record { wire = wire; made_for = made_for; pass = pass; peer = peer; latest = None; unnoted = false }
 
--- It is the same pass, and the same peer.
+-- It is the same pass and the same peer, and a wire that was made for the same.
 abbrev pub IsSamePost : {W Opening Job Said : Type 0} → LaneView W Opening Job Said → LaneView W Opening Job Said → Type 0
-IsSamePost old new = IsSamePass old.pass new.pass × (new.peer ≡ old.peer)
+IsSamePost old new = IsSamePass old.pass new.pass × (new.peer ≡ old.peer) × (new.made_for ≡ old.made_for)
 
 -- The entries of this number are steps of a lane of this peer.
 abbrev pub AreOfPeer : {Job Said : Type 0} → ℕ → ℕ → List (Entry Job Said) → Type 0

@@ -14,7 +14,12 @@ use ug_turnstile::{Pass, Turnstile};
 use ug_types::PeerId;
 
 /// What is next for the peer.
-fn next_on<M: Machine>(board: &mut Board<M>, number: u32, peer: PeerId, buf: &mut [u8]) -> LaneSaid
+pub(crate) fn next_on<M: Machine>(
+    board: &mut Board<M>,
+    number: u32,
+    peer: PeerId,
+    buf: &mut [u8],
+) -> LaneSaid
     requires own { AreOfPeer peer number board.old.history }
     requires room { buffer_size ≤ length buf.old }
     ensures opening { board.new.opening ≡ board.old.opening }

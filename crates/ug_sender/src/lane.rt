@@ -7,11 +7,14 @@ ghost use Rattle.ug_turnstile.specs.Passes.{StartsWith, mine};
 ghost use Rattle.ug_sender.specs.declared.pumped.Pumped.TheVariants.{Sent as DidSend, Idle as WasIdle, Lost as WasLost, Stopped as WasStopped};
 ghost use Rattle.ug_sender.specs.Courses.{fate_of, is_unnoted};
 ghost use Rattle.ug_sender.specs.Lanes.{fresh_lane, IdlesAt, IsSamePost, KeepsLane, shown};
+ghost use Rattle.ug_sender.specs.Rounds.{TellsRound, fate_after, open_after, outcome};
 ghost use Rattle.ug_sender.specs.Tellings.{TellsPump, IsSameWire};
 
 use crate::asking::{ask_loss, ask_next};
-use crate::pumped::Pumped;
-use crate::sending::{begin_session, send_all};
+use crate::open::is_open;
+use crate::pumped::{Pumped, Round};
+use crate::sending::{Went, begin_session, begin_taken, send_all, send_taken};
+use crate::turn::{Ending, take_turn};
 use std::alloc::{AllocError, Global};
 use std::marker::Model;
 use std::sync::Wait;
@@ -20,8 +23,9 @@ use ug_edge::Wire;
 use ug_turnstile::{Pass, Turnstile};
 use ug_types::{NoMemory, PeerId};
 
-/// The bytes of the buffer: as many as the longest message has.
-const BUFFER_SIZE: usize = 65535;
+/// The bytes of the buffer. The longest message has 65535: at least as many bytes are sent with one call, where there are
+/// so many.
+const BUFFER_SIZE: usize = 131072;
 
 /// A wire to a peer, and the pass by which it is told what to send. Contracts see these, the session that is open and
 /// whether the loss of one was not taken. The wire holds what the pass was handed: each session that its entries begin,
@@ -36,11 +40,11 @@ pub struct Lane<W: Wire, M: Machine> {
     buf: Vec<u8>,
 }
 
-/// The memory that a lane works in: room for the longest message.
+/// The memory that a lane works in: room for the packets of a turn.
 #[derive(Drop)]
 pub struct Buffer {
     bytes: Vec<u8>,
-    ghost size: { vec_len bytes ≡ 65535 },
+    ghost size: { vec_len bytes ≡ 131072 },
 }
 
 impl Buffer {
@@ -66,9 +70,9 @@ impl<W: Wire, M: Machine> Model for Lane<W, M> {
 
     ghost Value = { LaneView W M.Opening M.Job M.Said };
 
-    ghost view = { λ l. record { wire = l.wire; pass = l.pass; peer = l.peer; latest = l.latest; unnoted = l.unnoted } };
+    ghost view = { λ l. record { wire = l.wire; made_for = W.made_for l.wire; pass = l.pass; peer = l.peer; latest = l.latest; unnoted = l.unnoted } };
 
-    ghost invariant = { λ l. KeepsLane M.rules l.pass l.peer (W.sessions l.wire) (W.begun l.wire) (W.faults l.wire) l.latest l.unnoted × (vec_len l.buf ≡ 65535) };
+    ghost invariant = { λ l. KeepsLane M.rules l.pass l.peer (W.sessions l.wire) (W.begun l.wire) (W.faults l.wire) l.latest l.unnoted × (vec_len l.buf ≡ 131072) };
 }
 
 impl<W: Wire, M: Machine> Lane<W, M> {
@@ -84,7 +88,7 @@ impl<W: Wire, M: Machine> Lane<W, M> {
         requires sessions { IsFresh (W.sessions wire) }
         requires begun { W.begun wire ≡ 0 }
         requires faults { W.faults wire ≡ 0 }
-        ensures ok { IfOk result (λ lane. lane ≡ fresh_lane wire pass peer) }
+        ensures ok { IfOk result (λ lane. lane ≡ fresh_lane wire (W.made_for wire) pass peer) }
         ensures returned { IfErr result (λ back. (back.wire ≡ wire) × (back.pass ≡ pass)) }
     {
         let Ok(buffer) = Buffer::new(alloc) else {
@@ -100,7 +104,7 @@ impl<W: Wire, M: Machine> Lane<W, M> {
         requires sessions { IsFresh (W.sessions wire) }
         requires begun { W.begun wire ≡ 0 }
         requires faults { W.faults wire ≡ 0 }
-        ensures { result ≡ fresh_lane wire pass peer }
+        ensures { result ≡ fresh_lane wire (W.made_for wire) pass peer }
     {
         let Buffer { bytes } = buffer;
         Lane {
@@ -178,6 +182,49 @@ impl<W: Wire, M: Machine> Lane<W, M> {
         }
     }
 
+    /// Takes in one turn what there is for the peer, and gives the turn back; sends the packets of the open session with
+    /// one call, and then begins the session that ended the turn, if one did. Where a call of the wire fails the loss of
+    /// its session is asked of the board, and nothing is sent until a further session begins.
+    pub fn pump_round<R: Wait>(&mut self, rt: &R, turnstile: &Turnstile<Board<M>>) -> Round
+        requires here { self.old.pass.turnstile ≡ turnstile.now.id }
+        ensures same { IsSamePost self.old self.new }
+        ensures seen { StartsWith self.new.pass.seen self.old.pass.seen }
+        ensures told { TellsRound result (shown M.rules self.old) (shown M.rules self.new) }
+        ensures lost { result.end ≡ WasLost → Rose (W.faults self.old.wire) (W.faults self.new.wire) }
+        ensures unharmed { (result.end ≡ WasLost → ⊥) → W.faults self.new.wire ≡ W.faults self.old.wire }
+        ensures faults { W.faults self.old.wire ≤ W.faults self.new.wire }
+        ensures idle { result.end ≡ WasIdle → IdlesAt M.rules self.new.pass.root self.new.peer self.new.pass.seen }
+        ensures still { result.packets ≡ 0 → (result.end ≡ WasIdle) ⊎ (result.end ≡ WasStopped) → IsSameWire (W.sessions self.old.wire) (W.begun self.old.wire) (W.sessions self.new.wire) (W.begun self.new.wire) }
+    {
+        let buf = self.buf.as_mut_slice();
+        let taken = take_turn(rt, turnstile, &mut self.pass, self.peer, self.latest, buf);
+        let sent = send_taken(
+            rt,
+            turnstile,
+            &mut self.wire,
+            &mut self.pass,
+            self.peer,
+            self.latest,
+            buf,
+            taken.filled,
+        );
+        let begun = begin_taken(
+            rt,
+            turnstile,
+            &mut self.wire,
+            &mut self.pass,
+            self.peer,
+            taken.ending,
+            buf,
+        );
+        self.latest = open_after(self.latest, taken.ending, sent, begun);
+        self.unnoted = with_calls(self.unnoted, sent, begun);
+        Round {
+            packets: taken.packets,
+            end: outcome(taken.ending, sent, begun),
+        }
+    }
+
     /// Pumps until there is nothing more to send, and naps where there is nothing to send for now.
     #[tactic(auto, using(crate::proofs::Turns::starts_with_more))]
     pub fn work<R: Wait>(self, rt: &R, turnstile: &Turnstile<Board<M>>) -> Lane<W, M>
@@ -188,7 +235,7 @@ impl<W: Wire, M: Machine> Lane<W, M> {
     {
         let mut lane = self;
         for _ in rt.forever() {
-            match lane.pump(rt, turnstile) {
+            match lane.pump_round(rt, turnstile).end {
                 Pumped::Stopped => return lane,
                 Pumped::Idle => turnstile.nap(rt),
                 Pumped::Begun | Pumped::Sent | Pumped::Lost => {}
@@ -207,6 +254,7 @@ impl<W: Wire, M: Machine> Lane<W, M> {
     /// The wire and the pass. The wire holds what the pass was handed.
     pub fn into_parts(self) -> (W, Pass<Board<M>>)
         ensures wire { result.0 ≡ self.wire }
+        ensures made_for { W.made_for result.0 ≡ self.made_for }
         ensures pass { result.1 ≡ self.pass }
         ensures kept { KeepsLane M.rules self.pass self.peer (W.sessions self.wire) (W.begun self.wire) (W.faults self.wire) self.latest self.unnoted }
     {
@@ -229,20 +277,43 @@ fn room_of(alloc: Global, size: usize) -> Result<Vec<u8>, AllocError>
     Ok(vec![in alloc; 0u8; size]?)
 }
 
-/// Whether this session is open.
-fn is_open(latest: Option<u32>, session: u32) -> bool
-    ensures yes { result ≡ true → latest ≡ Some session }
-    ensures no { result ≡ false → latest ≡ Some session → ⊥ }
-{
-    match latest {
-        Some(open) => open == session,
-        None => false,
-    }
-}
-
 /// Whether a loss was not taken, after one more that was noted or not.
 fn with_loss(unnoted: bool, is_noted: bool) -> bool
     ensures { result ≡ (unnoted || is_unnoted (fate_of is_noted)) }
 {
     unnoted || !is_noted
+}
+
+/// The open session, after a turn and after the calls of the wire for it.
+fn open_after(latest: Option<u32>, ending: Ending, sent: Went, begun: Went) -> Option<u32>
+    ensures { result ≡ open_after latest ending sent begun }
+{
+    match (ending, sent, begun) {
+        (Ending::Begun { session }, _, Went::Well) => Some(session),
+        (Ending::Begun { .. }, _, Went::Ill { .. }) => None,
+        (_, Went::Well, _) => latest,
+        (_, Went::Ill { .. }, _) => None,
+    }
+}
+
+/// Whether a loss was not taken, after these calls of the wire.
+fn with_calls(unnoted: bool, sent: Went, begun: Went) -> bool
+    ensures { result ≡ ((unnoted || is_unnoted (fate_after sent)) || is_unnoted (fate_after begun)) }
+{
+    unnoted || sent.is_unnoted() || begun.is_unnoted()
+}
+
+/// What a turn came to, once the calls of the wire are made.
+fn outcome(ending: Ending, sent: Went, begun: Went) -> Pumped
+    ensures { result ≡ outcome ending sent begun }
+{
+    match (sent, begun) {
+        (Went::Well, Went::Well) => match ending {
+            Ending::Begun { .. } => Pumped::Begun,
+            Ending::Idle => Pumped::Idle,
+            Ending::Stop => Pumped::Stopped,
+            Ending::More => Pumped::Sent,
+        },
+        _ => Pumped::Lost,
+    }
 }

@@ -1,4 +1,4 @@
-//! What a lane's step answers.
+//! What a lane's step answers, and what a round of steps does.
 
 /// What one step of a lane came to.
 #[derive(Clone, Copy, Debug, PartialEq, Eq)]
@@ -13,4 +13,12 @@ pub enum Pumped {
     Lost,
     /// There is nothing more to send.
     Stopped,
+}
+
+/// What a round of a lane came to: how many packets were handed out in its turn, and how it ended. It ends as a step does;
+/// at `Sent` all packets are sent, and there may be more.
+#[derive(Clone, Copy, Debug, PartialEq, Eq)]
+pub struct Round {
+    pub packets: usize,
+    pub end: Pumped,
 }

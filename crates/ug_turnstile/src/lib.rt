@@ -1,6 +1,7 @@
 //! One turn between threads, and the history of the state that goes with it.
 #![tactic(auto)]
 
+mod bell;
 mod logged;
 mod pass;
 mod plays;
@@ -8,6 +9,7 @@ mod turn;
 mod turnstile;
 mod view;
 
+pub use bell::Bell;
 pub use logged::Logged;
 pub use pass::{Pass, PassList, PassOf};
 pub use turn::Turn;

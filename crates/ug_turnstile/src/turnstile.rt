@@ -5,6 +5,7 @@ ghost use Rattle.std.specs.List.{range_with_len};
 ghost use Rattle.ug_turnstile.specs.Passes.{mine, fresh_pass, Adds, IsSamePass, Agrees, Takes};
 ghost use Rattle.ug_turnstile.specs.Rule.{view, opened, pass_of};
 
+use crate::bell::Bell;
 use crate::logged::Logged;
 use crate::pass::{Pass, PassList, PassOf};
 use crate::plays::{Arrive, Claim, Deal, Gather, OneTurn, Opening, Release};
@@ -28,10 +29,13 @@ type Board<S> = Table<
     Global,
 >;
 
-/// A state that threads take turns with. Contracts see which turnstile it is, and how many passes it has.
+/// A state that threads take turns with, and two bells for those that wait for others to have had theirs. Contracts see
+/// which turnstile it is, and how many passes it has.
 #[derive(Drop)]
 pub struct Turnstile<S: Logged> {
     table: Board<S>,
+    news: Bell,
+    back: Bell,
 }
 
 impl<S: Logged> Model for Turnstile<S> {
@@ -60,7 +64,12 @@ impl<S: Logged> Turnstile<S> {
         }
         let (table, base) = lay(alloc, state, n)?;
         let passes = deal(&table.shared, base, n, passes);
-        Ok((Turnstile { table }, passes))
+        let turnstile = Turnstile {
+            table,
+            news: Bell::new(),
+            back: Bell::new(),
+        };
+        Ok((turnstile, passes))
     }
 
     /// Waits for the turn, and takes it. The state has the pass's root, and its entries, which are now all that the pass
@@ -99,6 +108,16 @@ impl<S: Logged> Turnstile<S> {
         self.put_home(pass, state);
     }
 
+    /// The bell that is rung where there may be something to do for those that wait for work.
+    pub fn news(&self) -> &Bell {
+        &self.news
+    }
+
+    /// The bell that is rung where those that wait for work have done what there was.
+    pub fn back(&self) -> &Bell {
+        &self.back
+    }
+
     /// Pauses for a moment, in which other threads may have the processor. It says nothing of how long.
     pub fn nap<R: Wait>(&self, rt: &R) {
         let backoff = Backoff::new();
@@ -118,7 +137,7 @@ impl<S: Logged> Turnstile<S> {
         ensures agrees { All (Agrees S.owner (S.root result) (S.entries result)) passes.items }
         ensures owned { All (λ e. Any (λ p. p.number ≡ S.owner e) passes.items) (S.entries result) }
     {
-        let Turnstile { table } = self;
+        let Turnstile { table, .. } = self;
         let base = gather(&table.shared, passes);
         let mut closed = table.close_with(base);
         let home = closed.take(0);

@@ -1,7 +1,7 @@
 use Rattle.std.proofs.Common.{sym, subst}
 use denote.Exit.{no}
 use denote.Param.Send.{param_send, param_sync, arg_send, arg_sync}
-use Rattle.ug_crew.specs.Posts.{AreHere}
+use Rattle.ug_sender.specs.Posts.{AreHere}
 use Rattle.ug_event_loop.proofs.beside.beside.Goals as goal
 
 pub scoped-requires : goal.scoped-requires

@@ -26,7 +26,7 @@ loop-count-init g c =
       most = omega arith;
       faults = refl;
       files = refl;
-      is_picked = refl;
+      picks = refl;
       made = refl;
       wire_faults = refl;
     }
@@ -142,7 +142,7 @@ loop-count-preserved g c =
           c.loop-count.invariant.same.pass.2 c.loop-count.invariant.most c.in-Ok-take_piece.ensures.steps_most;
       faults = c.in-Ok-read.ensures.unharmed ∙ c.loop-count.invariant.faults;
       files = c.in-Ok-read.ensures.files ∙ c.loop-count.invariant.files;
-      is_picked = c.in-Ok-read.ensures.is_picked ∙ c.loop-count.invariant.is_picked;
+      picks = c.in-Ok-read.ensures.picks ∙ c.loop-count.invariant.picks;
       made = c.in-Ok-read.ensures.made ∙ c.loop-count.invariant.made;
       wire_faults = c.in-Ok-read.ensures.wire_faults ∙ c.loop-count.invariant.wire_faults;
     }

@@ -8,6 +8,7 @@ loop-at-init g c = record {
   sent = SendsPiece-none (g.W.Wire.sessions c.args.wire.now);
   faults = search rules;
   begun = search rules;
+  made_for = search rules;
 }
 
 pub loop-at-preserved : goal.loop-at-preserved
@@ -16,4 +17,5 @@ loop-at-preserved g c = record {
   sent = rw (take-add, ← c.split_at.ensures.back) (SendsPiece-more _ _ _ _ _ c.loop-at.invariant.sent c.in_ok-n.ensures.sent);
   faults = search rules;
   begun = search rules;
+  made_for = search rules;
 }

@@ -8,6 +8,7 @@ invariant-loop-at g l = record {
   sent : SendsPiece (g.W.Wire.sessions l.fn.wire) (g.W.Wire.sessions l.wire) (take l.at l.message);
   faults : g.W.Wire.faults l.wire ≡ g.W.Wire.faults l.fn.wire;
   begun : g.W.Wire.begun l.wire ≡ g.W.Wire.begun l.fn.wire;
+  made_for : g.W.Wire.made_for l.wire ≡ g.W.Wire.made_for l.fn.wire;
 }
 
 abbrev pub decreases-loop-at : goal.decreases-loop-at

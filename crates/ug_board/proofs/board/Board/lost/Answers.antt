@@ -4,14 +4,14 @@ use Rattle.ug_board.specs.Rules.{counts}
 use Rattle.ug_board.proofs.Histories.{IsLegal-grown, IsInStep-lane}
 use Rattle.ug_board.proofs.board.Board.lost.Goals as goal
 
-pub returns-then-may_lose-clause-legal : goal.returns-then-may_lose-clause-legal
-returns-then-may_lose-clause-legal g c =
+pub returns-then-may_lose_behind-clause-legal : goal.returns-then-may_lose_behind-clause-legal
+returns-then-may_lose_behind-clause-legal g c =
     let unspent : c.self.inside.spent ≡ false = search rules in
     let in_step = c.self.invariant.1 unspent in
-    let may : counts g.M.Machine.rules (Lost c.args.peer c.args.session) (g.M.Machine.state c.self.inside.machine) ≡ true =
-    sym c.may_lose.ensures ∙ c.if-may_lose.true in
-    IsLegal-grown g.M.Machine.rules _ _ _ _ c.of_lost.result (g.M.Machine.state c.self.inside.machine)
-    c.lane-said.ensures.opening in_step.stands c.self.invariant.0
+    let may : counts g.M.Machine.rules (Lost c.args.peer c.args.session) (g.M.Machine.state c.self.inside.machine.value) ≡ true =
+    sym c.may_lose_behind.ensures ∙ c.if-may_lose_behind.true in
+    IsLegal-grown g.M.Machine.rules _ _ _ _ c.of_lost.result (g.M.Machine.state c.self.inside.machine.value)
+    c.lane_behind-said.ensures.opening in_step.stands c.self.invariant.0
     (rw c.of_lost.ensures (may, refl)) c.record.ensures.items
 
 pub invariant_of-self : goal.invariant_of-self
@@ -19,10 +19,10 @@ invariant_of-self g c =
     let laws = g.met.M.Machine g.world.𝓛 g.world.𝓜 g.world.𝓡 ((λ s x. x), (λ x. x), (λ x. x), λ x. x) in
     let unspent : c.self.inside.spent ≡ false = search rules in
     let in_step = c.self.invariant.1 unspent in
-    let may : counts g.M.Machine.rules (Lost c.args.peer c.args.session) (g.M.Machine.state c.self.inside.machine) ≡ true =
-    sym c.may_lose.ensures ∙ c.if-may_lose.true in (
-      returns-then-may_lose-clause-legal g c,
+    let may : counts g.M.Machine.rules (Lost c.args.peer c.args.session) (g.M.Machine.state c.self.inside.machine.value) ≡ true =
+    sym c.may_lose_behind.ensures ∙ c.if-may_lose_behind.true in (
+      returns-then-may_lose_behind-clause-legal g c,
       λ same. IsInStep-lane g.M.Machine.rules laws.lawful _ _ _ _ c.of_lost.result _ _ _ _ _ _ (Lost c.args.peer c.args.session)
-          c.lane-said.ensures.opening in_step (rw c.of_lost.ensures refl) may c.lane-said.ensures.state
-          c.record.ensures.items c.record.ensures.spare c.lane-said.ensures.jobs,
+          c.lane_behind-said.ensures.opening in_step (rw c.of_lost.ensures refl) may c.lane_behind-said.ensures.state
+          c.record.ensures.items c.record.ensures.spare c.lane_behind-said.ensures.jobs,
     )

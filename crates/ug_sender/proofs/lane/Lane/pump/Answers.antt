@@ -1,4 +1,4 @@
-use Rattle.std.proofs.Common.{rules, arith, length, ◌≡◌, [], ◌∷◌, ◌++◌, take, true, false, Some, ◌∙◌, ap, subst}
+use Rattle.std.proofs.Common.{rules, arith, length, ◌≡◌, [], ◌∷◌, ◌++◌, take, true, false, ◌∙◌, ap, subst}
 use Rattle.ug_edge.specs.Told.{SendsPiece}
 use Rattle.ug_sender.specs.Courses.{Whole, fate_of}
 use Rattle.ug_sender.specs.Pieces.{SendsFront}

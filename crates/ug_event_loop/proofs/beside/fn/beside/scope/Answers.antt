@@ -2,7 +2,7 @@ use Rattle.std.proofs.Common.{◌≡◌, ap, sym, ◌∙◌, subst, refl, arith,
 use Rattle.std.specs.Prelude.{slice_get}
 use denote.Exit.{no}
 use denote.Param.Send.{param_send, param_sync, arg_send, arg_sync}
-use Rattle.ug_crew.specs.Posts.{AreHere, post_of}
+use Rattle.ug_sender.specs.Posts.{AreHere, post_of}
 use Rattle.ug_event_loop.proofs.beside.fn.beside.scope.Goals.{in-Ok+in-Ok-spawn_with, in-Ok+in-Err-spawn_with, in-Err}
 use Rattle.ug_event_loop.proofs.beside.fn.beside.scope.Goals as goal
 

@@ -1,0 +1,212 @@
+-- What the answer of a round says of what it did.
+use Rattle.std.proofs.Common.{◌≡◌, ℕ, ◌<◌, ◌≤◌, Bool, true, false, List, [], ◌∷◌, ◌++◌, length, map, Option, Some, None, refl, sym, ◌∙◌, ap, subst, arith, inl, inr, take, append_assoc}
+use Rattle.std.specs.Prelude.{◌||◌, ◌⊎◌, IsSome}
+use Rattle.std.proofs.lemmas.List.{append-nil}
+use Rattle.std.proofs.lemmas.List.{length-take-le}
+use Rattle.ug_edge.specs.Told.{Rose, SendsPiece}
+use Rattle.ug_history_rules.specs.Deeds.{Deed, Begins, Loses}
+use Rattle.ug_sender.specs.declared.pumped.Pumped.TheVariants.{Idle as WasIdle, Lost as WasLost, Stopped as WasStopped}
+use Rattle.ug_sender.specs.declared.pumped.Round.{Round}
+use Rattle.ug_sender.specs.declared.turn.Ending.{Ending}
+use Rattle.ug_sender.specs.declared.turn.Ending.TheVariants.{Begun, Idle, Stop, More}
+use Rattle.ug_sender.specs.declared.turn.Taken.{Taken}
+use Rattle.ug_sender.specs.declared.sending.Went.{Went}
+use Rattle.ug_sender.specs.declared.sending.Went.TheVariants.{Well, Ill}
+use Rattle.ug_sender.specs.Courses.{Course, is_unnoted, KeepsWire}
+use Rattle.ug_sender.specs.Rounds.{Packet, hands, bytes_in, ending_deeds, begun_by, TellsTurn, SendsBy, BeginsBy, IsBelow, TellsWent, CountsFault, fate_after, open_after, outcome, outcome_of, TellsEnd, TellsRound}
+use Rattle.ug_sender.specs.Tellings.{IsSameWire, Shown}
+use Rattle.ug_sender.proofs.Pieces.{nothing-sent}
+use Rattle.ug_sender.proofs.Wires.{or-false}
+
+-- Where a session is open, one was begun on the wire.
+pub begun-some :
+    (cs : List Course) (ds : List (Deed (List ℕ))) (told : Option (List (List ℕ))) (begun faults : ℕ) (latest : Option ℕ) (unnoted : Bool)
+    → KeepsWire cs ds told begun faults latest unnoted → IsSome latest → 0 < begun
+begun-some [] ds told begun faults None unnoted kept some = cc
+begun-some [] ds told begun faults (Some n) unnoted kept some = let at = kept.latest in cc
+begun-some (c ∷ cs) ds told begun faults latest unnoted kept some = let b = kept.begun in omega arith
+
+bytes-none : (packets : List Packet) → bytes_in None packets ≡ []
+bytes-none [] = refl
+bytes-none (packet ∷ packets) = bytes-none packets
+
+-- Where no session is open, nothing fills the buffer.
+pub filled-none : (taken : Taken) (buf : List ℕ) (ds ds' : List (Deed (List ℕ))) → TellsTurn None taken buf ds ds' → taken.filled ≡ 0
+filled-none taken buf ds ds' turn =
+    let f = turn.filled in
+    let none : length (take taken.filled buf) ≡ 0 = ap length (turn.bytes ∙ bytes-none turn.packets) in
+    omega (arith, length-take-le taken.filled buf turn.filled)
+
+pub below-as : (ending : Ending) (a b : ℕ) → b ≡ a → IsBelow a ending → IsBelow b ending
+below-as ending a b same below = subst (λ n. IsBelow n ending) (sym same) below
+
+-- How the answer tells what ended the turn
+
+pub idle-outcome : (ending : Ending) (sent begun : Went) → outcome ending sent begun ≡ WasIdle → (ending ≡ Idle) × (sent ≡ Well) × (begun ≡ Well)
+idle-outcome (Begun n) Well Well is = cc
+idle-outcome Idle Well Well is = (refl, refl, refl)
+idle-outcome Stop Well Well is = cc
+idle-outcome More Well Well is = cc
+idle-outcome ending Well (Ill noted) is = cc
+idle-outcome ending (Ill noted) begun is = cc
+
+pub stop-outcome : (ending : Ending) (sent begun : Went) → outcome ending sent begun ≡ WasStopped → (ending ≡ Stop) × (sent ≡ Well) × (begun ≡ Well)
+stop-outcome (Begun n) Well Well is = cc
+stop-outcome Idle Well Well is = cc
+stop-outcome Stop Well Well is = (refl, refl, refl)
+stop-outcome More Well Well is = cc
+stop-outcome ending Well (Ill noted) is = cc
+stop-outcome ending (Ill noted) begun is = cc
+
+well-not-lost : (ending : Ending) → outcome_of ending ≡ WasLost → ⊥
+well-not-lost (Begun n) is = cc
+well-not-lost Idle is = cc
+well-not-lost Stop is = cc
+well-not-lost More is = cc
+
+-- Faults
+
+rose-then : (a b c : ℕ) → Rose a b → b ≤ c → Rose a c
+rose-then a b c (inl less) most = let few : a < c = omega arith in inl few
+rose-then a b c (inr full) most = inr full
+
+pub round-rose :
+    (ending : Ending) (sent begun : Went) (f0 f1 f2 : ℕ) → CountsFault sent f0 f1 → CountsFault begun f1 f2 → outcome ending sent begun ≡ WasLost → Rose f0 f2
+round-rose ending Well Well f0 f1 f2 first second is = absurd (well-not-lost ending is)
+round-rose ending Well (Ill noted) f0 f1 f2 first second is = subst (λ f. Rose f f2) first second.0
+round-rose ending (Ill noted) Well f0 f1 f2 first second is = subst (λ f. Rose f0 f) (sym second) first.0
+round-rose ending (Ill noted) (Ill other) f0 f1 f2 first second is = rose-then f0 f1 f2 first.0 second.1
+
+pub round-unharmed :
+    (ending : Ending) (sent begun : Went) (f0 f1 f2 : ℕ) → CountsFault sent f0 f1 → CountsFault begun f1 f2 → (outcome ending sent begun ≡ WasLost → ⊥) → f2 ≡ f0
+round-unharmed ending Well Well f0 f1 f2 first second other = second ∙ first
+round-unharmed ending Well (Ill noted) f0 f1 f2 first second other = absurd (other refl)
+round-unharmed ending (Ill noted) begun f0 f1 f2 first second other = absurd (other refl)
+
+counts-up : (went : Went) (f f' : ℕ) → CountsFault went f f' → f ≤ f'
+counts-up Well f f' count = omega arith
+counts-up (Ill noted) f f' count = count.1
+
+pub round-faults : (sent begun : Went) (f0 f1 f2 : ℕ) → CountsFault sent f0 f1 → CountsFault begun f1 f2 → f0 ≤ f2
+round-faults sent begun f0 f1 f2 first second =
+    let a = counts-up sent f0 f1 first in let b = counts-up begun f1 f2 second in omega arith
+
+-- A round without packets, at whose end there was nothing to send, leaves the wire as it is.
+
+no-packets : (packets : List Packet) → length packets ≡ 0 → packets ≡ []
+no-packets [] none = refl
+no-packets (packet ∷ packets) none = let bad : ⊥ = omega arith in absurd bad
+
+begins-none : (ending : Ending) (told told' : Option (List (List ℕ))) (begun begun' : ℕ) → (ending ≡ Idle) ⊎ (ending ≡ Stop) → BeginsBy ending told begun told' begun' → IsSameWire told begun told' begun'
+begins-none (Begun n) told told' begun begun' (inl is) begins_it = cc
+begins-none (Begun n) told told' begun begun' (inr is) begins_it = cc
+begins-none Idle told told' begun begun' is begins_it = begins_it
+begins-none Stop told told' begun begun' is begins_it = begins_it
+begins-none More told told' begun begun' is begins_it = begins_it
+
+ended-idly : (ending : Ending) (sent begun : Went) → (outcome ending sent begun ≡ WasIdle) ⊎ (outcome ending sent begun ≡ WasStopped) → ((ending ≡ Idle) ⊎ (ending ≡ Stop)) × (sent ≡ Well)
+ended-idly ending sent begun (inl is) = let all = idle-outcome ending sent begun is in (inl all.0, all.1)
+ended-idly ending sent begun (inr is) = let all = stop-outcome ending sent begun is in (inr all.0, all.1)
+
+pub round-still :
+    (taken : Taken) (buf : List ℕ) (sent begun : Went) (latest : Option ℕ) (ds ds' : List (Deed (List ℕ)))
+    (told0 told1 told2 : Option (List (List ℕ))) (begun0 begun1 begun2 : ℕ)
+    → TellsTurn latest taken buf ds ds' → SendsBy sent told0 told1 (take taken.filled buf) → begun1 ≡ begun0
+    → BeginsBy taken.ending told1 begun1 told2 begun2 → taken.packets ≡ 0
+    → (outcome taken.ending sent begun ≡ WasIdle) ⊎ (outcome taken.ending sent begun ≡ WasStopped)
+    → IsSameWire told0 begun0 told2 begun2
+round-still taken buf sent begun latest ds ds' told0 told1 told2 begun0 begun1 begun2 turn sends counted begins_it none is =
+    let ended = ended-idly taken.ending sent begun is in
+    let empty : bytes_in latest turn.packets ≡ [] = ap (bytes_in latest) (no-packets turn.packets (sym turn.count ∙ none)) in
+    let nothing : SendsPiece told0 told1 [] = subst (λ m. SendsPiece told0 told1 m) (turn.bytes ∙ empty) (subst (λ w. SendsBy w told0 told1 (take taken.filled buf)) ended.1 sends) in
+    let same = begins-none taken.ending told1 told2 begun1 begun2 ended.0 begins_it in
+    (same.0 ∙ nothing-sent told0 told1 nothing, same.1 ∙ counted)
+
+-- What a round tells
+
+begun_numbers : Ending → List ℕ
+begun_numbers (Begun n) = n ∷ []
+begun_numbers Idle = []
+begun_numbers Stop = []
+begun_numbers More = []
+
+ending-numbers : (ending : Ending) → ending_deeds ending ≡ map (λ n. Begins n) (begun_numbers ending)
+unfolding begun_numbers
+ending-numbers (Begun n) = refl
+ending-numbers Idle = refl
+ending-numbers Stop = refl
+ending-numbers More = refl
+
+-- the losses that a call leads to
+Losses : List (Deed (List ℕ)) → List (Deed (List ℕ)) → Type 0
+Losses old new = (lost : List ℕ) × (new ≡ old ++ map (λ n. Loses n) lost)
+
+went-losses : (went : Went) (session : Option ℕ) (old new : List (Deed (List ℕ))) → TellsWent went session old new → Losses old new
+unfolding Losses
+went-losses Well session old new tells = ([], tells ∙ sym (append-nil old))
+went-losses (Ill noted) None old new tells = absurd tells
+went-losses (Ill true) (Some n) old new tells = (n ∷ [], tells)
+went-losses (Ill false) (Some n) old new tells = ([], tells ∙ sym (append-nil old))
+
+abbrev loses : List ℕ → List (Deed (List ℕ))
+loses numbers = map (λ n. Loses n) numbers
+
+map-both : (a b : List ℕ) → loses (a ++ b) ≡ loses a ++ loses b
+map-both [] b = refl
+map-both (x ∷ a) b = ap (λ l. Loses x ∷ l) (map-both a b)
+
+lost-told :
+    (ending : Ending) (ds0 ds1 ds2 ds3 : List (Deed (List ℕ))) → ds1 ≡ ds0 ++ ending_deeds ending → Losses ds1 ds2 → Losses ds2 ds3
+    → (begun : List ℕ) × (lost : List ℕ) × (ds3 ≡ ds0 ++ (map (λ n. Begins n) begun ++ map (λ n. Loses n) lost))
+unfolding Losses
+lost-told ending ds0 ds1 ds2 ds3 grown first second =
+    let b : List (Deed (List ℕ)) = map (λ n. Begins n) (begun_numbers ending) in
+    let l1 = map (λ n. Loses n) first.0 in
+    let l2 = map (λ n. Loses n) second.0 in (
+      begun_numbers ending,
+      first.0 ++ second.0,
+      second.1 ∙ (ap (λ d. d ++ l2) (first.1 ∙ ap (λ d. d ++ l1) (grown ∙ ap (λ d. ds0 ++ d) (ending-numbers ending)))
+          ∙ (append_assoc (ds0 ++ b) l1 l2 ∙ (append_assoc ds0 b (l1 ++ l2) ∙ ap (λ l. ds0 ++ (b ++ l)) (sym (map-both first.0 second.0))))),
+    )
+
+abbrev shows : List (Deed (List ℕ)) → Option ℕ → Bool → Shown
+shows deeds latest unnoted = record { deeds = deeds; latest = latest; unnoted = unnoted }
+
+same-shown :
+    (ds ds' : List (Deed (List ℕ))) (latest : Option ℕ) (u u' : Bool) → ds' ≡ ds → u' ≡ u → shows ds' latest u' ≡ shows ds latest u
+same-shown ds ds' latest u u' same known = ap (λ d. shows d latest u') same ∙ ap (λ b. shows ds latest b) known
+
+twice-false : (u : Bool) → ((u || false) || false) ≡ u
+twice-false u = or-false (u || false) ∙ or-false u
+
+pub round-told :
+    (ending : Ending) (sent begun : Went) (latest : Option ℕ) (u : Bool) (ds0 ds1 ds2 ds3 : List (Deed (List ℕ)))
+    → ds1 ≡ ds0 ++ ending_deeds ending → TellsWent sent latest ds1 ds2 → TellsWent begun (begun_by ending) ds2 ds3
+    → TellsEnd (outcome ending sent begun) (record { deeds = ds0; latest = latest; unnoted = u })
+    (record { deeds = ds3; latest = open_after latest ending sent begun; unnoted = ((u || is_unnoted (fate_after sent)) || is_unnoted (fate_after begun)) })
+round-told (Begun n) Well Well latest u ds0 ds1 ds2 ds3 grown first second = (n, second ∙ (first ∙ grown), refl, twice-false u)
+round-told Idle Well Well latest u ds0 ds1 ds2 ds3 grown first second =
+    same-shown ds0 ds3 latest u _ (second ∙ (first ∙ (grown ∙ append-nil ds0))) (twice-false u)
+round-told Stop Well Well latest u ds0 ds1 ds2 ds3 grown first second =
+    same-shown ds0 ds3 latest u _ (second ∙ (first ∙ (grown ∙ append-nil ds0))) (twice-false u)
+round-told More Well Well latest u ds0 ds1 ds2 ds3 grown first second =
+    same-shown ds0 ds3 latest u _ (second ∙ (first ∙ (grown ∙ append-nil ds0))) (twice-false u)
+round-told ending Well (Ill noted) latest u ds0 ds1 ds2 ds3 grown first second =
+    lost-told ending ds0 ds1 ds2 ds3 grown (went-losses Well latest ds1 ds2 first) (went-losses (Ill noted) (begun_by ending) ds2 ds3 second)
+round-told ending (Ill noted) begun latest u ds0 ds1 ds2 ds3 grown first second =
+    lost-told ending ds0 ds1 ds2 ds3 grown (went-losses (Ill noted) latest ds1 ds2 first) (went-losses begun (begun_by ending) ds2 ds3 second)
+
+-- the answer of a round, by what its calls answered
+pub round-tells :
+    (round : Round) (d0 d3 : List (Deed (List ℕ))) (l0 l3 : Option ℕ) (u0 u3 : Bool)
+    (taken : Taken) (buf : List ℕ) (sent begun : Went) (latest : Option ℕ) (u : Bool) (ds0 ds1 ds2 : List (Deed (List ℕ)))
+    → TellsTurn latest taken buf ds0 ds1 → TellsWent sent latest ds1 ds2 → TellsWent begun (begun_by taken.ending) ds2 d3
+    → round.packets ≡ taken.packets → round.end ≡ outcome taken.ending sent begun
+    → d0 ≡ ds0 → l0 ≡ latest → u0 ≡ u → l3 ≡ open_after latest taken.ending sent begun
+    → u3 ≡ ((u || is_unnoted (fate_after sent)) || is_unnoted (fate_after begun))
+    → TellsRound round (shows d0 l0 u0) (shows d3 l3 u3)
+round-tells round d0 d3 l0 l3 u0 u3 taken buf sent begun latest u ds0 ds1 ds2 turn first second packets end deeds was known is gone =
+    let grown : ds1 ≡ (ds0 ++ hands turn.packets) ++ ending_deeds taken.ending =
+    turn.grown ∙ sym (append_assoc ds0 (hands turn.packets) (ending_deeds taken.ending)) in
+    let told = round-told taken.ending sent begun latest u (ds0 ++ hands turn.packets) ds1 ds2 d3 grown first second in
+    (turn.packets, packets ∙ turn.count, rw (end, deeds, was, known, is, gone) told)

@@ -1,0 +1,148 @@
+//! The workers of a run.
+
+ghost use Rattle.std.specs.Prelude.{◌≡◌, ◌≤◌, [], length, IfOk, IfErr};
+ghost use Rattle.std.specs.Vec.{vec_len, vec_capacity};
+ghost use Rattle.ug_sender.specs.Posts.{AreHere, posts};
+
+use crate::lane::Lane;
+use crate::worker::Worker;
+use std::alloc::Global;
+use std::marker::Model;
+use std::sync::Wait;
+use std::thread::Threads;
+use ug_board::{Board, Machine};
+use ug_edge::Wire;
+use ug_turnstile::Turnstile;
+use ug_types::Sequence;
+
+/// The workers of a run, in the order of their lanes. Contracts see the posts of the lanes, which stay as they are.
+#[derive(Drop)]
+pub struct Crew<W: Wire, M: Machine> {
+    workers: Vec<Worker<W, M>>,
+    room: Vec<Lane<W, M>>,
+}
+
+impl<W: Wire, M: Machine> Model for Crew<W, M> {
+    ghost use Rattle.std.specs.Prelude.{◌≡◌, ◌≤◌, [], List};
+    ghost use Rattle.std.specs.Vec.{vec_len, vec_capacity};
+    ghost use Rattle.ug_sender.specs.Posts.{Post};
+
+    ghost Value = { List (Post M.Opening) };
+
+    ghost view = { λ c. c.workers.items };
+
+    ghost invariant = { λ c. (c.room.items ≡ []) × (vec_len c.workers ≤ vec_capacity c.room) };
+}
+
+impl<W: Wire, M: Machine> Crew<W, M> {
+    /// A crew of these lanes, each of which works here. Want of memory hands them back.
+    pub fn new(
+        alloc: Global,
+        lanes: Sequence<Lane<W, M>>,
+    ) -> Result<Crew<W, M>, Sequence<Lane<W, M>>>
+        ensures ok { IfOk result (λ crew. crew ≡ posts lanes.items) }
+        ensures returned { IfErr result (λ back. back.items ≡ lanes.items) }
+    {
+        let count = lanes.len();
+        let Ok(workers) = Vec::with_capacity(alloc, count) else {
+            return Err(lanes);
+        };
+        let Ok(room) = Vec::with_capacity(alloc, count) else {
+            return Err(lanes);
+        };
+        Ok(Crew {
+            workers: enlist(lanes, workers),
+            room,
+        })
+    }
+
+    /// A crew of these workers, with room for their lanes.
+    pub fn of(workers: Vec<Worker<W, M>>, room: Vec<Lane<W, M>>) -> Crew<W, M>
+        requires none { room.items ≡ [] }
+        requires room { vec_len workers ≤ vec_capacity room }
+        ensures { result ≡ workers.items }
+    {
+        Crew { workers, room }
+    }
+
+    /// The workers, and room for their lanes.
+    pub fn into_parts(self) -> (Vec<Worker<W, M>>, Vec<Lane<W, M>>)
+        ensures workers { result.0.items ≡ self }
+        ensures none { result.1.items ≡ [] }
+        ensures room { vec_len result.0 ≤ vec_capacity result.1 }
+    {
+        let Crew { workers, room } = self;
+        (workers, room)
+    }
+
+    /// The number of workers.
+    pub fn len(&self) -> usize
+        ensures { result ≡ length self.now }
+    {
+        self.workers.len()
+    }
+
+    /// Pumps each lane that works here, in order, until there is nothing to send, and answers whether one of them did
+    /// anything. Lanes in threads are left alone.
+    pub fn pump_here<R: Wait>(&mut self, rt: &R, turnstile: &Turnstile<Board<M>>) -> bool
+        requires here { AreHere turnstile.now.id self.old }
+        ensures posts { self.new ≡ self.old }
+    {
+        let mut has_done = false;
+        for place in 0..self.workers.len() {
+            if self.workers[place].pump_out(rt, turnstile) {
+                has_done = true;
+            }
+        }
+        has_done
+    }
+
+    /// Pumps each lane that works here, in order, until there is nothing more to send.
+    pub fn pump_to_end<R: Wait>(&mut self, rt: &R, turnstile: &Turnstile<Board<M>>)
+        requires here { AreHere turnstile.now.id self.old }
+        ensures posts { self.new ≡ self.old }
+    {
+        for place in 0..self.workers.len() {
+            self.workers[place].pump_to_end(rt, turnstile);
+        }
+    }
+
+    /// The lanes in their order, once the threads are done. It takes no memory.
+    pub fn join<R: Threads>(self, rt: &R) -> Sequence<Lane<W, M>>
+        ensures { posts result.items ≡ self }
+    {
+        let Crew { workers, room } = self;
+        gather(rt, workers, room)
+    }
+}
+
+/// The lanes as workers, for which there is room.
+fn enlist<W: Wire, M: Machine>(
+    lanes: Sequence<Lane<W, M>>,
+    mut workers: Vec<Worker<W, M>>,
+) -> Vec<Worker<W, M>>
+    requires none { workers.items ≡ [] }
+    requires room { length lanes.items ≤ vec_capacity workers }
+    ensures { result.items ≡ posts lanes.items }
+{
+    for lane in lanes.into_vec() {
+        workers.push_reserved(Worker::here(lane));
+    }
+    workers
+}
+
+/// The lanes of the workers, for which there is room.
+fn gather<R: Threads, W: Wire, M: Machine>(
+    rt: &R,
+    workers: Vec<Worker<W, M>>,
+    mut lanes: Vec<Lane<W, M>>,
+) -> Sequence<Lane<W, M>>
+    requires none { lanes.items ≡ [] }
+    requires room { vec_len workers ≤ vec_capacity lanes }
+    ensures { posts result.items ≡ workers.items }
+{
+    for worker in workers {
+        lanes.push_reserved(worker.join(rt));
+    }
+    Sequence::from_vec(lanes)
+}

@@ -1,0 +1,121 @@
+//! A worker: a lane that works in a thread of its own, or here.
+
+ghost use Rattle.std.specs.Prelude.{◌≡◌, IfOk, IfErr};
+ghost use Rattle.ug_sender.specs.Posts.{post_of};
+
+use crate::lane::Lane;
+use crate::serve::{pump_out, pump_to_end};
+use std::marker::Model;
+use std::snapshot::Snapshot;
+use std::sync::Wait;
+use std::thread::{Promise, PromisedHandle, Threads};
+use ug_board::{Board, Machine};
+use ug_edge::Wire;
+use ug_turnstile::Turnstile;
+
+/// The promise of a thread that is given a lane: the lane comes back, at the same post.
+#[derive(Drop)]
+pub struct SamePost<W: Wire, M: Machine>(Snapshot<Lane<W, M>>);
+
+impl<W: Wire, M: Machine> SamePost<W, M> {
+    /// The promise of the post of this lane.
+    pub fn of(lane: &Lane<W, M>) -> Self
+        ensures { result.0.value ≡ lane.now }
+    {
+        SamePost(Snapshot::of(lane))
+    }
+}
+
+impl<W: Wire, M: Machine> Promise<Lane<W, M>> for SamePost<W, M> {
+    ghost kept_by = { λ promise lane. post_of lane ≡ post_of promise.0.value };
+}
+
+/// Where a worker is.
+#[derive(Drop)]
+enum Place<L, H> {
+    /// The lane works here, whenever it is pumped.
+    Here(L),
+    /// The lane works in this thread.
+    Apart(H),
+}
+
+pub type Child<W, M> = PromisedHandle<Lane<W, M>, SamePost<W, M>>;
+
+/// A lane that works in a thread of its own, or here. Contracts see its post.
+#[derive(Drop)]
+pub struct Worker<W: Wire, M: Machine> {
+    place: Place<Lane<W, M>, Child<W, M>>,
+}
+
+impl<W: Wire, M: Machine> Model for Worker<W, M> {
+    ghost use Rattle.ug_sender.specs.Posts.{Post, post_of};
+
+    ghost Value = { Post M.Opening };
+
+    ghost use Rattle.ug_sender.specs.Places.{at_place};
+
+    ghost view = { λ w. at_place (λ lane. post_of lane) (λ child. post_of child.promise.0.value) w.place };
+}
+
+impl<W: Wire, M: Machine> Worker<W, M> {
+    /// A lane that works here.
+    pub fn here(lane: Lane<W, M>) -> Self
+        ensures { result ≡ post_of lane }
+    {
+        Worker {
+            place: Place::Here(lane),
+        }
+    }
+
+    /// A lane that works in this thread.
+    pub fn apart(child: Child<W, M>) -> Self
+        ensures { result ≡ post_of child.promise.0.value }
+    {
+        Worker {
+            place: Place::Apart(child),
+        }
+    }
+
+    /// Pumps a lane that works here until there is nothing to send, and answers whether it did anything.
+    pub fn pump_out<R: Wait>(&mut self, rt: &R, turnstile: &Turnstile<Board<M>>) -> bool
+        requires here { self.old.turnstile ≡ turnstile.now.id }
+        ensures post { self.new ≡ self.old }
+    {
+        match &mut self.place {
+            Place::Here(lane) => pump_out(rt, turnstile, lane),
+            Place::Apart(_) => false,
+        }
+    }
+
+    /// Pumps a lane that works here until there is nothing more to send.
+    pub fn pump_to_end<R: Wait>(&mut self, rt: &R, turnstile: &Turnstile<Board<M>>)
+        requires here { self.old.turnstile ≡ turnstile.now.id }
+        ensures post { self.new ≡ self.old }
+    {
+        match &mut self.place {
+            Place::Here(lane) => pump_to_end(rt, turnstile, lane),
+            Place::Apart(_) => {}
+        }
+    }
+
+    /// The lane where it works here, and else the worker.
+    pub fn into_here(self) -> Result<Lane<W, M>, Self>
+        ensures here { IfOk result (λ lane. post_of lane ≡ self) }
+        ensures apart { IfErr result (λ worker. worker ≡ self) }
+    {
+        match self.place {
+            Place::Here(lane) => Ok(lane),
+            Place::Apart(child) => Err(Worker::apart(child)),
+        }
+    }
+
+    /// The lane, once its thread is done.
+    pub fn join<R: Threads>(self, rt: &R) -> Lane<W, M>
+        ensures { post_of result ≡ self }
+    {
+        match self.place {
+            Place::Here(lane) => lane,
+            Place::Apart(child) => child.join(rt),
+        }
+    }
+}
