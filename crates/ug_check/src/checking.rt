@@ -28,9 +28,10 @@ pub fn check<E: Source, K: Sink>(
     ensures unread { IsErrOf result Stop.Read → Rose (E.faults source.old) (E.faults source.new) }
     ensures failed { IsErrOf result Stop.Report → Rose (K.faults report.old) (K.faults report.new) }
     ensures report_faults { K.faults report.old ≤ K.faults report.new }
+    ensures unharmed { (IsErrOf result Stop.Read → ⊥) → E.faults source.new ≡ E.faults source.old }
     ensures source_faults { E.faults source.old ≤ E.faults source.new }
     ensures files { E.files source.new ≡ E.files source.old }
-    ensures is_picked { E.is_picked source.new ≡ E.is_picked source.old }
+    ensures picks { E.picks source.new ≡ E.picks source.old }
     ensures made { E.made source.new ≡ E.made source.old }
     ensures wire_faults { E.wire_faults source.new ≡ E.wire_faults source.old }
 {

@@ -1,10 +1,12 @@
 -- What a report holds at its end, and what was read of a file.
-use Rattle.std.proofs.Common.{◌≡◌, ℕ, inl, inr, Bool, true, false, List, [], ◌∷◌, ◌++◌, Option, Some, None, refl, sym, ap, subst, ◌∙◌}
+use Rattle.std.proofs.Common.{◌≡◌, ◌⊎◌, ℕ, inl, inr, Bool, true, false, List, [], ◌∷◌, ◌++◌, Option, Some, None, Result, Err, refl, sym, ap, subst, ◌∙◌}
 use Rattle.std.proofs.lemmas.List.{append-nil}
-use Rattle.ug_edge.specs.Told.{AppendsPiece, TakesFront, IsEnded, HasPicked, FileText, FileTold, Untold, Missing, Bytes, file_told, missing_or_bytes}
+use Rattle.ug_edge.specs.Told.{AppendsPiece, AppendsAll, TakesFront, IsEnded, HasPicked, FileText, FileTold, Untold, Missing, Bytes, file_told, missing_or_bytes}
 use Rattle.ug_pieces.specs.Reporting.{AppendsFront}
 use Rattle.ug_pieces.specs.AppendingLaws.{AppendsPiece-more}
-use Rattle.ug_commands.specs.Files.{IsPartOf, AgreesWithSite, AppendsThenStatus}
+use Rattle.ug_report.specs.declared.status.Status.{Status}
+use Rattle.ug_report.specs.declared.status.Status.TheVariants as statuses
+use Rattle.ug_commands.specs.Files.{IsPartOf, AgreesWithSite, AppendsThenStatus, PicksJust, IsUnbegun}
 
 pub then_status : (before mid held : Option (List ℕ)) (failed : Type 0) (text line : List ℕ) → AppendsPiece before mid text → AppendsThenStatus mid held failed [] line → AppendsThenStatus before held failed text line
 then_status before mid held failed text line piece h = (h.0, h.1, h.2, AppendsPiece-more before mid held text h.0 piece h.3, h.4)
@@ -45,10 +47,24 @@ not_missing (Some files) name None picked e = absurd picked
 not_missing (Some files) name (Some left) picked e = let bytes : Bytes left ≡ Missing = ap missing_or_bytes (sym picked) ∙ e in cc
 
 -- what is left to read is the rest
-pub agrees_read : (is_picked : Bool) (now : Option (List ℕ)) (read : List ℕ) → is_picked ≡ true → AgreesWithSite is_picked now read (rest_of now)
+pub agrees_read : (is_open : Bool) (now : Option (List ℕ)) (read : List ℕ) → is_open ≡ true → AgreesWithSite is_open now read (rest_of now)
 unfolding rest_of
-agrees_read is_picked None read now_picked = rw now_picked tt
-agrees_read is_picked (Some left) read now_picked = rw now_picked refl
+agrees_read is_open None read now_picked = rw now_picked tt
+agrees_read is_open (Some left) read now_picked = rw now_picked refl
+
+-- where no file was picked, memory was wanting, or the pick failed
+pub unbegun_cause : (status : Status) (P : Type 0) → IsUnbegun status → (status ≡ statuses.ReadFault → ⊥) → (status ≡ statuses.NoMemory → P) → P
+unbegun_cause status P (inl failed) not_failed starved = absurd (not_failed failed)
+unbegun_cause status P (inr none) not_failed starved = starved none
+
+-- where its pick failed too just that file was picked
+pub picked_failed : {A : Type 0} (names names' : Option (List (List ℕ))) (name : List ℕ) (status given : Status) (r s : Result A Status) → given ≡ status → r ≡ Err status → s ≡ Err statuses.NoMemory
+    → AppendsAll names names' (name ∷ []) ⊎ ((r ≡ s) × (names' ≡ names)) → PicksJust names names' name given
+picked_failed {A} names names' name status given r s same r_is s_is (inl named) = inl named
+picked_failed {A} names names' name status given r s same r_is s_is (inr none) =
+    let equal : r ≡ s = none.0 in
+    let starved : status ≡ statuses.NoMemory = cc in
+    inr (same ∙ starved, none.1)
 
 pub unread_of : FileTold → List ℕ
 unread_of Untold = []

@@ -10,9 +10,9 @@ use Rattle.ug_commands.specs.Texts.{group_lines}
 use Rattle.ug_commands.specs.Grouped.{IsWholly, IsGrouped, HasEnded}
 use Rattle.ug_commands.specs.declared.stop.Stop.TheVariants as stops
 use Rattle.ug_commands.specs.Files.{IsPartOf, AppendsThenStatus}
-use Rattle.ug_commands.specs.Statuses.{status_text}
+use Rattle.ug_report.specs.Statuses.{status_text}
 use Rattle.ug_commands.specs.Listed.{IsConfigured, IsListed}
-use Rattle.ug_commands.specs.declared.status.Status.TheVariants as statuses
+use Rattle.ug_report.specs.declared.status.Status.TheVariants as statuses
 use Rattle.ug_commands.proofs.Ends.{rest_of, part_read, no_rest, then_status, no_status, no_line}
 
 pub configured : (files : Option (List FileText)) (name : List ℕ) (left now : Option (List ℕ)) (x : Reads World) → HasPicked files name left → IsWholly left now x → IsConfigured (file_told files name) x

@@ -1,5 +1,4 @@
 pub mod Files
-pub mod Statuses
 pub mod Checked
 pub mod Groups
 pub mod Texts

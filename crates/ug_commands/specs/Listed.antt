@@ -9,9 +9,9 @@ use Rattle.ug_config.specs.Worlds.{config}
 use Rattle.ug_commands.specs.Texts.{group_lines}
 use Rattle.ug_commands.specs.Grouped.{most_bytes}
 use Rattle.ug_commands.specs.Files.{IsPartOf, AppendsThenStatus}
-use Rattle.ug_commands.specs.Statuses.{status_text}
-use Rattle.ug_commands.specs.declared.status.Status.{Status}
-use Rattle.ug_commands.specs.declared.status.Status.TheVariants as statuses
+use Rattle.ug_report.specs.Statuses.{status_text}
+use Rattle.ug_report.specs.declared.status.Status.{Status}
+use Rattle.ug_report.specs.declared.status.Status.TheVariants as statuses
 
 -- The whole file was read, within the limit, and it stands for this.
 pub record IsConfigured (file : FileTold) (stands_for : Reads World) : Type 0 where

@@ -1,25 +1,28 @@
 //! What frames each command: the file that it reads, and its status line.
 
-ghost use Rattle.std.specs.Prelude.{◌≡◌, ◌≤◌, [], OnOk, OnErr, IfErr, IsErrOf, true, false};
-ghost use Rattle.ug_edge.specs.Told.{Rose, HasPicked, file_told, Missing};
-ghost use Rattle.ug_commands.specs.Statuses.{status_text, is_fixed};
-ghost use Rattle.ug_commands.specs.Files.{AppendsThenStatus};
-ghost use Rattle.ug_commands.specs.Statuses.{IsUnbegun};
+ghost use Rattle.std.specs.Prelude.{◌≡◌, ◌≤◌, ◌⊎◌, [], ◌∷◌, OnOk, OnErr, IfErr, IsErrOf, true, false};
+ghost use Rattle.ug_edge.specs.Told.{Rose, AppendsAll, HasPicked, file_told, Missing};
+ghost use Rattle.ug_report.specs.Statuses.{status_text, is_fixed};
+ghost use Rattle.ug_commands.specs.Files.{AppendsThenStatus, IsUnbegun};
 
-use crate::status::Status;
 use ug_edge::{Failed, Sink, Site, SiteFault};
 use ug_pieces::write_all;
+use ug_report::Status;
 
 /// Picks a file.
 #[tactic(auto, using(crate::proofs::Ends::not_missing))]
 pub fn pick<E: Site>(name: &str, site: &mut E) -> Result<(), Status>
     ensures picked { OnOk result (HasPicked (E.files site.old) name.now (E.left site.new)) }
     ensures there { OnOk result (file_told (E.files site.old) name.now ≡ Missing → ⊥) }
-    ensures is_picked { OnOk result (E.is_picked site.new ≡ true) }
-    ensures is_unpicked { OnErr result (E.is_picked site.new ≡ false) }
+    ensures is_open { OnOk result ((E.picks site.new).is_open ≡ true) }
+    ensures is_closed { OnErr result ((E.picks site.new).is_open ≡ false) }
+    ensures named { OnOk result (AppendsAll (E.picks site.old).names (E.picks site.new).names (name.now ∷ [])) }
+    ensures once { AppendsAll (E.picks site.old).names (E.picks site.new).names (name.now ∷ []) ⊎ (IsErrOf result Status.NoMemory × ((E.picks site.new).names ≡ (E.picks site.old).names)) }
     ensures status { IfErr result IsUnbegun }
     ensures fixed { IfErr result (λ status. is_fixed status ≡ true) }
     ensures failed { IsErrOf result Status.ReadFault → Rose (E.faults site.old) (E.faults site.new) }
+    ensures unharmed { OnOk result (E.faults site.new ≡ E.faults site.old) }
+    ensures starved { IsErrOf result Status.NoMemory → E.faults site.new ≡ E.faults site.old }
     ensures faults { E.faults site.old ≤ E.faults site.new }
     ensures files { E.files site.new ≡ E.files site.old }
     ensures made { E.made site.new ≡ E.made site.old }

@@ -8,13 +8,10 @@ mod lines;
 mod listing;
 mod member;
 mod members;
-mod report;
-mod status;
 mod stop;
 
 pub use checking::check;
 pub use frame::{end, pick};
 pub use grouping::{end_refused, groups};
 pub use listing::read_world;
-pub use status::Status;
 pub use stop::Stop;

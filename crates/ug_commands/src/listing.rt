@@ -26,11 +26,12 @@ pub fn groups<E: Source, K: Sink>(alloc: Global, source: &mut E, report: &mut K)
     ensures ok { OnOk result (IsGrouped (E.left source.old) (E.left source.new) (AppendsPiece (K.held report.old) (K.held report.new))) }
     ensures stopped { IfErr result (λ stop. HasEnded stop (E.left source.old) (E.left source.new) (K.held report.old) (K.held report.new)) }
     ensures unread { IsErrOf result Stop.Read → Rose (E.faults source.old) (E.faults source.new) }
+    ensures unharmed { (IsErrOf result Stop.Read → ⊥) → E.faults source.new ≡ E.faults source.old }
     ensures failed { IsErrOf result Stop.Report → Rose (K.faults report.old) (K.faults report.new) }
     ensures report_faults { K.faults report.old ≤ K.faults report.new }
     ensures source_faults { E.faults source.old ≤ E.faults source.new }
     ensures files { E.files source.new ≡ E.files source.old }
-    ensures is_picked { E.is_picked source.new ≡ E.is_picked source.old }
+    ensures picks { E.picks source.new ≡ E.picks source.old }
     ensures made { E.made source.new ≡ E.made source.old }
     ensures wire_faults { E.wire_faults source.new ≡ E.wire_faults source.old }
 {
@@ -53,9 +54,10 @@ pub fn read_world<E: Source>(alloc: Global, source: &mut E) -> Result<World, Sto
     ensures ok { IfOk result (λ world. IsWholly (E.left source.old) (E.left source.new) (Stands world)) }
     ensures stopped { IfErr result (λ stop. IsCause stop (E.left source.old) (E.left source.new)) }
     ensures unread { IsErrOf result Stop.Read → Rose (E.faults source.old) (E.faults source.new) }
+    ensures unharmed { (IsErrOf result Stop.Read → ⊥) → E.faults source.new ≡ E.faults source.old }
     ensures faults { E.faults source.old ≤ E.faults source.new }
     ensures files { E.files source.new ≡ E.files source.old }
-    ensures is_picked { E.is_picked source.new ≡ E.is_picked source.old }
+    ensures picks { E.picks source.new ≡ E.picks source.old }
     ensures made { E.made source.new ≡ E.made source.old }
     ensures wire_faults { E.wire_faults source.new ≡ E.wire_faults source.old }
 {

@@ -1,7 +1,7 @@
 -- What a wire holds that has room for so many sessions and bytes, and what each call makes of it.
 use Rattle.std.specs.Prelude.{ℕ, ◌+◌, ◌-◌, ◌≤◌, ◌==◌, ◌&&◌, ◌||◌, nat_lt, min, Bool, List, [], ◌∷◌, ◌++◌, length, drop, slice_range}
 use Rattle.ug_edge.specs.Fails.{raised}
-use Rattle.ug_edge.specs.Told.{onto_last}
+use Rattle.ug_edge.specs.Told.{onto_last, WireName}
 
 -- The bytes of each session that has room, and how many more sessions and bytes there is room for.
 pub record SpansState : Type 0 where
@@ -29,6 +29,10 @@ pub record RoomState : Type 0 where
   pub sessions_left : ℕ
   pub room : ℕ
   pub faults : ℕ
+
+-- it was made for nobody
+abbrev pub for_nobody : WireName
+for_nobody = record { dir = []; peer = [] }
 
 -- the wire with no session yet, and room for so many sessions and bytes
 abbrev pub fresh_room : ℕ → ℕ → RoomState

@@ -20,12 +20,13 @@ pub record PeerBegins : Type 0 where
   pub peer : List ℕ
   pub sessions : List ℕ
 
--- The files, whether one of them was picked, the bytes left to read, the wires made, the calls that are listed to
+-- The files, whether one of them is picked, the names that were, the bytes left to read, the wires made, the calls that are listed to
 -- fail, the cuts, the sessions whose begin fails, the number of calls of each kind so far, and the two counts of
 -- faults.
 pub record SiteState : Type 0 where
   pub files : List FileText
   pub is_picked : Bool
+  pub picked : List (List ℕ)
   pub left : List ℕ
   pub made : List WireName
   pub fails : List FailAt
@@ -62,7 +63,7 @@ bytes_left files (Some place) offset = bytes_from offset (slice_get files place)
 
 -- the site that has these files, before any call
 abbrev pub fresh_site : List FileText → List FailAt → List PeerCut → SiteState
-fresh_site files fails cuts = record { files = files; is_picked = false; left = []; made = []; fails = fails; cuts = cuts; begins = []; picks = 0; reads = 0; wires = 0; faults = 0; wire_faults = 0 }
+fresh_site files fails cuts = record { files = files; is_picked = false; picked = []; left = []; made = []; fails = fails; cuts = cuts; begins = []; picks = 0; reads = 0; wires = 0; faults = 0; wire_faults = 0 }
 
 -- the totals of the cuts of a peer
 abbrev pub totals_to : List ℕ → List PeerCut → List ℕ
@@ -89,12 +90,16 @@ abbrev pub picked_bytes : List ℕ → SiteState → Option (List ℕ)
 picked_bytes name site = if next_pick_fails site then None else file_named name site.files
 
 -- the site after a pick that made these bytes the ones to read
-abbrev pub site_picked : List ℕ → SiteState → SiteState
-site_picked bytes site = record site { is_picked = true; left = bytes; picks = raised site.picks }
+abbrev pub site_picked : List ℕ → List ℕ → SiteState → SiteState
+site_picked name bytes site = record site { is_picked = true; picked = site.picked ++ name ∷ []; left = bytes; picks = raised site.picks }
 
 -- the site after a pick that failed
-abbrev pub site_unpicked : SiteState → SiteState
-site_unpicked site = record site { is_picked = false; left = []; picks = raised site.picks; faults = raised site.faults }
+abbrev pub site_unpicked : List ℕ → SiteState → SiteState
+site_unpicked name site = record site { is_picked = false; picked = site.picked ++ name ∷ []; left = []; picks = raised site.picks; faults = raised site.faults }
+
+-- the site after a pick for which memory was wanting
+abbrev pub site_unnamed : SiteState → SiteState
+site_unnamed site = record site { is_picked = false; left = []; picks = raised site.picks }
 
 -- the site after a read of this many bytes
 abbrev pub site_read : ℕ → SiteState → SiteState

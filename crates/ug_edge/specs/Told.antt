@@ -1,6 +1,6 @@
 -- What the objects of the outside tell. Content is told as an option: `None` keeps it to itself, and an object
 -- that tells goes on telling.
-use Rattle.std.specs.Prelude.{◌≡◌, ℕ, ◌+◌, ◌<◌, ◌⊎◌, List, [], ◌∷◌, ◌++◌, Option, Some, None, if◌then◌else◌}
+use Rattle.std.specs.Prelude.{◌≡◌, ℕ, ◌+◌, ◌<◌, ◌⊎◌, Bool, List, [], ◌∷◌, ◌++◌, Option, Some, None, if◌then◌else◌}
 use Rattle.ug_types.specs.Bytes.{same_bytes}
 
 -- A count of faults rose in a call, or stands at the last value of its type and can't rise further.
@@ -68,6 +68,12 @@ HasPicked None name (Some left) = ⊥
 HasPicked (Some files) name None = ⊥
 HasPicked (Some files) name (Some left) = file_named name files ≡ Some left
 
+-- The picks of a site: whether it reads from the file that was picked last, and the names that were picked, in order,
+-- where told, those among them that could not be read from too.
+pub record Picks : Type 0 where
+  pub is_open : Bool
+  pub names : Option (List (List ℕ))
+
 -- What is known of a file: nothing, that there is none of its name, or its bytes.
 pub data FileTold : Type 0 where
   Untold : FileTold
@@ -93,14 +99,14 @@ pub record WiresMade : Type 0 where
   pub count : ℕ
   pub names : Option (List WireName)
 
--- These were made beside those before, where that is told.
-abbrev pub AppendsNames : Option (List WireName) → Option (List WireName) → List WireName → Type 0
-AppendsNames None None more = Unit {0}
-AppendsNames None (Some new) more = ⊥
-AppendsNames (Some old) None more = ⊥
-AppendsNames (Some old) (Some new) more = new ≡ old ++ more
+-- These came behind those before, where that is told.
+abbrev pub AppendsAll : {A : Type 0} → Option (List A) → Option (List A) → List A → Type 0
+AppendsAll None None more = Unit {0}
+AppendsAll None (Some new) more = ⊥
+AppendsAll (Some old) None more = ⊥
+AppendsAll (Some old) (Some new) more = new ≡ old ++ more
 
 -- Just this wire was made.
 pub record MakesWire (old new : WiresMade) (dir peer : List ℕ) : Type 0 where
   pub counted : new.count ≡ old.count + 1
-  pub named : AppendsNames old.names new.names (record { dir = dir; peer = peer } ∷ [])
+  pub named : AppendsAll old.names new.names (record { dir = dir; peer = peer } ∷ [])

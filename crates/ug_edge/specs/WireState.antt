@@ -3,12 +3,13 @@ use Rattle.std.specs.Prelude.{ℕ, ◌+◌, ◌-◌, ◌==◌, ◌&&◌, nat_le,
 use Rattle.std.specs.List.{list_any}
 use Rattle.std.specs.Option.{option_map_or}
 use Rattle.ug_edge.specs.Fails.{raised}
-use Rattle.ug_edge.specs.Told.{onto_last}
+use Rattle.ug_edge.specs.Told.{onto_last, WireName}
 
--- The bytes of each session, how many of the last sessions found no memory, how many bytes were sent over all
+-- For whom it was made, the bytes of each session, how many of the last sessions found no memory, how many bytes were sent over all
 -- sessions, the totals at which a send is still to fail, the numbers of the sessions whose begin fails, the faults
 -- so far, and those of them that came of want of memory.
 pub record WireState : Type 0 where
+  pub made_for : WireName
   pub sessions : List (List ℕ)
   pub unkept : ℕ
   pub sent : ℕ
@@ -18,8 +19,8 @@ pub record WireState : Type 0 where
   pub starved : ℕ
 
 -- the wire with no session yet
-abbrev pub fresh_wire : List ℕ → List ℕ → WireState
-fresh_wire cuts failing = record { sessions = []; unkept = 0; sent = 0; cuts = cuts; failing = failing; faults = 0; starved = 0 }
+abbrev pub fresh_wire : WireName → List ℕ → List ℕ → WireState
+fresh_wire made_for cuts failing = record { made_for = made_for; sessions = []; unkept = 0; sent = 0; cuts = cuts; failing = failing; faults = 0; starved = 0 }
 
 -- the wire after a call that was listed to fail
 abbrev pub wire_failed : WireState → WireState

@@ -84,6 +84,8 @@ impl Wire for GatedWire {
 
     ghost faults = { λ wire. wire.faults };
 
+    ghost made_for = { λ wire. wire.wire.made_for };
+
     fn begin(&mut self) -> Result<(), Failed> {
         match self.wire.begin() {
             Ok(()) => Ok(()),
@@ -151,7 +153,7 @@ impl Source for GatedSite {
 
     ghost files = { λ site. Some site.site.files };
 
-    ghost is_picked = { λ site. site.site.is_picked };
+    ghost picks = { λ site. record { is_open = site.site.is_picked; names = Some site.site.picked } };
 
     ghost made = { λ site. record { count = length site.site.made; names = Some site.site.made } };
 

@@ -1,6 +1,7 @@
 //! The real forms: files of the system, and standard output. What they hold is not told.
 
 ghost use Rattle.std.specs.Prelude.{◌≡◌, ◌<◌, ◌≤◌, length, take, is_some, true, false, None, Err, IfOk, OnOk, OnErr};
+ghost use Rattle.std.specs.String.{string_bytes};
 ghost use Rattle.std.specs.Io.KnownBytes.{Appends, Consumes, IsAtEnd, Keeps};
 ghost use Rattle.ug_edge.specs.Told.{Rose};
 
@@ -8,6 +9,7 @@ use crate::counts::raise;
 use crate::outside::{Failed, Sink, Site, SiteFault, Source, Wire};
 use std::alloc::Global;
 use std::io::{Read, Write};
+use std::os::unix::fs::{FileTypeExt, MetadataExt};
 use std::rt::Files;
 use std::{fs, io};
 
@@ -66,7 +68,7 @@ impl<R: Files> Source for HostSite<R> {
 
     ghost files = { λ _. None };
 
-    ghost is_picked = { λ site. is_some site.file };
+    ghost picks = { λ site. record { is_open = is_some site.file; names = None } };
 
     ghost made = { λ site. record { count = site.made; names = None } };
 
@@ -95,8 +97,8 @@ where
         ensures rose { OnErr result (Rose (⟦<HostSite<R> as Source>⟧.faults self.old) (⟦<HostSite<R> as Source>⟧.faults self.new)) }
         ensures unharmed { OnOk result (⟦<HostSite<R> as Source>⟧.faults self.new ≡ ⟦<HostSite<R> as Source>⟧.faults self.old) }
         ensures faults { ⟦<HostSite<R> as Source>⟧.faults self.old ≤ ⟦<HostSite<R> as Source>⟧.faults self.new }
-        ensures is_picked { OnOk result (⟦<HostSite<R> as Source>⟧.is_picked self.new ≡ true) }
-        ensures is_unpicked { OnErr result (⟦<HostSite<R> as Source>⟧.is_picked self.new ≡ false) }
+        ensures is_open { OnOk result ((⟦<HostSite<R> as Source>⟧.picks self.new).is_open ≡ true) }
+        ensures is_closed { OnErr result ((⟦<HostSite<R> as Source>⟧.picks self.new).is_open ≡ false) }
         ensures made { ⟦<HostSite<R> as Source>⟧.made self.new ≡ ⟦<HostSite<R> as Source>⟧.made self.old }
         ensures wire_faults { ⟦<HostSite<R> as Source>⟧.wire_faults self.new ≡ ⟦<HostSite<R> as Source>⟧.wire_faults self.old }
     {
@@ -147,7 +149,7 @@ fn is_folder<R: Files>(rt: &R, path: &str) -> bool {
 }
 
 impl<R: Files> HostWire<R> {
-    /// Makes the file of the session that was begun last.
+    /// Makes the file of the session that was begun last, in place of one that was there.
     fn make_file(&self) -> Result<R::File, Failed> {
         let dir = self.dir.as_str();
         let peer = self.peer.as_str();
@@ -155,10 +157,25 @@ impl<R: Files> HostWire<R> {
         let Ok(path) = format!(in self.alloc; "{dir}/{peer}.{number}") else {
             return Err(Failed);
         };
+        if !may_be_written(&self.rt, path.as_str()) {
+            return Err(Failed);
+        }
         let Ok(file) = fs::create(&self.rt, path.as_str()) else {
             return Err(Failed);
         };
         Ok(file)
+    }
+}
+
+/// Whether nothing stands at the path, or a plain file of this name alone, or a pipe: what is reached by a link, or has a
+/// further name, may lie outside of the folder.
+fn may_be_written<R: Files>(rt: &R, path: &str) -> bool {
+    match fs::symlink_metadata(rt, path) {
+        Ok(there) => {
+            let kind = there.file_type();
+            (kind.is_file() || kind.is_fifo()) && there.nlink() < 2
+        }
+        Err(error) => error.kind() == io::ErrorKind::NotFound,
     }
 }
 
@@ -171,6 +188,8 @@ where
     ghost begun = { λ wire. wire.begun };
 
     ghost faults = { λ wire. wire.faults };
+
+    ghost made_for = { λ wire. record { dir = string_bytes wire.dir; peer = string_bytes wire.peer } };
 
     fn begin(&mut self) -> Result<(), Failed> {
         self.begun += 1;

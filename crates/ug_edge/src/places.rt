@@ -87,7 +87,15 @@ pub(crate) fn made_for(alloc: Global, dir: &str, peer: &str) -> Result<Made, NoM
     ensures dir { IfOk result (λ made. made.dir.items ≡ dir.now) }
     ensures peer { IfOk result (λ made. made.peer.items ≡ peer.now) }
 {
-    let dir: ByteList = Sequence::from_vec(Vec::from_slice(alloc, dir.as_bytes())?);
-    let peer: ByteList = Sequence::from_vec(Vec::from_slice(alloc, peer.as_bytes())?);
-    Ok(Made { dir, peer })
+    Ok(Made {
+        dir: kept(alloc, dir)?,
+        peer: kept(alloc, peer)?,
+    })
+}
+
+/// The bytes of a name, kept.
+pub(crate) fn kept(alloc: Global, name: &str) -> Result<ByteList, NoMemory>
+    ensures { IfOk result (λ kept. kept.items ≡ name.now) }
+{
+    Ok(Sequence::from_vec(Vec::from_slice(alloc, name.as_bytes())?))
 }

@@ -2,7 +2,7 @@
 
 ghost use Rattle.std.specs.Prelude.{◌≡◌, ◌+◌, ◌-◌, ◌<◌, ◌≤◌, [], ◌∷◌, ◌++◌, length, take, min, true, false, Some, OnOk, OnErr, IfOk, slice_get};
 ghost use Rattle.ug_edge.specs.Told.{Rose};
-ghost use Rattle.ug_edge.specs.RoomState.{RoomState, fresh_room, room_begun, room_unkept, room_with, room_failed, room_refuses};
+ghost use Rattle.ug_edge.specs.RoomState.{RoomState, for_nobody, fresh_room, room_begun, room_unkept, room_with, room_failed, room_refuses};
 
 use crate::counts::raise;
 use crate::outside::{Failed, Wire};
@@ -11,7 +11,7 @@ use std::alloc::Global;
 use std::marker::Model;
 use ug_types::NoMemory;
 
-/// A wire that tells its sessions, and has room for so many of them and for so many bytes over all of them together.
+/// A wire that no site made. It tells its sessions, and has room for so many of them and for so many bytes over all of them together.
 /// A session for which there was no room is there, but takes no bytes, and so are those after it.
 #[derive(Drop)]
 pub struct RoomWire {
@@ -77,6 +77,8 @@ impl Wire for RoomWire {
     ghost begun = { λ wire. length wire.sessions };
 
     ghost faults = { λ wire. wire.faults };
+
+    ghost made_for = { λ _. for_nobody };
 
     fn begin(&mut self) -> Result<(), Failed>
         requires { length self.old.sessions < 4294967295 }

@@ -1,18 +1,18 @@
 //! A site whose files and wires are in memory.
 
-ghost use Rattle.std.specs.Prelude.{◌≡◌, ◌<◌, ◌≤◌, [], ◌++◌, min, length, take, drop, true, false, Some, None, OnOk, OnErr, IfOk, IsOk, IsErrOf, Err};
-ghost use Rattle.ug_edge.specs.SiteState.{SiteState, file_texts, peer_cuts, peer_begins, wire_names, bytes_left, fresh_site, totals_to, begins_to, next_read_fails, next_wire_fails, picked_bytes, site_picked, site_unpicked, site_read, site_unread, site_wired, site_unmade, site_unwired, site_with_begins};
+ghost use Rattle.std.specs.Prelude.{◌≡◌, ◌<◌, ◌≤◌, [], ◌∷◌, ◌++◌, min, length, take, drop, true, false, Some, None, OnOk, OnErr, IfOk, IsOk, IsErrOf, Err};
+ghost use Rattle.ug_edge.specs.SiteState.{SiteState, file_texts, peer_cuts, peer_begins, wire_names, bytes_left, fresh_site, totals_to, begins_to, next_read_fails, next_wire_fails, picked_bytes, site_picked, site_unpicked, site_unnamed, site_read, site_unread, site_wired, site_unmade, site_unwired, site_with_begins};
 ghost use Rattle.ug_edge.specs.WireState.{fresh_wire};
 ghost use Rattle.ug_edge.specs.Told.{Rose};
 
 use crate::counts::{is_listed, raise};
 use crate::lists::{BeginFails, CallKind, CallList, CutList, FileList, Made};
 use crate::outside::{Failed, Site, SiteFault, Source};
-use crate::places::{begins_of, copy_front, made_for, place_of, rest_of, totals_of};
+use crate::places::{begins_of, copy_front, kept, made_for, place_of, rest_of, totals_of};
 use crate::wire::MemWire;
 use std::alloc::Global;
 use std::marker::Model;
-use ug_types::{NoMemory, NumberList, Sequence};
+use ug_types::{ByteList, NoMemory, NumberList, Sequence};
 
 /// A site that tells its files and what is left to read. A call fails where its number is listed, and a pick also
 /// where no file has the name. Each wire has the cuts of its peer.
@@ -21,6 +21,7 @@ pub struct MemSite {
     alloc: Global,
     files: FileList,
     place: Option<usize>,
+    picked: Sequence<ByteList>,
     offset: usize,
     made: Sequence<Made>,
     fails: CallList,
@@ -34,7 +35,7 @@ pub struct MemSite {
 }
 
 impl Model for MemSite {
-    ghost use Rattle.std.specs.Prelude.{is_some};
+    ghost use Rattle.std.specs.Prelude.{is_some, map};
     ghost use Rattle.ug_edge.specs.SiteState.{SiteState, file_texts, peer_cuts, peer_begins, wire_names, bytes_left};
 
     ghost Value = { SiteState };
@@ -42,6 +43,7 @@ impl Model for MemSite {
     ghost view = { λ s. record {
       files = file_texts s.files.items;
       is_picked = is_some s.place;
+      picked = map (λ name. name.items) s.picked.items;
       left = bytes_left s.files.items s.place s.offset;
       made = wire_names s.made.items;
       fails = s.fails.items;
@@ -71,6 +73,7 @@ impl MemSite {
             alloc,
             files,
             place: None,
+            picked: Sequence::new(alloc),
             offset: 0,
             made: Sequence::new(alloc),
             fails,
@@ -104,7 +107,7 @@ impl Source for MemSite {
 
     ghost files = { λ site. Some site.files };
 
-    ghost is_picked = { λ site. site.is_picked };
+    ghost picks = { λ site. record { is_open = site.is_picked; names = Some site.picked } };
 
     ghost made = { λ site. record { count = length site.made; names = Some site.made } };
 
@@ -138,15 +141,21 @@ impl Site for MemSite {
 
     fn pick(&mut self, name: &str) -> Result<(), SiteFault>
         ensures ok { OnOk result (picked_bytes name.now self.old ≡ Some self.new.left) }
-        ensures picked { OnOk result (self.new ≡ site_picked self.new.left self.old) }
-        ensures listed { OnErr result (picked_bytes name.now self.old ≡ None) }
-        ensures unpicked { OnErr result ((result ≡ Err SiteFault.Failed) × (self.new ≡ site_unpicked self.old)) }
-        ensures failed { OnErr result (Rose self.old.faults self.new.faults) }
+        ensures picked { OnOk result (self.new ≡ site_picked name.now self.new.left self.old) }
+        ensures listed { IsErrOf result SiteFault.Failed → (picked_bytes name.now self.old ≡ None) × (self.new ≡ site_unpicked name.now self.old) }
+        ensures no_memory { IsErrOf result SiteFault.NoMemory → self.new ≡ site_unnamed self.old }
+        ensures failed { IsErrOf result SiteFault.Failed → Rose self.old.faults self.new.faults }
         ensures faults { self.old.faults ≤ self.new.faults }
     {
         self.picks = raise(self.picks);
+        self.place = None;
+        let Ok(named) = kept(self.alloc, name) else {
+            return Err(SiteFault::NoMemory);
+        };
+        let Ok(()) = self.picked.push(named) else {
+            return Err(SiteFault::NoMemory);
+        };
         if is_listed(&self.fails, CallKind::Pick, self.picks) {
-            self.place = None;
             self.faults = raise(self.faults);
             return Err(SiteFault::Failed);
         }
@@ -157,7 +166,6 @@ impl Site for MemSite {
                 Ok(())
             }
             None => {
-                self.place = None;
                 self.faults = raise(self.faults);
                 Err(SiteFault::Failed)
             }
@@ -165,7 +173,7 @@ impl Site for MemSite {
     }
 
     fn wire(&mut self, dir: &str, peer: &str) -> Result<MemWire, SiteFault>
-        ensures wire { IfOk result (λ wire. wire ≡ fresh_wire (totals_to peer.now self.old.cuts) (begins_to peer.now self.old.begins)) }
+        ensures wire { IfOk result (λ wire. wire ≡ fresh_wire (record { dir = dir.now; peer = peer.now }) (totals_to peer.now self.old.cuts) (begins_to peer.now self.old.begins)) }
         ensures ok { OnOk result ((next_wire_fails self.old ≡ false) × (self.new ≡ site_wired dir.now peer.now self.old)) }
         ensures listed { IsErrOf result SiteFault.Failed → (next_wire_fails self.old ≡ true) × (self.new ≡ site_unwired self.old) }
         ensures no_memory { IsErrOf result SiteFault.NoMemory → (next_wire_fails self.old ≡ false) × (self.new ≡ site_unmade self.old) }
@@ -186,9 +194,12 @@ impl Site for MemSite {
         let Ok(made) = made_for(self.alloc, dir, peer) else {
             return Err(SiteFault::NoMemory);
         };
-        let Ok(()) = self.made.push(made) else {
+        let Ok(told) = made_for(self.alloc, dir, peer) else {
             return Err(SiteFault::NoMemory);
         };
-        Ok(MemWire::new(self.alloc, cuts, failing))
+        let Ok(()) = self.made.push(told) else {
+            return Err(SiteFault::NoMemory);
+        };
+        Ok(MemWire::new(self.alloc, made, cuts, failing))
     }
 }

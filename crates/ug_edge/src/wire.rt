@@ -6,6 +6,7 @@ ghost use Rattle.ug_edge.specs.Told.{Rose};
 
 use crate::counts::raise;
 use crate::cuts::{room_before, spend};
+use crate::lists::Made;
 use crate::outside::{Failed, Wire};
 use crate::sessions::Sessions;
 use std::alloc::Global;
@@ -16,6 +17,7 @@ use ug_types::{NumberList, Sequence};
 /// found no memory is there, but takes no bytes, and so are those after it.
 #[derive(Drop)]
 pub struct MemWire {
+    made: Made,
     sessions: Sessions,
     sent: u64,
     cuts: Sequence<u64>,
@@ -30,17 +32,24 @@ impl Model for MemWire {
 
     ghost Value = { WireState };
 
-    ghost view = { λ w. record { sessions = w.sessions.bytes; unkept = w.sessions.unkept; sent = w.sent; cuts = w.cuts.items; failing = w.failing.items; faults = w.faults; starved = w.starved } };
+    ghost view = { λ w. record { made_for = record { dir = w.made.dir.items; peer = w.made.peer.items }; sessions = w.sessions.bytes; unkept = w.sessions.unkept; sent = w.sent; cuts = w.cuts.items; failing = w.failing.items; faults = w.faults; starved = w.starved } };
 
     ghost invariant = { λ w. w.starved ≤ w.faults };
 }
 
 impl MemWire {
-    /// A wire with no sessions, the totals at which a send fails, and the numbers of the sessions whose begin fails.
-    pub(crate) fn new(alloc: Global, cuts: Sequence<u64>, failing: NumberList) -> MemWire
-        ensures { result ≡ fresh_wire cuts.items failing.items }
+    /// A wire that is made for a peer, with no sessions, the totals at which a send fails, and the numbers of the sessions
+    /// whose begin fails.
+    pub(crate) fn new(
+        alloc: Global,
+        made: Made,
+        cuts: Sequence<u64>,
+        failing: NumberList,
+    ) -> MemWire
+        ensures { result ≡ fresh_wire (record { dir = made.dir.items; peer = made.peer.items }) cuts.items failing.items }
     {
         MemWire {
+            made,
             sessions: Sessions::new(alloc),
             sent: 0,
             cuts,
@@ -81,6 +90,8 @@ impl Wire for MemWire {
     ghost begun = { λ wire. length wire.sessions };
 
     ghost faults = { λ wire. wire.faults };
+
+    ghost made_for = { λ wire. wire.made_for };
 
     fn begin(&mut self) -> Result<(), Failed>
         requires { length self.old.sessions < 4294967295 }

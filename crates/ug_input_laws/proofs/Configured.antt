@@ -13,6 +13,7 @@ use Rattle.ug_outbound.specs.declared.settings.Local.{Local}
 use Rattle.ug_outbound.specs.declared.peer.Peer.{Peer}
 use Rattle.ug_outbound.specs.Outbound.{number_of_address}
 use Rattle.ug_message.specs.Spellable.{is_number, is_address, where_there}
+use Rattle.ug_world.specs.Good.{is_rule_in_range, is_map_in_range, is_peer_in_range}
 use Rattle.ug_fields.specs.Rows.{FieldRow}
 use Rattle.ug_fields.specs.Reads.{◌>>=◌, refused, malformed}
 use Rattle.ug_fields.specs.Kinds.{family_at, tables_at}
@@ -53,14 +54,6 @@ local_in_range d l h =
 
 -- ---- route maps
 
-abbrev pub is_rule_in_range : MapRule → Bool
-is_rule_in_range r =
-    where_there (λ (n : ℕ). nat_le n 2) r.set_origin
-    && (where_there (is_address V4) r.set_next_hop
-    && (where_there is_number r.set_med
-    && (where_there is_number r.set_local_pref
-    && (where_there (list_all is_number) r.set_prepend && (where_there (list_all is_number) r.set_communities && where_there (list_all is_number) r.add_communities)))))
-
 rule_in_range : (way : List ℕ) (d : Data) (r : MapRule) → rule way d ≡ ok r → is_rule_in_range r ≡ true
 unfolding rule map_entry_rows
 rule_in_range way d r h =
@@ -80,17 +73,11 @@ rule_in_range way d r h =
     one q true h = ok_is q r h
     one q false h = absurd cc
 
-abbrev pub is_map_in_range : Named (List MapRule) → Bool
-is_map_in_range m = list_all is_rule_in_range m.value
-
 maps_in_range : (d : Data) (ms : List (Named (List MapRule))) → maps d ≡ ok ms → list_all is_map_in_range ms ≡ true
 unfolding maps
 maps_in_range d ms h = all_read (named rule) is_map_in_range (entries_good rule is_rule_in_range rule_in_range) (codes "route_map") 0 (tables_at (codes "route_map") d) ms h
 
 -- ---- peers
-
-abbrev pub is_peer_in_range : Peer → Bool
-is_peer_in_range p = is_address V4 p.router_id && is_address p.family p.local_address
 
 peer_in_range : (way : List ℕ) (d : Data) (p : Peer) → peer way d ≡ ok p → is_peer_in_range p ≡ true
 unfolding peer peer_rows

@@ -24,7 +24,7 @@ use Rattle.ug_fields.specs.Tables.{Entry, default_of, given, entry, fields, unkn
 use Rattle.ug_fields.specs.Looks.{value_at, as_number, as_octet, as_address, as_numbers}
 use Rattle.ug_config.proofs.Inverting.{ok, ok_is, some_is, bound, bound_option, both}
 use Rattle.ug_config.proofs.Fitting.{row_named}
-use Rattle.ug_input_laws.proofs.Values.{number_fits, community_fits, address_fits}
+use Rattle.ug_events.proofs.Values.{number_fits, community_fits, address_fits}
 
 -- ---- a field by its row
 

@@ -1,7 +1,7 @@
--- What a line says is in range.
+-- What a line says is an event of its form.
 use Rattle.std.proofs.Common.{◌≡◌, ℕ, Bool, true, false, List, [], ◌∷◌, length, Option, Some, None, Result, Ok, Err, refl, subst, nat_lt}
 use Rattle.std.specs.Prelude.{if◌then◌else◌}
-use Rattle.ug_text.specs.Addresses.{family_of, prefix}
+use Rattle.ug_text.specs.Addresses.{prefix}
 use Rattle.ug_prefixlist.specs.declared.entry.ListEntry.{ListEntry}
 use Rattle.ug_prefixlist.specs.Lists.{list_refusal}
 use Rattle.ug_orf.specs.Changes.{OrfRequest}
@@ -17,14 +17,8 @@ use Rattle.ug_events.specs.Paths.{paths_of}
 use Rattle.ug_events.specs.Entries.{entry, where_list, some_entries, entries_of}
 use Rattle.ug_events.specs.Messages.{bytes_of, request_of, where_orf, list_of}
 use Rattle.ug_events.specs.Grammar.{word_of, no_more, one_word, two_words, prefix_word, policy_of, said, line_of_words, most_line, line_by}
-use Rattle.ug_events.proofs.Families.{paths_have}
-use Rattle.ug_speaker.specs.Ranges.{IsEventInRange}
-use Rattle.ug_input_laws.proofs.Values.{prefix_fits}
+use Rattle.ug_events.proofs.InRange.{read_as, read_is, read_first, was_there, paths_fine, some_paths, event_in_range}
 use Rattle.ug_input_laws.proofs.Requests.{request_fits}
-use Rattle.ug_input_laws.proofs.Paths.{read_as, read_is, read_first, was_there, paths_fine, some_paths}
-
-abbrev pub IsSoundEvent : Happening → Type 0
-IsSoundEvent e = IsEvent e × IsEventInRange e
 
 -- ---- words
 
@@ -50,8 +44,8 @@ second_read first second ws z e =
 said_is : (x e : Happening) → read_as (Says x) ≡ read_as (Says e) → x ≡ e
 said_is x e h = cc
 
-sound : (x e : Happening) → IsSoundEvent x → read_as (Says x) ≡ read_as (Says e) → IsSoundEvent e
-sound x e fine h = subst IsSoundEvent (said_is x e h) fine
+sound : (x e : Happening) → IsEvent x → read_as (Says x) ≡ read_as (Says e) → IsEvent e
+sound x e fine h = subst IsEvent (said_is x e h) fine
 
 entries_fit : (ws : List (List ℕ)) (entries : List ListEntry) → entries_of ws ≡ read_as entries → list_refusal entries ≡ None
 unfolding entries_of
@@ -76,47 +70,47 @@ list_fits word request e =
     one bytes (Ok x) is h = subst (λ (y : OrfRequest). AreChanges y.entries) (read_is x request h) (request_fits bytes x is)
     one bytes (Err number) is h = absurd cc
 
-said_sound : (verb : Verb) (ws : List (List ℕ)) (e : Happening) → said verb ws ≡ read_as (Says e) → IsSoundEvent e
+said_sound : (verb : Verb) (ws : List (List ℕ)) (e : Happening) → said verb ws ≡ read_as (Says e) → IsEvent e
 unfolding said
-said_sound verbs.Up ws e h = let x = read_first (one_word name_of ws) (λ peer. Ok (Says (ComesUp peer))) (Says e) h in sound (ComesUp x.0) e (tt, tt) x.2
-said_sound verbs.Down ws e h = let x = read_first (one_word name_of ws) (λ peer. Ok (Says (GoesDown peer))) (Says e) h in sound (GoesDown x.0) e (tt, tt) x.2
+said_sound verbs.Up ws e h = let x = read_first (one_word name_of ws) (λ peer. Ok (Says (ComesUp peer))) (Says e) h in sound (ComesUp x.0) e tt x.2
+said_sound verbs.Down ws e h = let x = read_first (one_word name_of ws) (λ peer. Ok (Says (GoesDown peer))) (Says e) h in sound (GoesDown x.0) e tt x.2
 said_sound verbs.Paths ws e h =
     let x = read_first (word_of prefix_word ws) (λ x. paths_of x.0.family x.1 >>= λ paths. Ok (Says (HasPaths x.0 paths))) (Says e) h in
     let paths = read_first (paths_of x.0.0.family x.0.1) (λ paths. Ok (Says (HasPaths x.0.0 paths))) (Says e) x.2 in
     let word = word_read prefix_word ws x.0 x.1 in
-    let fits = prefix_fits (family_of word.0) word.0 x.0.0 (was_there bad_prefix (prefix word.0) x.0.0 word.1) in
     let fine = paths_fine x.0.0.family x.0.1 paths.0 paths.1 in
-    sound (HasPaths x.0.0 paths.0) e ((some_paths x.0.0.family x.0.1 paths.0 paths.1, (fine.0, paths_have x.0.0.family x.0.1 paths.0 paths.1)), (fits, fine.1)) paths.2
-said_sound verbs.Withdraw ws e h = let x = read_first (one_word prefix_word ws) (λ p. Ok (Says (HasNone p))) (Says e) h in sound (HasNone x.0) e (tt, tt) x.2
-said_sound verbs.Policy ws e h = let x = read_first (two_words name_of policy_of ws) (λ x. Ok (Says (HasPolicy x.0 x.1))) (Says e) h in sound (HasPolicy x.0.0 x.0.1) e (tt, tt) x.2
+    let fits = event_in_range word.0 x.0.0 paths.0 (was_there bad_prefix (prefix word.0) x.0.0 word.1) fine.1 in
+    sound (HasPaths x.0.0 paths.0) e (some_paths x.0.0.family x.0.1 paths.0 paths.1, (fine.0, fits)) paths.2
+said_sound verbs.Withdraw ws e h = let x = read_first (one_word prefix_word ws) (λ p. Ok (Says (HasNone p))) (Says e) h in sound (HasNone x.0) e tt x.2
+said_sound verbs.Policy ws e h = let x = read_first (two_words name_of policy_of ws) (λ x. Ok (Says (HasPolicy x.0 x.1))) (Says e) h in sound (HasPolicy x.0.0 x.0.1) e tt x.2
 said_sound verbs.List ws e h =
     let x = read_first (word_of name_of ws) (λ x. entries_of x.1 >>= λ entries. Ok (Says (HasEntries x.0 entries))) (Says e) h in
     let entries = read_first (entries_of x.0.1) (λ entries. Ok (Says (HasEntries x.0.0 entries))) (Says e) x.2 in
-    sound (HasEntries x.0.0 entries.0) e (entries_fit x.0.1 entries.0 entries.1, tt) entries.2
-said_sound verbs.Refresh ws e h = let x = read_first (one_word name_of ws) (λ peer. Ok (Says (AsksAgain peer))) (Says e) h in sound (AsksAgain x.0) e (tt, tt) x.2
-said_sound verbs.Receive ws e h = let x = read_first (two_words name_of request_of ws) (λ x. Ok (Says (SendsRequest x.0))) (Says e) h in sound (SendsRequest x.0.0) e (tt, tt) x.2
+    sound (HasEntries x.0.0 entries.0) e (entries_fit x.0.1 entries.0 entries.1) entries.2
+said_sound verbs.Refresh ws e h = let x = read_first (one_word name_of ws) (λ peer. Ok (Says (AsksAgain peer))) (Says e) h in sound (AsksAgain x.0) e tt x.2
+said_sound verbs.Receive ws e h = let x = read_first (two_words name_of request_of ws) (λ x. Ok (Says (SendsRequest x.0))) (Says e) h in sound (SendsRequest x.0.0) e tt x.2
 said_sound verbs.Orf ws e h =
     let x = read_first (two_words name_of list_of ws) (λ x. Ok (Says (SendsList x.0 x.1))) (Says e) h in
     let word = second_read name_of list_of ws x.0 x.1 in
-    sound (SendsList x.0.0 x.0.1) e (list_fits word.0 x.0.1 word.1, tt) x.2
+    sound (SendsList x.0.0 x.0.1) e (list_fits word.0 x.0.1 word.1) x.2
 said_sound verbs.Sync [] e h = absurd cc
 said_sound verbs.Sync (word ∷ ws) e h = absurd cc
 
 -- ---- lines
 
 module _ (known : List ℕ → Option Verb) where
-  words_sound : (ws : List (List ℕ)) (e : Happening) → line_of_words known ws ≡ read_as (Says e) → IsSoundEvent e
+  words_sound : (ws : List (List ℕ)) (e : Happening) → line_of_words known ws ≡ read_as (Says e) → IsEvent e
   words_sound [] e h = absurd cc
   words_sound (word ∷ ws) e h = one (begins_with 35 word) h
     where
-      one : (b : Bool) → (if b then Ok SaysNothing else (or_refused bad_verb (known word) >>= λ verb. said verb ws)) ≡ read_as (Says e) → IsSoundEvent e
+      one : (b : Bool) → (if b then Ok SaysNothing else (or_refused bad_verb (known word) >>= λ verb. said verb ws)) ≡ read_as (Says e) → IsEvent e
       one true h = absurd cc
       one false h = let verb = read_first (or_refused bad_verb (known word)) (λ verb. said verb ws) (Says e) h in said_sound verb.0 ws e verb.2
 
   -- what a line says, whatever verbs are known
-  pub line_sound : (bytes : List ℕ) (e : Happening) → line_by known bytes ≡ read_as (Says e) → IsSoundEvent e
+  pub line_sound : (bytes : List ℕ) (e : Happening) → line_by known bytes ≡ read_as (Says e) → IsEvent e
   line_sound bytes e h = one (nat_lt most_line (length bytes)) h
     where
-      one : (b : Bool) → (if b then refused too_long else line_of_words known (words (without_return bytes))) ≡ read_as (Says e) → IsSoundEvent e
+      one : (b : Bool) → (if b then refused too_long else line_of_words known (words (without_return bytes))) ≡ read_as (Says e) → IsEvent e
       one true h = absurd cc
       one false h = words_sound (words (without_return bytes)) e h

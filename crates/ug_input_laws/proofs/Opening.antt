@@ -1,5 +1,5 @@
 -- A run may begin in the world that a configuration stands for.
-use Rattle.std.proofs.Common.{◌≡◌, ℕ, Bool, true, false, ◌&&◌, List, [], ◌∷◌, map, Option, Some, None, Ok, refl, ◌∙◌, subst, nat_lt}
+use Rattle.std.proofs.Common.{◌≡◌, ℕ, Bool, true, false, ◌&&◌, List, [], ◌∷◌, map, Option, Some, None, Ok, refl, ap, ◌∙◌, subst, nat_lt}
 use Rattle.std.specs.Prelude.{nat_le, not, length, is_none, ◌+◌, if◌then◌else◌}
 use Rattle.std.specs.List.{list_all}
 use Rattle.ug_types.specs.declared.named.Named.{Named}
@@ -14,20 +14,20 @@ use Rattle.ug_routemap.specs.Refusals.{is_ahead, is_known, count_in, has_few_set
 use Rattle.ug_outbound.specs.declared.peer.Peer.{Peer}
 use Rattle.ug_outbound.specs.Outbound.{number_of_address}
 use Rattle.ug_outbound.specs.Bounds.{FewSets, SetsFew}
-use Rattle.ug_history_rules.specs.Deeds.{Each}
 use Rattle.ug_message.specs.Spellable.{is_number, is_address, where_there}
 use Rattle.ug_world.specs.declared.parts.WorldParts.{WorldParts}
 use Rattle.ug_world.specs.World.{World}
 use Rattle.ug_world.specs.Parts.{fresh, names_of}
-use Rattle.ug_speaker.specs.Ranges.{IsRuleInRange, IsMapInRange, IsPeerInRange}
+use Rattle.ug_world.specs.declared.peer_state.PeerState.{PeerState}
+use Rattle.ug_world.specs.Good.{is_rule_in_range, is_map_in_range, is_peer_in_range}
 use Rattle.ug_speaker.specs.Owes.{IsOpening}
 use Rattle.ug_config.specs.Readings.{Tables}
 use Rattle.ug_config.specs.Checks.{setup}
 use Rattle.ug_config.specs.Worlds.{in_order, world_of, config, sets_origins, is_map, IsSound}
-use Rattle.ug_config.proofs.Inverting.{ok_is, bound, first_of, second_of}
+use Rattle.ug_config.proofs.Inverting.{ok_is, bound, both, first_of, second_of}
 use Rattle.ug_config.proofs.Good.{sound}
 use Rattle.ug_config.proofs.Making.{good_parts}
-use Rattle.ug_input_laws.proofs.Configured.{is_rule_in_range, is_map_in_range, is_peer_in_range, InRange, in_range}
+use Rattle.ug_input_laws.proofs.Configured.{InRange, in_range}
 
 -- ---- maps set little
 
@@ -64,41 +64,15 @@ sets_few t s (Some name) = few_in (names_of t.lists) t.maps s.are_maps name
 
 -- ---- the values
 
-rule_ranges : (r : MapRule) → is_rule_in_range r ≡ true → IsRuleInRange r
-rule_ranges r h =
-    let h1 = second_of (where_there (λ (n : ℕ). nat_le n 2) r.set_origin) _ h in
-    let h2 = second_of (where_there (is_address V4) r.set_next_hop) _ h1 in
-    let h3 = second_of (where_there is_number r.set_med) _ h2 in
-    let h4 = second_of (where_there is_number r.set_local_pref) _ h3 in
-    let h5 = second_of (where_there (list_all is_number) r.set_prepend) _ h4 in
-    record {
-      origin = first_of (where_there (λ (n : ℕ). nat_le n 2) r.set_origin) _ h;
-      next_hop = first_of (where_there (is_address V4) r.set_next_hop) _ h1;
-      med = first_of (where_there is_number r.set_med) _ h2;
-      local_pref = first_of (where_there is_number r.set_local_pref) _ h3;
-      prepend = first_of (where_there (list_all is_number) r.set_prepend) _ h4;
-      communities = first_of (where_there (list_all is_number) r.set_communities) (where_there (list_all is_number) r.add_communities) h5;
-      added = second_of (where_there (list_all is_number) r.set_communities) (where_there (list_all is_number) r.add_communities) h5;
-    }
+maps_range : (ms : List (Named (List MapRule))) → list_all is_map_in_range ms ≡ true → list_all is_map_in_range (map (in_order rule_seq) ms) ≡ true
+maps_range [] h = refl
+maps_range (m ∷ ms) h =
+    both (is_map_in_range (in_order rule_seq m)) (list_all is_map_in_range (map (in_order rule_seq) ms))
+    (ascending_all rule_seq is_rule_in_range m.value ∙ first_of (is_map_in_range m) (list_all is_map_in_range ms) h) (maps_range ms (second_of (is_map_in_range m) (list_all is_map_in_range ms) h))
 
-each_of : {A : Type 0} (p : A → Bool) (P : A → Type 0) → ((x : A) → p x ≡ true → P x) → (xs : List A) → list_all p xs ≡ true → Each P xs
-each_of p P good [] h = tt
-each_of p P good (x ∷ xs) h = (good x (first_of (p x) (list_all p xs) h), each_of p P good xs (second_of (p x) (list_all p xs) h))
-
-map_ranges : (m : Named (List MapRule)) → is_map_in_range m ≡ true → IsMapInRange (in_order rule_seq m)
-map_ranges m h = each_of is_rule_in_range IsRuleInRange rule_ranges (ascending rule_seq m.value) (ascending_all rule_seq is_rule_in_range m.value ∙ h)
-
-maps_range : (ms : List (Named (List MapRule))) → list_all is_map_in_range ms ≡ true → Each IsMapInRange (map (in_order rule_seq) ms)
-maps_range [] h = tt
-maps_range (m ∷ ms) h = (map_ranges m (first_of (is_map_in_range m) (list_all is_map_in_range ms) h), maps_range ms (second_of (is_map_in_range m) (list_all is_map_in_range ms) h))
-
-peers_range : (ps : List Peer) → list_all is_peer_in_range ps ≡ true → Each IsPeerInRange (map fresh ps)
-peers_range [] h = tt
-peers_range (p ∷ ps) h =
-    let here = first_of (is_peer_in_range p) (list_all is_peer_in_range ps) h in (
-      record { router = first_of (is_address V4 p.router_id) (is_address p.family p.local_address) here; local = second_of (is_address V4 p.router_id) (is_address p.family p.local_address) here },
-      peers_range ps (second_of (is_peer_in_range p) (list_all is_peer_in_range ps) h),
-    )
+peers_range : (ps : List Peer) → list_all (λ (s : PeerState). is_peer_in_range s.peer) (map fresh ps) ≡ list_all is_peer_in_range ps
+peers_range [] = refl
+peers_range (p ∷ ps) = ap (λ (b : Bool). is_peer_in_range p && b) (peers_range ps)
 
 -- ---- the world
 
@@ -121,7 +95,7 @@ opens t s ranges = record {
     asn = first_of (is_number t.local.asn) (is_number (number_of_address t.local.cluster_id)) ranges.0;
     cluster = second_of (is_number t.local.asn) (is_number (number_of_address t.local.cluster_id)) ranges.0;
     maps = maps_range t.maps ranges.1;
-    peers = peers_range t.peers ranges.2;
+    peers = peers_range t.peers ∙ ranges.2;
   };
 }
 

@@ -3,7 +3,5 @@
 #![tactic(auto)]
 
 mod laws;
-mod one;
 
 pub use laws::{configurations_open, lines_are_sound, one_opens};
-pub use one::one_world;

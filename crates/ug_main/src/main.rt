@@ -1,19 +1,17 @@
 //! The program: a run over the files of the system.
 #![tactic(auto)]
 
-ghost use Rattle.std.specs.Prelude.{◌≡◌, ◌<◌, ◌↔◌, IfErr, true, false, map, take, length, List, [], Some};
+ghost use Rattle.std.specs.Prelude.{◌≡◌, ◌<◌, ◌↔◌, IfErr, true, false, map, [], Some};
 ghost use Rattle.std.specs.String.{string_bytes};
 ghost use Rattle.ug_edge.specs.Told.{Rose, IsEnded, file_told, Missing};
-ghost use Rattle.ug_board.specs.Entry.{Entry};
 ghost use Rattle.ug_report.specs.Report.{names_in};
-ghost use Rattle.ug_input_laws.specs.One.{one_world};
+ghost use Rattle.ug_config.specs.One.{one_world};
 ghost use Rattle.ug_command_line.specs.Words.{OneCommand, RunCommand, CheckCommand, GroupsCommand, One, Run, Check, Groups, command_of, is_command};
-ghost use Rattle.ug_wiring.specs.Wires.{HasMade};
-ghost use Rattle.ug_commands.specs.Statuses.{row_of, is_fixed, status_text};
-ghost use Rattle.ug_commands.specs.Files.{AppendsThenStatus};
+ghost use Rattle.ug_run.specs.Wires.{AreMadeFor};
+ghost use Rattle.ug_report.specs.Statuses.{row_of, is_fixed, status_text};
+ghost use Rattle.ug_commands.specs.Files.{AppendsThenStatus, PicksJust};
 ghost use Rattle.ug_commands.specs.Checked.{IsChecked};
 ghost use Rattle.ug_commands.specs.Listed.{IsListed};
-ghost use Rattle.ug_run_rules.specs.Contents.{WireTold};
 ghost use Rattle.ug_run.specs.Commands.{IsOne, IsRunOf};
 
 use std::alloc::Global;
@@ -25,34 +23,37 @@ use std::sync::Wait;
 use std::sync::ledger::{Blank, Ledger};
 use std::thread::Threads;
 use std::{env, fs};
-use ug_commands::Status;
 use ug_edge::{HostSite, Sink, Site, StdoutSink};
 use ug_plain::Plain;
-use ug_run::serve;
+use ug_report::Status;
+use ug_run::{Done, answer_alone, serve};
 use ug_speaker::Speaker;
 use ug_types::Steps;
 
-/// Runs the command that the arguments are, and ends with the number of its status.
+/// Runs the command that the arguments are, over the files of the system, and ends with the number of its status. Lanes
+/// are there only for a command with sessions.
 fn main(rt: HostRuntime) -> ExitCode {
     let Ok(_held) = hold_standard_streams(&rt) else {
         return ExitCode::from(refuse(&rt, Status::ReadFault).number());
     };
-    let status = match words(&rt) {
-        Ok(words) => {
-            let mut site = HostSite::new(rt, rt.alloc());
-            let mut report = StdoutSink::new(rt);
-            run::<Brand, Plain, _, _, _>(
-                &rt,
-                rt.alloc(),
-                words.as_slice(),
-                &mut site,
-                &mut report,
-                Blank::new(1),
-            )
-        }
-        Err(status) => refuse(&rt, status),
+    let words = match words(&rt) {
+        Ok(words) => words,
+        Err(status) => return ExitCode::from(refuse(&rt, status).number()),
     };
-    ExitCode::from(status.number())
+    let mut site = HostSite::new(rt, rt.alloc());
+    let mut report = StdoutSink::new(rt);
+    if let Some(status) = answer_alone(rt.alloc(), words.as_slice(), &mut site, &mut report) {
+        return ExitCode::from(status.number());
+    }
+    let done = run::<Brand, Plain, _, _, _>(
+        &rt,
+        rt.alloc(),
+        words.as_slice(),
+        &mut site,
+        &mut report,
+        Blank::new(1),
+    );
+    ExitCode::from(done.status.number())
 }
 
 /// Three files that stand where standard streams were closed, or behind the streams.
@@ -99,8 +100,8 @@ fn words(rt: &HostRuntime) -> Result<Vec<String>, Status>
     Ok(words)
 }
 
-/// A run, with a counter of its own. Its status is that of `serve`, with all that holds of a run that ends so, whatever the
-/// machine behind it.
+/// A run, with a counter of its own. What it gives back, and what the site and the report came to, is all that `serve` says
+/// of these, whatever the machine behind it.
 fn run<L: Ledger, S: Speaker, R: Threads + Wait + Sync, E: Site, K: Sink>(
     rt: &R,
     alloc: Global,
@@ -108,40 +109,57 @@ fn run<L: Ledger, S: Speaker, R: Threads + Wait + Sync, E: Site, K: Sink>(
     site: &mut E,
     report: &mut K,
     blank: Blank,
-) -> Status
+) -> Done<E::Wire, S>
     requires name { blank.name ≡ L.name }
     requires parts { blank.parts ≡ L.parts }
     requires some { 0 < blank.parts }
     ensures one { (command : OneCommand) → command_of (map string_bytes words.now) ≡ Some (One command) →
-        (wires : List WireTold) × (history : List (Entry S.Job S.Said)) × IsOne S.Machine.rules S.speech (file_told (E.files site.old) command.events) result wires history
-        (E.is_picked site.new) (E.left site.new) (K.held report.old) (K.held report.new) (Rose (K.faults report.old) (K.faults report.new))
-        × HasMade (E.made site.old) (E.made site.new) command.dir (take (length wires) (names_in one_world)) }
+        IsOne S.Machine.rules S.speech command.events (file_told (E.files site.old) command.events) (E.picks site.old).names (E.picks site.new).names result.status
+        (map (λ wire. record { sessions = E.Wire.sessions wire; faults = E.Wire.faults wire }) result.wires.items) result.history.items
+        (E.picks site.new).is_open (E.left site.new) (K.held report.old) (K.held report.new) (Rose (K.faults report.old) (K.faults report.new)) }
     ensures run { (command : RunCommand) → command_of (map string_bytes words.now) ≡ Some (Run command) →
-        (wires : List WireTold) × (history : List (Entry S.Job S.Said)) × IsRunOf S.Machine.rules S.speech (file_told (E.files site.old) command.config) (file_told (E.files site.old) command.events) command.dir result wires history
-        (E.made site.old) (E.made site.new) (E.is_picked site.new) (E.left site.new) (K.held report.old) (K.held report.new) (Rose (K.faults report.old) (K.faults report.new)) }
+        IsRunOf S.Machine.rules S.speech command (file_told (E.files site.old) command.config) (file_told (E.files site.old) command.events) (E.picks site.old).names (E.picks site.new).names result.status
+        (map (λ wire. record { sessions = E.Wire.sessions wire; faults = E.Wire.faults wire }) result.wires.items) result.history.items (map E.Wire.made_for result.wires.items) (E.made site.old) (E.made site.new)
+        (E.picks site.new).is_open (E.left site.new) (K.held report.old) (K.held report.new) (Rose (K.faults report.old) (K.faults report.new)) }
     ensures checked { (command : CheckCommand) → command_of (map string_bytes words.now) ≡ Some (Check command) →
-        IsChecked command (file_told (E.files site.old) command.stream) (E.is_picked site.new) (E.left site.new) result (K.held report.old) (K.held report.new) (Rose (K.faults report.old) (K.faults report.new)) }
-    ensures check_missing { (command : CheckCommand) → command_of (map string_bytes words.now) ≡ Some (Check command) →
-        file_told (E.files site.old) command.stream ≡ Missing → (row_of result).may_be_unread ≡ true }
-    ensures check_unmade { (command : CheckCommand) → command_of (map string_bytes words.now) ≡ Some (Check command) → E.made site.new ≡ E.made site.old }
+        IsChecked command (file_told (E.files site.old) command.stream) (E.picks site.new).is_open (E.left site.new) result.status (K.held report.old) (K.held report.new) (Rose (K.faults report.old) (K.faults report.new)) }
     ensures listed { (command : GroupsCommand) → command_of (map string_bytes words.now) ≡ Some (Groups command) →
-        IsListed (file_told (E.files site.old) command.config) result (K.held report.old) (K.held report.new) (Rose (K.faults report.old) (K.faults report.new)) }
+        IsListed (file_told (E.files site.old) command.config) result.status (K.held report.old) (K.held report.new) (Rose (K.faults report.old) (K.faults report.new)) }
+    // A file that the site says is missing was read by nobody, and the status says so.
+    ensures check_missing { (command : CheckCommand) → command_of (map string_bytes words.now) ≡ Some (Check command) →
+        file_told (E.files site.old) command.stream ≡ Missing → (row_of result.status).may_be_unread ≡ true }
     ensures groups_missing { (command : GroupsCommand) → command_of (map string_bytes words.now) ≡ Some (Groups command) →
-        file_told (E.files site.old) command.config ≡ Missing → (row_of result).may_be_unread ≡ true }
+        file_told (E.files site.old) command.config ≡ Missing → (row_of result.status).may_be_unread ≡ true }
+    // A command without sessions picks its one file once. What `one` and `run` pick they promise themselves.
+    ensures check_picked { (command : CheckCommand) → command_of (map string_bytes words.now) ≡ Some (Check command) →
+        PicksJust (E.picks site.old).names (E.picks site.new).names command.stream result.status }
+    ensures groups_picked { (command : GroupsCommand) → command_of (map string_bytes words.now) ≡ Some (Groups command) →
+        PicksJust (E.picks site.old).names (E.picks site.new).names command.config result.status }
+    // The wires given back are all that were made, each for the peer of its place, in the folder of the command.
+    ensures one_made { (command : OneCommand) → command_of (map string_bytes words.now) ≡ Some (One command) →
+        AreMadeFor (E.made site.old) (E.made site.new) command.dir (names_in one_world) (map E.Wire.made_for result.wires.items) }
+    ensures check_unmade { (command : CheckCommand) → command_of (map string_bytes words.now) ≡ Some (Check command) → E.made site.new ≡ E.made site.old }
     ensures groups_unmade { (command : GroupsCommand) → command_of (map string_bytes words.now) ≡ Some (Groups command) → E.made site.new ≡ E.made site.old }
+    ensures check_idle { (command : CheckCommand) → command_of (map string_bytes words.now) ≡ Some (Check command) → (result.wires.items ≡ []) × (result.history.items ≡ []) }
+    ensures groups_idle { (command : GroupsCommand) → command_of (map string_bytes words.now) ≡ Some (Groups command) → (result.wires.items ≡ []) × (result.history.items ≡ []) }
+    // Words that are no command.
+    ensures usage { (result.status ≡ Status.Usage) ↔ (is_command (map string_bytes words.now) ≡ false) }
     ensures no_command { is_command (map string_bytes words.now) ≡ false →
         AppendsThenStatus (K.held report.old) (K.held report.new) (Rose (K.faults report.old) (K.faults report.new)) [] (status_text Status.Usage) }
+    ensures idle { is_command (map string_bytes words.now) ≡ false → (result.wires.items ≡ []) × (result.history.items ≡ []) }
     ensures unmade { is_command (map string_bytes words.now) ≡ false → E.made site.new ≡ E.made site.old }
     ensures unread { is_command (map string_bytes words.now) ≡ false → E.left site.new ≡ E.left site.old }
-    ensures usage { (result ≡ Status.Usage) ↔ (is_command (map string_bytes words.now) ≡ false) }
-    ensures ended { (row_of result).completed ≡ true → IsEnded (E.left site.new) }
-    ensures read { result ≡ Status.ReadFault → Rose (E.faults site.old) (E.faults site.new) }
-    ensures report { result ≡ Status.ReportFault → Rose (K.faults report.old) (K.faults report.new) }
-    ensures site { result ≡ Status.SiteFault → Rose (E.wire_faults site.old) (E.wire_faults site.new) }
+    ensures unpicked { is_command (map string_bytes words.now) ≡ false → E.picks site.new ≡ E.picks site.old }
+    // What a status says of the outside.
+    ensures read { result.status ≡ Status.ReadFault → Rose (E.faults site.old) (E.faults site.new) }
+    ensures unharmed { (result.status ≡ Status.ReadFault → ⊥) → E.faults site.new ≡ E.faults site.old }
+    ensures report { result.status ≡ Status.ReportFault → Rose (K.faults report.old) (K.faults report.new) }
+    ensures site { result.status ≡ Status.SiteFault → Rose (E.wire_faults site.old) (E.wire_faults site.new) }
+    ensures all_wired { (result.status ≡ Status.SiteFault → ⊥) → E.wire_faults site.new ≡ E.wire_faults site.old }
+    ensures ended { (row_of result.status).completed ≡ true → IsEnded (E.left site.new) }
 {
     let mut steps = Steps::<L>::new(blank);
-    let done = serve::<S, R, E, K, L>(rt, alloc, words, site, report, &mut steps);
-    done.status
+    serve::<S, R, E, K, L>(rt, alloc, words, site, report, &mut steps)
 }
 
 /// Says the status of a run that could not begin.

@@ -30,7 +30,7 @@ pub fn read_pieces<C, E: Source, T: Taker<C>>(
     ensures unharmed { (IsErrOf result Halt.Read → ⊥) → E.faults source.new ≡ E.faults source.old }
     ensures faults { E.faults source.old ≤ E.faults source.new }
     ensures files { E.files source.new ≡ E.files source.old }
-    ensures is_picked { E.is_picked source.new ≡ E.is_picked source.old }
+    ensures picks { E.picks source.new ≡ E.picks source.old }
     ensures made { E.made source.new ≡ E.made source.old }
     ensures wire_faults { E.wire_faults source.new ≡ E.wire_faults source.old }
 {

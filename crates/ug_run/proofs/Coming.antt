@@ -8,7 +8,7 @@ use Rattle.ug_types.specs.Bytes.{is_empty}
 use Rattle.ug_edge.specs.Told.{Rose, IsEnded, HasPicked, FileText, file_told, AppendsPiece}
 use Rattle.ug_pieces.specs.Pieces.{HasRead}
 use Rattle.ug_pieces.specs.Reporting.{AppendsFront}
-use Rattle.ug_pieces.specs.AppendingLaws.{AppendsPiece-more, AppendsFront-more, AppendsFront-longer}
+use Rattle.ug_pieces.specs.AppendingLaws.{AppendsPiece-more, AppendsFront-more}
 use Rattle.ug_board.specs.Entry.{Entry}
 use Rattle.ug_board.specs.Rules.{Rules, IsMachine}
 use Rattle.ug_board.specs.History.{IsLegal, replay}
@@ -32,9 +32,9 @@ use Rattle.ug_event_loop.specs.Files.{lines_read, IsPastLimits}
 use Rattle.ug_event_loop.specs.Turns.{IsEndedAt}
 use Rattle.ug_event_loop.specs.Reading.{Outside, IsNotBegun, EndsAt}
 use Rattle.ug_commands.specs.Files.{IsPartOf, AgreesWithSite, AppendsThenStatus}
-use Rattle.ug_commands.specs.Statuses.{row_of, status_text}
-use Rattle.ug_commands.specs.declared.status.Status.{Status}
-use Rattle.ug_commands.specs.declared.status.Status.TheVariants as statuses
+use Rattle.ug_report.specs.Statuses.{row_of, status_text}
+use Rattle.ug_report.specs.declared.status.Status.{Status}
+use Rattle.ug_report.specs.declared.status.Status.TheVariants as statuses
 use Rattle.ug_commands.proofs.Ends.{rest_of, part_read, no_rest, not_missing, agrees_read, then_status, later_status}
 use Rattle.ug_run_rules.specs.Contents.{WireTold, Content}
 use Rattle.ug_run_rules.specs.Crew.{EachLaneFrom, IsCrewed, IsClosed, all_losses}
@@ -42,8 +42,8 @@ use Rattle.ug_run_rules.specs.Kept.{IsKept, IsWireOf, IsWireRight, AreCounted}
 use Rattle.ug_run_rules.proofs.Lists.{each-front, each-join}
 use Rattle.ug_run_rules.proofs.Keeps.{closed-kept, each_wire_so}
 use Rattle.ug_run.specs.Ends.{last_text, IsFirst, IsConcluded, CompletesBy, IsFinished}
-use Rattle.ug_run.specs.Promise.{lines_counted, IsLimited, texts, whole_text, HasReport, IsFirstLoss, IsDoneBy, IsRun}
-use Rattle.ug_run.proofs.Closing.{lines-sound, others-lanes, IsBehind, ended-all, story-all}
+use Rattle.ug_run.specs.Promise.{lines_counted, IsLimited, texts, whole_text, HasReport, IsFirstLoss, IsDoneBy, Concludes, IsRun}
+use Rattle.ug_run.proofs.Stories.{lines-sound, others-lanes, IsBehind, ended-all, story-all}
 
 -- ---- lines
 
@@ -61,7 +61,7 @@ ended_empty left ended then is = ap is_empty (no_rest left (then is))
 -- ---- reports
 
 module _ (names : List (List ℕ)) (w : World) (lines : List (Reads Saying)) (marks : List (List Mark)) (losses : List Loss) (tally : Tally) (tallied : IsTally w lines tally) (before mid held : Option (List ℕ)) (failed : Type 0)
-    (reported : AppendsPiece before mid (concat (line_texts names 1 w lines marks))) where
+    (reported : AppendsPiece before mid (concat (line_texts names 1 w lines marks))) (concludes : Type 0) where
   last_is : last_text names losses tally.accepted tally.refused ≡ end_text names w lines losses
   last_is =
       ap (λ n. flat_map (loss_text names) losses ++ counts_text n tally.refused) tallied.accepted
@@ -80,23 +80,23 @@ module _ (names : List (List ℕ)) (w : World) (lines : List (Reads Saying)) (ma
       let piece : AppendsPiece mid held (end_text names w lines losses ++ h.0) = subst (λ (t : List ℕ). AppendsPiece mid held (t ++ h.0)) last_is h.3 in
       (h.0, h.1, h.2, subst (λ (t : List ℕ). AppendsPiece before held t) (sym (append_assoc all (end_text names w lines losses) h.0)) (AppendsPiece-more before mid held all (end_text names w lines losses ++ h.0) reported piece), h.4)
 
-  ends_starved : AppendsThenStatus mid held failed [] (status_text statuses.NoMemory) → HasReport names w lines marks losses statuses.NoMemory before held failed
+  ends_starved : AppendsThenStatus mid held failed [] (status_text statuses.NoMemory) → HasReport names w lines marks losses concludes statuses.NoMemory before held failed
   ends_starved h =
       let all = line_texts names 1 w lines marks in
       (all, [], sym (append-nil all), then_status before mid held failed (concat all) (status_text statuses.NoMemory) reported h)
 
   -- what the last lines come to
-  concluded_report : (status : Status) → IsConcluded names losses tally.accepted tally.refused mid held failed status → HasReport names w lines marks losses status before held failed
-  concluded_report statuses.Ok h = ends_whole h.1
-  concluded_report (statuses.Lost peer session) h = ends_lost h.1
-  concluded_report statuses.ReportFault h = ends_front h.1
-  concluded_report statuses.NoMemory h = ends_starved h
-  concluded_report statuses.Usage h = absurd h
-  concluded_report (statuses.Config number field) h = absurd h
-  concluded_report statuses.ReadFault h = absurd h
-  concluded_report statuses.SiteFault h = absurd h
-  concluded_report statuses.TooLong h = absurd h
-  concluded_report (statuses.Malformed cause offset) h = absurd h
+  concluded_report : concludes → (status : Status) → IsConcluded names losses tally.accepted tally.refused mid held failed status → HasReport names w lines marks losses concludes status before held failed
+  concluded_report all statuses.Ok h = ends_whole h.1
+  concluded_report all (statuses.Lost peer session) h = ends_lost h.1
+  concluded_report all statuses.ReportFault h = inr (all, ends_front h.1)
+  concluded_report all statuses.NoMemory h = ends_starved h
+  concluded_report all statuses.Usage h = absurd h
+  concluded_report all (statuses.Config number field) h = absurd h
+  concluded_report all statuses.ReadFault h = absurd h
+  concluded_report all statuses.SiteFault h = absurd h
+  concluded_report all statuses.TooLong h = absurd h
+  concluded_report all (statuses.Malformed cause offset) h = absurd h
 
 concluded_first : (names : List (List ℕ)) (losses : List Loss) (accepted refused : ℕ) (mid held : Option (List ℕ)) (failed : Type 0) (status : Status)
     → IsConcluded names losses accepted refused mid held failed status → IsFirstLoss status losses
@@ -193,13 +193,16 @@ module _ {Opening State Job Said : Type 0} (rules : Rules Opening State Job Said
       noted : (row_of status).completed ≡ true → unnoted ≡ false
       over : (row_of status).completed ≡ true → IsOver (replay rules root seen)
 
+    abbrev ConcludesWith : List (Reads Saying) → List Loss → Type 0
+    ConcludesWith untaken losses = Concludes rules speech untaken losses wires history
+
     abbrev IsRunAt : Status → Type 0
     IsRunAt status = IsRun rules speech w grammar first (file_told files name) status wires history is_picked left' before held failed
 
-    run_with : (status : Status) (ahead lines : List (Reads Saying)) (marks : List (List Mark)) (taken : HasTaken rules speech root ahead lines marks seen) → Asks status ahead lines marks
+    run_with : (status : Status) (ahead lines : List (Reads Saying)) (marks : List (List Mark)) (taken : HasTaken rules speech root ahead lines marks seen) → (asks : Asks status ahead lines marks)
         → (contents : List (List Content)) (lost : List (List ℕ)) → IsKept (speech.first root) (ahead ++ lines) (taken.first_marks ++ marks) (row_of status).completed wires contents lost
         → ((row_of status).completed ≡ true → lost ≡ all_losses 0 (length wires) history)
-        → HasReport b.names (last_world (speech.first root) ahead) lines marks (losses_from 0 lost) status before held failed × IsFirstLoss status (losses_from 0 lost)
+        → HasReport b.names (last_world (speech.first root) ahead) lines marks (losses_from 0 lost) (ConcludesWith asks.untaken (losses_from 0 lost)) status before held failed × IsFirstLoss status (losses_from 0 lost)
         → IsRunAt status
     run_with status ahead lines marks taken asks contents lost kept losses_are told =
         record {
@@ -224,8 +227,8 @@ module _ {Opening State Job Said : Type 0} (rules : Rules Opening State Job Said
           kept = subst (λ (v : World). IsKept v (ahead ++ lines) (taken.first_marks ++ marks) (row_of status).completed wires contents lost) root_is kept;
           first_loss = told.1;
           report =
-              subst (λ (v : World). HasReport (names_in w) (last_world v ahead) lines marks (losses_from 0 lost) status before held failed) root_is
-              (subst (λ (ns : List (List ℕ)). HasReport ns (last_world (speech.first root) ahead) lines marks (losses_from 0 lost) status before held failed) b_names told.0);
+              subst (λ (v : World). HasReport (names_in w) (last_world v ahead) lines marks (losses_from 0 lost) (ConcludesWith asks.untaken (losses_from 0 lost)) status before held failed) root_is
+              (subst (λ (ns : List (List ℕ)). HasReport ns (last_world (speech.first root) ahead) lines marks (losses_from 0 lost) (ConcludesWith asks.untaken (losses_from 0 lost)) status before held failed) b_names told.0);
           done = record {
             root = root;
             first = root_is;
@@ -235,9 +238,9 @@ module _ {Opening State Job Said : Type 0} (rules : Rules Opening State Job Said
           };
         }
 
-    run_is : (status : Status) (ahead lines : List (Reads Saying)) (marks : List (List Mark)) → HasTaken rules speech root ahead lines marks seen → Asks status ahead lines marks
+    run_is : (status : Status) (ahead lines : List (Reads Saying)) (marks : List (List Mark)) → HasTaken rules speech root ahead lines marks seen → (asks : Asks status ahead lines marks)
         → ((losses : List Loss) → ((row_of status).completed ≡ true → losses ≡ losses_from 0 (all_losses 0 (length wires) history))
-        → HasReport b.names (last_world (speech.first root) ahead) lines marks losses status before held failed × IsFirstLoss status losses)
+        → HasReport b.names (last_world (speech.first root) ahead) lines marks losses (ConcludesWith asks.untaken losses) status before held failed × IsFirstLoss status losses)
         → IsRunAt status
     run_is status ahead lines marks taken asks report =
         let closed = closes ahead lines marks (row_of status).completed taken asks.ahead_sound asks.sound asks.noted asks.over in
@@ -272,22 +275,23 @@ module _ {Opening State Job Said : Type 0} (rules : Rules Opening State Job Said
       counted_all = ap (λ (t : Bool). said (lines_read t read)) is_whole ∙ sym (append-nil (said (lines_read true read)))
 
       module _ (peers : ℕ) (peers_are : peers ≡ length wires) where
-        abbrev Concludes : Status → Type 0
-        Concludes status = IsConcluded b.names (losses_from 0 (all_losses 0 peers history)) b.tally.accepted b.tally.refused mid held failed status
+        abbrev ConcludesAs : Status → Type 0
+        ConcludesAs status = IsConcluded b.names (losses_from 0 (all_losses 0 peers history)) b.tally.accepted b.tally.refused mid held failed status
 
         -- the losses are those of the history
         same_losses : (losses : List Loss) → losses ≡ losses_from 0 (all_losses 0 (length wires) history) → losses_from 0 (all_losses 0 peers history) ≡ losses
         same_losses losses is = ap (λ n. losses_from 0 (all_losses 0 n history)) peers_are ∙ sym is
 
-        told_as : (status : Status) (losses : List Loss) → losses_from 0 (all_losses 0 peers history) ≡ losses → Concludes status
-            → HasReport b.names (last_world (speech.first root) first) (said (lines_read true read)) stands.marks losses status before held failed × IsFirstLoss status losses
+        told_as : (status : Status) (losses : List Loss) → losses_from 0 (all_losses 0 peers history) ≡ losses → ConcludesAs status
+            → HasReport b.names (last_world (speech.first root) first) (said (lines_read true read)) stands.marks losses (ConcludesWith [] losses) status before held failed × IsFirstLoss status losses
         told_as status losses same concluded =
+            let all : ConcludesWith [] losses = (refl, sym same ∙ ap (λ n. losses_from 0 (all_losses 0 n history)) peers_are) in
             let here = subst (λ (ls : List Loss). IsConcluded b.names ls b.tally.accepted b.tally.refused mid held failed status) same concluded in (
-              concluded_report b.names (last_world (speech.first root) first) (said (lines_read true read)) stands.marks losses b.tally stands.tallied before mid held failed stands.reported status here,
+              concluded_report b.names (last_world (speech.first root) first) (said (lines_read true read)) stands.marks losses b.tally stands.tallied before mid held failed stands.reported (ConcludesWith [] losses) all status here,
               concluded_first b.names losses b.tally.accepted b.tally.refused mid held failed status here,
             )
 
-        completed_asks : (status : Status) → unnoted ≡ false → IsLimited status read → lines_counted status grammar read (rest_of left') ≡ said (lines_read true read) ++ [] → (row_of status).completed ≡ true → Concludes status
+        completed_asks : (status : Status) → unnoted ≡ false → IsLimited status read → lines_counted status grammar read (rest_of left') ≡ said (lines_read true read) ++ [] → (row_of status).completed ≡ true → ConcludesAs status
             → IsRunAt status
         completed_asks status none limits counted done concluded = run_is status first (said (lines_read true read)) stands.marks stands.taken (record {
           whole = λ _. no_rest_here;
@@ -303,7 +307,7 @@ module _ {Opening State Job Said : Type 0} (rules : Rules Opening State Job Said
         }) (λ losses is. told_as status losses (same_losses losses (is done)) concluded)
 
         -- Everything was told, and then the report failed: what is kept is what a run that completed keeps.
-        unwritten : unnoted ≡ false → Concludes statuses.ReportFault → IsRunAt statuses.ReportFault
+        unwritten : unnoted ≡ false → ConcludesAs statuses.ReportFault → IsRunAt statuses.ReportFault
         unwritten none concluded =
             let lines = said (lines_read true read) in
             let closed = closes first lines stands.marks true stands.taken first_sound (lines-sound grammar (lines_read true read)) (λ _. none) (λ _. over) in
@@ -337,11 +341,11 @@ module _ {Opening State Job Said : Type 0} (rules : Rules Opening State Job Said
           noted = λ no. absurd cc;
           over = λ no. absurd cc;
         }) (λ losses is. (
-          ends_starved b.names (last_world (speech.first root) first) (said (lines_read true read)) stands.marks losses b.tally stands.tallied before mid held failed stands.reported line,
+          ends_starved b.names (last_world (speech.first root) first) (said (lines_read true read)) stands.marks losses b.tally stands.tallied before mid held failed stands.reported (ConcludesWith [] losses) line,
           tt,
         ))
 
-        concludes : unnoted ≡ false → (status : Status) → Concludes status → IsRunAt status
+        concludes : unnoted ≡ false → (status : Status) → ConcludesAs status → IsRunAt status
         concludes none statuses.Ok h = completed_asks statuses.Ok none limited counted_all refl h
         concludes none (statuses.Lost peer session) h = completed_asks (statuses.Lost peer session) none limited counted_all refl h
         concludes none statuses.ReportFault h = unwritten none h
@@ -429,8 +433,7 @@ module _ {Opening State Job Said : Type 0} (rules : Rules Opening State Job Said
         noted = λ no. absurd cc;
         over = λ no. absurd cc;
       }) (λ losses is. (
-        subst (λ (h : Option (List ℕ)). HasReport b.names (last_world (speech.first root) first) stop.some stop.marks losses statuses.ReportFault before h failed) (sym same)
-            (AppendsFront-longer before mid (concat (line_texts b.names 1 (last_world (speech.first root) first) stop.some stop.marks)) (end_text b.names (last_world (speech.first root) first) stop.some losses) stop.reported),
+        subst (λ (h : Option (List ℕ)). HasReport b.names (last_world (speech.first root) first) stop.some stop.marks losses (ConcludesWith stop.more losses) statuses.ReportFault before h failed) (sym same) (inl stop.reported),
         tt,
       ))
 
@@ -448,7 +451,8 @@ module _ {Opening State Job Said : Type 0} (rules : Rules Opening State Job Said
       noted = λ no. absurd cc;
       over = λ no. absurd cc;
     }) (λ losses is. (
-      ends_starved b.names (last_world (speech.first root) []) [] stands.marks losses b.tally stands.tallied before mid held failed stands.reported line,
+      ends_starved b.names (last_world (speech.first root) []) [] stands.marks losses b.tally stands.tallied before mid held failed stands.reported
+          (ConcludesWith (lines_counted statuses.NoMemory grammar read (rest_of left')) losses) line,
       tt,
     ))
 

@@ -6,9 +6,9 @@ use Rattle.ug_pieces.specs.Reporting.{AppendsFront}
 use Rattle.ug_report.specs.declared.endings.Loss.{Loss}
 use Rattle.ug_report.specs.Report.{name_at, lost_status, losses_status}
 use Rattle.ug_commands.specs.Files.{AppendsThenStatus}
-use Rattle.ug_commands.specs.Statuses.{status_text}
-use Rattle.ug_commands.specs.declared.status.Status.{Status}
-use Rattle.ug_commands.specs.declared.status.Status.TheVariants as statuses
+use Rattle.ug_report.specs.Statuses.{status_text}
+use Rattle.ug_report.specs.declared.status.Status.{Status}
+use Rattle.ug_report.specs.declared.status.Status.TheVariants as statuses
 use Rattle.ug_run.specs.Ends.{last_text, IsFirst, IsConcluded}
 
 module _ (names : List (List ℕ)) (losses : List Loss) (accepted refused : ℕ) (before held : Option (List ℕ)) (failed : Type 0) where

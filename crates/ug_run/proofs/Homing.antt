@@ -3,7 +3,7 @@ use Rattle.std.proofs.Common.{◌≡◌, ℕ, ◌+◌, ◌<◌, ◌≤◌, Bool,
 use Rattle.std.specs.Prelude.{IfSome}
 use Rattle.std.specs.List.{list_any}
 use Rattle.std.proofs.lemmas.List.{length-map}
-use Rattle.ug_edge.specs.Told.{Rose, IsEnded, HasPicked, FileText, file_told}
+use Rattle.ug_edge.specs.Told.{Rose, IsEnded, WireName, HasPicked, FileText, file_told}
 use Rattle.ug_pieces.specs.ReadingLaws.{Rose-later}
 use Rattle.ug_board.specs.Entry.{Entry}
 use Rattle.ug_board.specs.Rules.{Rules, IsMachine}
@@ -17,12 +17,11 @@ use Rattle.ug_events.specs.Views.{event_of}
 use Rattle.ug_events.specs.declared.event.Event.{Event}
 use Rattle.ug_world.specs.World.{World}
 use Rattle.ug_speaker.specs.Speech.{Speech}
-use Rattle.ug_speaker.specs.Ranges.{IsEventInRange}
 use Rattle.ug_speaker.specs.Owes.{IsOpening, IsSpeaker}
 use Rattle.ug_speaker.specs.Story.{IsSound}
 use Rattle.ug_report.specs.declared.endings.Loss.{Loss}
 use Rattle.ug_report.specs.Report.{names_in, losses_from, losses_status}
-use Rattle.ug_crew.specs.Posts.{Post, post_of, posts, AreHere}
+use Rattle.ug_sender.specs.Posts.{Post, post_of, posts, AreHere}
 use Rattle.ug_event_loop.specs.declared.grammar.Grammar.{Grammar}
 use Rattle.ug_event_loop.specs.declared.tally.Tally.{Tally}
 use Rattle.ug_event_loop.specs.declared.reading.End.{End}
@@ -30,19 +29,19 @@ use Rattle.ug_event_loop.specs.declared.reading.End.TheVariants as ends
 use Rattle.ug_event_loop.specs.Standing.{BuilderView, IsSameBuilder, BuilderStands}
 use Rattle.ug_event_loop.specs.FreshLaws.{fresh-stands}
 use Rattle.ug_event_loop.specs.Reading.{Outside, first_of, EndsAt, HasEnded, IsRead}
-use Rattle.ug_wiring.specs.Lanes.{AreAtPosts, AreKept, fresh_lanes}
-use Rattle.ug_wiring.specs.Run.{IsBegun, IsHistoryOf}
-use Rattle.ug_wiring.proofs.LaneLaws.{posts_fresh, posts_stay, posts_here, lanes_many}
-use Rattle.ug_commands.specs.Statuses.{row_of, status_text}
-use Rattle.ug_commands.specs.declared.status.Status.{Status}
-use Rattle.ug_commands.specs.declared.status.Status.TheVariants as statuses
+use Rattle.ug_run.specs.Lanes.{AreAtPosts, AreKept, fresh_lanes}
+use Rattle.ug_run.specs.Boards.{IsBegun, IsHistoryOf}
+use Rattle.ug_run.proofs.LaneLaws.{posts_fresh, posts_stay, posts_here, lanes_many, lanes_stay_for}
+use Rattle.ug_report.specs.Statuses.{row_of, status_text}
+use Rattle.ug_report.specs.declared.status.Status.{Status}
+use Rattle.ug_report.specs.declared.status.Status.TheVariants as statuses
 use Rattle.ug_commands.proofs.Ends.{part_read, later_status}
 use Rattle.ug_run_rules.specs.Contents.{WireTold}
 use Rattle.ug_run_rules.specs.Crew.{all_losses}
 use Rattle.ug_run.specs.Ends.{last_text, IsConcluded, CompletesBy, IsFinished}
 use Rattle.ug_run.specs.Promise.{IsRun, IsCounted}
 use Rattle.ug_event_loop.proofs.Counting.{least-whole, most-whole}
-use Rattle.ug_run.proofs.Closing.{crew-from, IsBehind, behind}
+use Rattle.ug_run.proofs.Stories.{crew-from, IsBehind, behind}
 use Rattle.ug_run.proofs.Coming.{comes}
 
 -- ---- lanes and their posts
@@ -51,14 +50,18 @@ module _ {W Opening Job Said : Type 0} where
   pub same-many : (lanes old : List (LaneView W Opening Job Said)) → posts lanes ≡ posts old → length lanes ≡ length old
   same-many lanes old same = sym (length-map lanes post_of) ∙ (ap length same ∙ length-map old post_of)
 
-  module _ {State : Type 0} (speech : Speech Opening State Job Said) (w : World) (gate : Gate) (b0 : Held (Entry Job Said) Opening) (passes : List (Held (Entry Job Said) Opening)) (wires : List W) (is : IsBegun speech w gate b0 passes) where
-    pub fresh-at : AreAtPosts gate.id (Some is.root) 0 (fresh_lanes 0 wires passes)
-    fresh-at = posts_fresh gate.id is.root 0 wires passes is.others
+  pub same-for : (lanes old : List (LaneView W Opening Job Said)) → posts lanes ≡ posts old
+      → map (λ (lane : LaneView W Opening Job Said). lane.made_for) lanes ≡ map (λ (lane : LaneView W Opening Job Said). lane.made_for) old
+  same-for lanes old same = lanes_stay_for post_of (λ a b e. ap (λ (p : Post Opening). p.made_for) e) lanes old same
 
-    pub back-at : (lanes : List (LaneView W Opening Job Said)) → posts lanes ≡ posts (fresh_lanes 0 wires passes) → AreAtPosts gate.id (Some is.root) 0 lanes
+  module _ {State : Type 0} (made_for : W → WireName) (speech : Speech Opening State Job Said) (w : World) (gate : Gate) (b0 : Held (Entry Job Said) Opening) (passes : List (Held (Entry Job Said) Opening)) (wires : List W) (is : IsBegun speech w gate b0 passes) where
+    pub fresh-at : AreAtPosts gate.id (Some is.root) 0 (fresh_lanes made_for 0 wires passes)
+    fresh-at = posts_fresh made_for gate.id is.root 0 wires passes is.others
+
+    pub back-at : (lanes : List (LaneView W Opening Job Said)) → posts lanes ≡ posts (fresh_lanes made_for 0 wires passes) → AreAtPosts gate.id (Some is.root) 0 lanes
     back-at lanes same =
         posts_stay post_of (λ a b e. (ap (λ (p : Post Opening). p.turnstile) e, ap (λ (p : Post Opening). p.root) e, ap (λ (p : Post Opening). p.number) e, ap (λ (p : Post Opening). p.peer) e))
-        gate.id (Some is.root) 0 lanes (fresh_lanes 0 wires passes) same fresh-at
+        gate.id (Some is.root) 0 lanes (fresh_lanes made_for 0 wires passes) same fresh-at
 
     pub here-at : (lanes : List (LaneView W Opening Job Said)) → AreAtPosts gate.id (Some is.root) 0 lanes → AreHere gate.id (posts lanes)
     here-at lanes at = posts_here post_of (λ (p : Post Opening). p.turnstile) (λ a. refl) gate.id (Some is.root) 0 lanes at
@@ -68,9 +71,9 @@ module _ {W Opening Job Said : Type 0} where
 
 -- ---- the first event
 
-pub first-sound : (first : Option Event) → IfSome first (λ event. IsEvent (event_of event)) → IfSome first (λ event. IsEventInRange (event_of event)) → Each IsSound (first_of first)
-first-sound None form in_range = tt
-first-sound (Some event) form in_range = ((form, in_range), tt)
+pub first-sound : (first : Option Event) → IfSome first (λ event. IsEvent (event_of event)) → Each IsSound (first_of first)
+first-sound None form = tt
+first-sound (Some event) form = (form, tt)
 
 -- ---- a fault within a part of a run is one of the run
 
@@ -129,6 +132,14 @@ module _ (names : List (List ℕ)) (losses : List Loss) (accepted refused : ℕ)
   finished-read P ends.Report unnoted status h by_read is = let at : statuses.ReportFault ≡ statuses.ReadFault = sym h.0 ∙ is in absurd cc
   finished-read P ends.NoMemory unnoted status h by_read is = let at : statuses.NoMemory ≡ statuses.ReadFault = sym h.0 ∙ is in absurd cc
   finished-read P ends.TooLong unnoted status h by_read is = let at : statuses.TooLong ≡ statuses.ReadFault = sym h.0 ∙ is in absurd cc
+
+  -- a read that failed is told as that
+  pub finished-unread : (end : End) (unnoted : Bool) (status : Status) → IsFinished names losses accepted refused before held F end unnoted status → end ≡ ends.Read → status ≡ statuses.ReadFault
+  finished-unread ends.Complete unnoted status h is = absurd cc
+  finished-unread ends.Read unnoted status h is = h.0
+  finished-unread ends.Report unnoted status h is = absurd cc
+  finished-unread ends.NoMemory unnoted status h is = absurd cc
+  finished-unread ends.TooLong unnoted status h is = absurd cc
 
   pub finished-report : (P : Type 0) (end : End) (unnoted : Bool) (status : Status) → IsFinished names losses accepted refused before held F end unnoted status → (end ≡ ends.Report → P) → (F → P) → status ≡ statuses.ReportFault → P
   finished-report P ends.Complete unnoted status h by_report by_last is = by_last ((completes_causes unnoted status h).failed is)
@@ -220,14 +231,14 @@ abbrev legal_at : {Opening State Job Said : Type 0} → Rules Opening State Job 
 legal_at rules root history = IsLegal rules root history
 
 module _ {W Opening State Job Said : Type 0} (rules : Rules Opening State Job Said) (speech : Speech Opening State Job Said) (machine : IsMachine rules) (speaks : IsSpeaker rules speech)
-    (sessions : W → Option (List (List ℕ))) (begun faults : W → ℕ) where
+    (sessions : W → Option (List (List ℕ))) (begun faults : W → ℕ) (made_for : W → WireName) where
   -- a builder that is done, over the history that came home
   module _ (w : World) (gate : Gate) (b0 : Held (Entry Job Said) Opening) (passes : List (Held (Entry Job Said) Opening)) (wires : List W) (is : IsBegun speech w gate b0 passes)
       (names : List (List ℕ)) (grammar : Grammar) (old new : BuilderView Opening Job Said) (old_is : old ≡ record { pass = b0; names = names; grammar = grammar; tally = record { lines = 0; accepted = 0; refused = 0 } })
       (first : List (Reads Saying)) (o o' : Outside) (end : End) (ended : HasEnded rules speech first old new o o' end)
       (lanes : List (LaneView W Opening Job Said)) (pass : Held (Entry Job Said) Opening) (pass_is : pass ≡ new.pass) (history : List (Entry Job Said)) (hist : IsHistoryOf rules pass lanes history) where
     root_begun : old.pass.root ≡ Some is.root
-    root_begun = ap (λ (b : BuilderView Opening Job Said). b.pass.root) old_is ∙ root-is speech w gate b0 passes wires is
+    root_begun = ap (λ (b : BuilderView Opening Job Said). b.pass.root) old_is ∙ root-is made_for speech w gate b0 passes wires is
 
     root-same : hist.root ≡ is.root
     root-same = some_is hist.root is.root (sym hist.known ∙ (ap (λ (p : Held (Entry Job Said) Opening). p.root) pass_is ∙ (ended.same.pass.2 ∙ root_begun)))
@@ -257,7 +268,7 @@ module _ {W Opening State Job Said : Type 0} (rules : Rules Opening State Job Sa
       → (first : List (Reads Saying)) → Each IsSound first → (names : List (List ℕ)) → names ≡ names_in w → (grammar : Grammar)
       → (old new : BuilderView Opening Job Said) → old ≡ record { pass = b0; names = names; grammar = grammar; tally = record { lines = 0; accepted = 0; refused = 0 } }
       → (o o' : Outside) (end : End) → HasEnded rules speech first old new o o' end
-      → (lanes : List (LaneView W Opening Job Said)) → posts lanes ≡ posts (fresh_lanes 0 wires passes)
+      → (lanes : List (LaneView W Opening Job Said)) → posts lanes ≡ posts (fresh_lanes made_for 0 wires passes)
       → (pass : Held (Entry Job Said) Opening) → pass ≡ new.pass → (history : List (Entry Job Said)) → IsHistoryOf rules pass lanes history → AreKept rules sessions begun faults lanes
       → (unnoted : Bool) → unnoted ≡ list_any (λ (lane : LaneView W Opening Job Said). lane.unnoted) lanes
       → (files : Option (List FileText)) (name : List ℕ) → HasPicked files name o.left → (is_picked : Bool) → is_picked ≡ true
@@ -268,12 +279,12 @@ module _ {W Opening State Job Said : Type 0} (rules : Rules Opening State Job Sa
       → IsRun rules speech w grammar first (file_told files name) status (map (told_one sessions faults) back) history is_picked o'.left o.held held G
   came-home w opens gate b0 passes wires is many all first sound names names_is grammar old new old_is o o' end ended lanes same pass pass_is history hist kept unnoted unnoted_is files name picked is_picked stays
       peers peers_is names' names'_is tally tally_is history' history'_is held F G f status finished back back_is =
-      let root_old : b0.root ≡ Some is.root = root-is speech w gate b0 passes wires is in
+      let root_old : b0.root ≡ Some is.root = root-is made_for speech w gate b0 passes wires is in
       let root_new : new.pass.root ≡ Some is.root = ended.same.pass.2 ∙ (ap (λ (b : BuilderView Opening Job Said). b.pass.root) old_is ∙ root_old) in
-      let at = back-at speech w gate b0 passes wires is lanes same in
+      let at = back-at made_for speech w gate b0 passes wires is lanes same in
       let root_same = root-same w gate b0 passes wires is names grammar old new old_is first o o' end ended lanes pass pass_is history hist in
       let count : length (map (toldl sessions faults) lanes) ≡ length lanes = length-map lanes (toldl sessions faults) in
-      let lanes_many' : length lanes ≡ length wires = same-many lanes (fresh_lanes 0 wires passes) same ∙ lanes_many 0 wires passes many in
+      let lanes_many' : length lanes ≡ length wires = same-many lanes (fresh_lanes made_for 0 wires passes) same ∙ lanes_many made_for 0 wires passes many in
       let wires_all : length (map (toldl sessions faults) lanes) ≡ length w.peers = count ∙ (lanes_many' ∙ sym all) in
       let stands = start-stands rules speech old b0 is.root names grammar o.held old_is root_old (ap (λ (p : Held (Entry Job Said) Opening). p.seen) is.head) in
       let done = ended.ended stands in

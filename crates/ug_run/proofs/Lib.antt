@@ -1,4 +1,8 @@
-pub mod Closing
+mod LaneLaws
+mod Wired
+mod Histories
+mod Passes
+pub mod Stories
 pub mod Coming
 pub mod Lost
 pub mod Concluding

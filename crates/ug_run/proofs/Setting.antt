@@ -1,6 +1,6 @@
 -- Why a configuration stands for no world, of the file that was picked.
 use Rattle.std.proofs.Common.{◌≡◌, ℕ, List, Option, Result, Ok, Err}
-use Rattle.std.specs.Prelude.{IfErr}
+use Rattle.std.specs.Prelude.{IfErr, OnOk}
 use Rattle.ug_edge.specs.Told.{HasPicked, FileText, Missing, file_told}
 use Rattle.ug_commands.specs.Grouped.{IsCause}
 use Rattle.ug_commands.specs.declared.stop.Stop.{Stop}
@@ -21,3 +21,8 @@ pub stopped-all : {A : Type 0} (files : Option (List FileText)) (name : List ℕ
     → IfErr result (λ stop. IsCause stop left now) → IfErr result (λ stop. IsStopOf (file_told files name) stop)
 stopped-all files name left now (Ok x) picked there cause = tt
 stopped-all files name left now (Err stop) picked there cause = stopped files name left now stop picked there cause
+
+-- what holds anyway holds where all went well
+pub on_ok : {A E P : Type 0} (result : Result A E) → P → OnOk result P
+on_ok (Ok x) p = p
+on_ok (Err e) p = tt

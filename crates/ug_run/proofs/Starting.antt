@@ -1,7 +1,8 @@
 -- A run before its first line.
-use Rattle.std.proofs.Common.{◌≡◌, ℕ, zero, suc, ◌+◌, ◌≤◌, Bool, true, List, [], ◌∷◌, length, map, take, Option, Some, None, inl, inr, refl, sym, ◌∙◌, ap, subst, arith}
+use Rattle.std.specs.Prelude.{◌⊎◌}
+use Rattle.std.proofs.Common.{◌≡◌, ℕ, zero, suc, ◌+◌, ◌≤◌, Bool, true, false, List, [], ◌∷◌, length, map, take, Option, Some, None, Result, Ok, Err, inl, inr, refl, sym, ◌∙◌, ap, subst, arith}
 use Rattle.std.proofs.lemmas.List.{append-nil, length-map}
-use Rattle.ug_edge.specs.Told.{IsFresh, WireName, WiresMade, AppendsNames, FileText, FileTold, file_told}
+use Rattle.ug_edge.specs.Told.{IsFresh, TakesFront, HasPicked, WireName, WiresMade, Picks, AppendsAll, FileText, FileTold, file_told}
 use Rattle.ug_board.specs.Rules.{Rules}
 use Rattle.ug_events.specs.Events.{Saying}
 use Rattle.ug_events.specs.Reads.{Reads}
@@ -10,14 +11,15 @@ use Rattle.ug_event_loop.specs.declared.grammar.Grammar.{Grammar}
 use Rattle.ug_history_rules.specs.Deeds.{Each}
 use Rattle.ug_world.specs.World.{World}
 use Rattle.ug_report.specs.Report.{names_in}
-use Rattle.ug_wiring.specs.Wires.{AreNewWires, HasMade}
+use Rattle.ug_run.specs.Wires.{AreNewWires, HasMade, AreMadeFor}
 use Rattle.ug_run_rules.specs.Contents.{WireTold}
 use Rattle.ug_board.specs.Entry.{Entry}
-use Rattle.ug_commands.specs.Files.{AppendsThenStatus}
-use Rattle.ug_commands.specs.Statuses.{row_of, status_text, IsUnbegun}
-use Rattle.ug_commands.specs.declared.status.Status.{Status}
-use Rattle.ug_commands.specs.declared.status.Status.TheVariants as statuses
-use Rattle.ug_run.specs.Promise.{IsUnmade, IsEarly, IsUntouched, EndsEarly, IsRun}
+use Rattle.ug_commands.specs.Files.{AppendsThenStatus, IsUnbegun}
+use Rattle.ug_report.specs.Statuses.{row_of, status_text}
+use Rattle.ug_report.specs.declared.status.Status.{Status}
+use Rattle.ug_report.specs.declared.status.Status.TheVariants as statuses
+use Rattle.ug_commands.proofs.Ends.{rest_of, part_read, agrees_read, unread_of, part_unread}
+use Rattle.ug_run.specs.Promise.{IsUnmade, IsEarly, IsUntouched, IsUnread, EndsEarly, IsRun}
 use Rattle.ug_run.specs.Commands.{IsUnconfigured}
 
 -- wires as they are made are untouched
@@ -26,7 +28,7 @@ pub new-untouched : {W : Type 0} (sessions : W → Option (List (List ℕ))) (be
 new-untouched sessions begun faults [] new = tt
 new-untouched sessions begun faults (wire ∷ wires) new = ((new.0, new.2), new-untouched sessions begun faults wires new.3)
 
-same_names : (names : Option (List WireName)) → AppendsNames names names []
+same_names : {A : Type 0} (names : Option (List A)) → AppendsAll names names []
 same_names None = tt
 same_names (Some names) = sym (append-nil names)
 
@@ -43,11 +45,12 @@ module _ {W : Type 0} (sessions : W → Option (List (List ℕ))) (begun faults 
   seen_of wire = record { sessions = sessions wire; faults = faults wire }
 
   -- A run that ended before its first line.
-  pub ends-early : {J R : Type 0} (w : World) (status : Status) (wires : List W) (history : List (Entry J R)) (before held : Option (List ℕ)) (failed : Type 0)
-      → IsEarly status → length wires ≤ length w.peers → ((row_of status).made_wires ≡ true → length wires ≡ length w.peers) → AreNewWires sessions begun faults wires → history ≡ []
-      → AppendsThenStatus before held failed [] (status_text status) → EndsEarly w status (map seen_of wires) history before held failed
-  ends-early {J} {R} w status wires history before held failed early few all new none report = record {
+  pub ends-early : {J R : Type 0} (w : World) (events : List ℕ) (file : FileTold) (names names' : Option (List (List ℕ))) (status : Status) (wires : List W) (history : List (Entry J R)) (is_open : Bool) (left before held : Option (List ℕ)) (failed : Type 0)
+      → IsEarly status → IsUnread events file names names' is_open left → length wires ≤ length w.peers → ((row_of status).made_wires ≡ true → length wires ≡ length w.peers) → AreNewWires sessions begun faults wires → history ≡ []
+      → AppendsThenStatus before held failed [] (status_text status) → EndsEarly w events file names names' status (map seen_of wires) history is_open left before held failed
+  ends-early {J} {R} w events file names names' status wires history is_open left before held failed early unread few all new none report = record {
     early = early;
+    unread = unread;
     few = rw (length-map wires seen_of) few;
     all = λ made. length-map wires seen_of ∙ all made;
     untouched = new-untouched sessions begun faults wires new;
@@ -88,18 +91,50 @@ unbegun-made status P (inr is) e = let at : statuses.NoMemory ≡ statuses.SiteF
 
 module _ {W : Type 0} (sessions : W → Option (List (List ℕ))) (begun faults : W → ℕ) where
   -- the same, with the status and the wires as they are handed on
-  pub early-home : {J R : Type 0} (w : World) (status mid given : Status) (wires back : List W) (history : List (Entry J R)) (before held : Option (List ℕ)) (failed : Type 0)
+  pub early-home : {J R : Type 0} (w : World) (events : List ℕ) (file : FileTold) (names names' : Option (List (List ℕ))) (status mid given : Status) (wires back : List W) (history : List (Entry J R)) (is_open : Bool) (left before held : Option (List ℕ)) (failed : Type 0)
       → given ≡ mid → mid ≡ status → back ≡ wires → history ≡ []
-      → IsEarly status → length wires ≤ length w.peers → ((row_of status).made_wires ≡ true → length wires ≡ length w.peers) → AreNewWires sessions begun faults wires
-      → AppendsThenStatus before held failed [] (status_text status) → EndsEarly w given (map (seen_of sessions begun faults) back) history before held failed
-  early-home {J} {R} w status mid given wires back history before held failed one other back_is none early few all new report =
-      subst (λ (s : Status). EndsEarly w s (map (seen_of sessions begun faults) back) history before held failed) (sym (one ∙ other))
-      (subst (λ (ws : List W). EndsEarly w status (map (seen_of sessions begun faults) ws) history before held failed) (sym back_is)
-      (ends-early sessions begun faults w status wires history before held failed early few all new none report))
+      → IsEarly status → IsUnread events file names names' is_open left → length wires ≤ length w.peers → ((row_of status).made_wires ≡ true → length wires ≡ length w.peers) → AreNewWires sessions begun faults wires
+      → AppendsThenStatus before held failed [] (status_text status) → EndsEarly w events file names names' given (map (seen_of sessions begun faults) back) history is_open left before held failed
+  early-home {J} {R} w events file names names' status mid given wires back history is_open left before held failed one other back_is none early unread few all new report =
+      subst (λ (s : Status). EndsEarly w events file names names' s (map (seen_of sessions begun faults) back) history is_open left before held failed) (sym (one ∙ other))
+      (subst (λ (ws : List W). EndsEarly w events file names names' status (map (seen_of sessions begun faults) ws) history is_open left before held failed) (sym back_is)
+      (ends-early sessions begun faults w events file names names' status wires history is_open left before held failed early unread few all new none report))
 
 -- no wire was made, and none is given back
-pub made-idle : {W : Type 0} (wires : List W) (made : WiresMade) (dir : List ℕ) (names : List (List ℕ)) → wires ≡ [] → HasMade made made dir (take (length wires) names)
-made-idle {W} wires made dir names none = subst (λ (ws : List W). HasMade made made dir (take (length ws) names)) (sym none) (made-none made dir names)
+pub made-idle : {W : Type 0} (made_for : W → WireName) (wires : List W) (made : WiresMade) (dir : List ℕ) (names : List (List ℕ)) → wires ≡ [] → AreMadeFor made made dir names (map made_for wires)
+made-idle {W} made_for wires made dir names none =
+    subst (λ (ws : List W). AreMadeFor made made dir names (map made_for ws)) (sym none) (record { made = made-none made dir names; each = refl })
+
+-- ---- nothing was read
+
+takes-nothing : (left : Option (List ℕ)) → TakesFront left left []
+takes-nothing None = tt
+takes-nothing (Some left) = refl
+
+-- the file was not picked
+pub unread-unpicked : (name : List ℕ) (file : FileTold) (old new : Picks) (is_open : Bool) (left : Option (List ℕ)) → new ≡ old → IsUnread name file old.names new.names is_open left
+unread-unpicked name file old new is_open left same = inl (subst (λ (p : Picks). AppendsAll old.names p.names []) (sym same) (same_names old.names))
+
+-- its pick failed
+pub unread-closed : (name : List ℕ) (file : FileTold) (old mid new : Picks) (left : Option (List ℕ)) (P : Type 0) → mid ≡ old → new.is_open ≡ false
+    → AppendsAll mid.names new.names (name ∷ []) ⊎ (P × (new.names ≡ mid.names)) → IsUnread name file old.names new.names new.is_open left
+unread-closed name file old mid new left P same closed (inl named) =
+    inr (subst (λ (p : Picks). AppendsAll p.names new.names (name ∷ [])) same named, unread_of file, part_unread file, rw closed refl)
+unread-closed name file old mid new left P same closed (inr none) =
+    let back : new.names ≡ old.names = none.1 ∙ ap (λ (p : Picks). p.names) same in
+    inl (subst (λ (ns : Option (List (List ℕ))). AppendsAll old.names ns []) (sym back) (same_names old.names))
+
+-- it was picked, and all of it is left
+pub unread-open : (name : List ℕ) (files mid_files : Option (List FileText)) (old mid new : Picks) (left : Option (List ℕ)) → mid_files ≡ files → mid ≡ old → new.is_open ≡ true
+    → AppendsAll mid.names new.names (name ∷ []) → HasPicked mid_files name left → IsUnread name (file_told files name) old.names new.names new.is_open left
+unread-open name files mid_files old mid new left files_same same opened named picked =
+    let here = subst (λ (fs : Option (List FileText)). HasPicked fs name left) files_same picked in
+    inr (
+      subst (λ (p : Picks). AppendsAll p.names new.names (name ∷ [])) same named,
+      rest_of left,
+      part_read files name left left [] here (takes-nothing left),
+      agrees_read new.is_open left [] opened,
+    )
 
 -- the file is the same, however the site tells of it
 pub same-files : {Opening State Job Said : Type 0} (rules : Rules Opening State Job Said) (speech : Speech Opening State Job Said) (w : World) (grammar : Grammar) (first : List (Reads Saying))
@@ -120,3 +155,11 @@ unset-completed file statuses.ReportFault P h done = absurd h
 unset-completed file statuses.SiteFault P h done = absurd h
 unset-completed file (statuses.Lost peer session) P h done = absurd h
 unset-completed file (statuses.Malformed cause offset) P h done = absurd h
+
+-- ---- what an answer says of its status
+
+pub err_same : {A E : Type 0} (a b : E) (r s : Result A E) → r ≡ Err a → s ≡ Err b → r ≡ s → a ≡ b
+err_same {A} {E} a b r s r_is s_is e = cc
+
+pub ok_no_err : {A E : Type 0} (x : A) (b : E) → Ok x ≡ Err b → ⊥
+ok_no_err {A} {E} x b e = cc

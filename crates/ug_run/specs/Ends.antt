@@ -6,9 +6,9 @@ use Rattle.ug_pieces.specs.Reporting.{AppendsFront}
 use Rattle.ug_report.specs.declared.endings.Loss.{Loss}
 use Rattle.ug_report.specs.Report.{loss_text, counts_text, losses_status}
 use Rattle.ug_commands.specs.Files.{AppendsThenStatus}
-use Rattle.ug_commands.specs.Statuses.{status_text}
-use Rattle.ug_commands.specs.declared.status.Status.{Status}
-use Rattle.ug_commands.specs.declared.status.Status.TheVariants as statuses
+use Rattle.ug_report.specs.Statuses.{status_text}
+use Rattle.ug_report.specs.declared.status.Status.{Status}
+use Rattle.ug_report.specs.declared.status.Status.TheVariants as statuses
 use Rattle.ug_event_loop.specs.declared.reading.End.{End}
 use Rattle.ug_event_loop.specs.declared.reading.End.TheVariants as ends
 

@@ -1,3 +1,6 @@
+pub mod Wires
+pub mod Lanes
+pub mod Boards
 pub mod Losses
 pub mod Ends
 pub mod Setups

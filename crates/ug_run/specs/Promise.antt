@@ -3,7 +3,7 @@ use Rattle.std.specs.Prelude.{◌≡◌, ℕ, ◌+◌, ◌≤◌, ◌⊎◌, ◌
 use Rattle.std.specs.List.{concat}
 use Rattle.ug_types.specs.declared.mark.Mark.{Mark}
 use Rattle.ug_types.specs.Bytes.{is_empty}
-use Rattle.ug_edge.specs.Told.{AppendsPiece, IsFresh, FileTold, Missing}
+use Rattle.ug_edge.specs.Told.{AppendsPiece, AppendsAll, IsFresh, FileTold, Missing}
 use Rattle.ug_pieces.specs.Reporting.{AppendsFront}
 use Rattle.ug_board.specs.Entry.{Entry}
 use Rattle.ug_board.specs.Rules.{Rules}
@@ -21,9 +21,9 @@ use Rattle.ug_event_loop.specs.Standing.{said_by}
 use Rattle.ug_event_loop.specs.Counts.{least_of, most_of}
 use Rattle.ug_event_loop.specs.Files.{lines_read, IsPastLimits}
 use Rattle.ug_commands.specs.Files.{IsPartOf, AgreesWithSite, AppendsThenStatus}
-use Rattle.ug_commands.specs.Statuses.{row_of, status_text}
-use Rattle.ug_commands.specs.declared.status.Status.{Status}
-use Rattle.ug_commands.specs.declared.status.Status.TheVariants as statuses
+use Rattle.ug_report.specs.Statuses.{row_of, status_text}
+use Rattle.ug_report.specs.declared.status.Status.{Status}
+use Rattle.ug_report.specs.declared.status.Status.TheVariants as statuses
 use Rattle.ug_run_rules.specs.Contents.{WireTold, Content}
 use Rattle.ug_run_rules.specs.Crew.{IsClosed, all_losses}
 use Rattle.ug_run_rules.specs.Kept.{IsKept}
@@ -60,19 +60,21 @@ module _ (names : List (List ℕ)) (w : World) (lines : List (Reads Saying)) (ma
   abbrev pub whole_text : List ℕ
   whole_text = concat texts ++ end_text names w lines losses
 
-  -- What the report got, by the status. `failed` is that a call of it failed.
-  abbrev pub HasReport : Status → Option (List ℕ) → Option (List ℕ) → Type 0 → Type 0
-  HasReport statuses.Ok before held failed = AppendsPiece before held whole_text
-  HasReport (statuses.Lost peer session) before held failed = AppendsThenStatus before held failed whole_text (losses_status names losses)
-  HasReport statuses.ReadFault before held failed = AppendsThenStatus before held failed (concat texts) (status_text statuses.ReadFault)
-  HasReport statuses.TooLong before held failed = AppendsThenStatus before held failed (concat texts) (status_text statuses.TooLong)
-  HasReport statuses.ReportFault before held failed = AppendsFront before held whole_text
-  HasReport statuses.NoMemory before held failed =
+  -- What the report got, by the status. `failed` is that a call of it failed. Where it could not be written it got a front of
+  -- what it says of the lines; the closing lines are begun only where all lines were taken and these are all losses, which
+  -- `concludes` says.
+  abbrev pub HasReport : Type 0 → Status → Option (List ℕ) → Option (List ℕ) → Type 0 → Type 0
+  HasReport concludes statuses.Ok before held failed = AppendsPiece before held whole_text
+  HasReport concludes (statuses.Lost peer session) before held failed = AppendsThenStatus before held failed whole_text (losses_status names losses)
+  HasReport concludes statuses.ReadFault before held failed = AppendsThenStatus before held failed (concat texts) (status_text statuses.ReadFault)
+  HasReport concludes statuses.TooLong before held failed = AppendsThenStatus before held failed (concat texts) (status_text statuses.TooLong)
+  HasReport concludes statuses.ReportFault before held failed = AppendsFront before held (concat texts) ⊎ (concludes × AppendsFront before held whole_text)
+  HasReport concludes statuses.NoMemory before held failed =
       (front : List (List ℕ)) × (more : List (List ℕ)) × (texts ≡ front ++ more) × AppendsThenStatus before held failed (concat front) (status_text statuses.NoMemory)
-  HasReport statuses.Usage before held failed = ⊥
-  HasReport (statuses.Config number field) before held failed = ⊥
-  HasReport statuses.SiteFault before held failed = ⊥
-  HasReport (statuses.Malformed cause offset) before held failed = ⊥
+  HasReport concludes statuses.Usage before held failed = ⊥
+  HasReport concludes (statuses.Config number field) before held failed = ⊥
+  HasReport concludes statuses.SiteFault before held failed = ⊥
+  HasReport concludes (statuses.Malformed cause offset) before held failed = ⊥
 
 -- No session was lost at `Ok`, and at `Lost` this is the first that was.
 abbrev pub IsFirstLoss : Status → List Loss → Type 0
@@ -104,10 +106,17 @@ IsEarly status = (status ≡ statuses.ReadFault) ⊎ IsUnmade status
 abbrev pub IsUntouched : WireTold → Type 0
 IsUntouched wire = IsFresh wire.sessions × (wire.faults ≡ 0)
 
--- Nobody was told anything: each wire that was made is as it was made, nothing was done, and the report has the status
--- line alone. All wires were made but at `SiteFault` and where memory was wanting.
-pub record EndsEarly {J R : Type 0} (w : World) (status : Status) (wires : List WireTold) (history : List (Entry J R)) (before held : Option (List ℕ)) (failed : Type 0) : Type 0 where
+-- Nothing of the file of this name was read: it was not picked, or it was picked once and all of it is left.
+abbrev pub IsUnread : List ℕ → FileTold → Option (List (List ℕ)) → Option (List (List ℕ)) → Bool → Option (List ℕ) → Type 0
+IsUnread name file names names' is_open left =
+    AppendsAll names names' [] ⊎ (AppendsAll names names' (name ∷ []) × (rest : List ℕ) × IsPartOf file [] rest × AgreesWithSite is_open left [] rest)
+
+-- Nobody was told anything: nothing of the file of events was read, each wire that was made is as it was made, nothing was
+-- done, and the report has the status line alone. All wires were made but at `SiteFault` and where memory was wanting.
+pub record EndsEarly {J R : Type 0} (w : World) (events : List ℕ) (file : FileTold) (names names' : Option (List (List ℕ))) (status : Status) (wires : List WireTold) (history : List (Entry J R))
+    (is_open : Bool) (left before held : Option (List ℕ)) (failed : Type 0) : Type 0 where
   pub early : IsEarly status
+  pub unread : IsUnread events file names names' is_open left
   pub few : length wires ≤ length w.peers
   pub all : (row_of status).made_wires ≡ true → length wires ≡ length w.peers
   pub untouched : Each IsUntouched wires
@@ -127,15 +136,19 @@ module _ {Opening State Job Said : Type 0} (rules : Rules Opening State Job Said
     pub ended : completed ≡ true → speech.closed (replay rules root history) ≡ true
     pub losses : completed ≡ true → lost ≡ all_losses 0 (length wires) history
 
+  -- All lines were taken, and these are the losses of the history.
+  abbrev pub Concludes : List (Reads Saying) → List Loss → List WireTold → List (Entry Job Said) → Type 0
+  Concludes untaken losses wires history = (untaken ≡ []) × (losses ≡ losses_from 0 (all_losses 0 (length wires) history))
+
   -- A run over a world, in which the first lines come before those of the file. `file` is what is told of the file of
-  -- events, `is_picked` and `left` whether the site reads from it and what is left of it.
+  -- events, `is_open` and `left` whether the site reads from it and what is left of it.
   pub record IsRun (w : World) (grammar : Grammar) (first : List (Reads Saying)) (file : FileTold) (status : Status) (wires : List WireTold) (history : List (Entry Job Said))
-      (is_picked : Bool) (left before held : Option (List ℕ)) (failed : Type 0) : Type 0 where
+      (is_open : Bool) (left before held : Option (List ℕ)) (failed : Type 0) : Type 0 where
     pub read : List ℕ
     pub rest : List ℕ
     pub is_part : IsPartOf file read rest
     pub there : file ≡ Missing → ⊥
-    pub agrees : AgreesWithSite is_picked left read rest
+    pub agrees : AgreesWithSite is_open left read rest
     pub whole : (row_of status).completed ≡ true → rest ≡ []
     pub limits : IsLimited status read
     -- the lines that were taken: the first of those that count, and all of them where the status says so
@@ -154,7 +167,7 @@ module _ {Opening State Job Said : Type 0} (rules : Rules Opening State Job Said
     pub lost : List (List ℕ)
     pub kept : IsKept w (ahead ++ lines) (first_marks ++ marks) (row_of status).completed wires contents lost
     pub first_loss : IsFirstLoss status (losses_from 0 lost)
-    pub report : HasReport (names_in w) (last_world w ahead) lines marks (losses_from 0 lost) status before held failed
+    pub report : HasReport (names_in w) (last_world w ahead) lines marks (losses_from 0 lost) (Concludes untaken (losses_from 0 lost) wires history) status before held failed
     pub done : IsDoneBy w (ahead ++ lines) (first_marks ++ marks) (row_of status).completed wires lost history
 
   -- What a run counted, from an opening in this world: no less than its jobs count at least, and where it completed no more
@@ -169,7 +182,9 @@ module _ {Opening State Job Said : Type 0} (rules : Rules Opening State Job Said
   abbrev pub IsCounted : World → Bool → List (Entry Job Said) → ℕ → ℕ → Type 0
   IsCounted w completed history before after = ((history ≡ []) × (after ≡ before)) ⊎ IsCountedFrom w completed history before after
 
-  -- What a run over a world promises.
-  abbrev pub IsPromised : World → Grammar → List (Reads Saying) → FileTold → Status → List WireTold → List (Entry Job Said) → Bool → Option (List ℕ) → Option (List ℕ) → Option (List ℕ) → Type 0 → Type 0
-  IsPromised w grammar first file status wires history is_picked left before held failed =
-      EndsEarly w status wires history before held failed ⊎ IsRun w grammar first file status wires history is_picked left before held failed
+  -- What a run over a world promises. The file of events is picked once, and no other; `names` are those picked before it.
+  abbrev pub IsPromised : World → Grammar → List (Reads Saying) → List ℕ → FileTold → Option (List (List ℕ)) → Option (List (List ℕ)) → Status → List WireTold → List (Entry Job Said)
+      → Bool → Option (List ℕ) → Option (List ℕ) → Option (List ℕ) → Type 0 → Type 0
+  IsPromised w grammar first events file names names' status wires history is_open left before held failed =
+      EndsEarly w events file names names' status wires history is_open left before held failed
+      ⊎ (AppendsAll names names' (events ∷ []) × IsRun w grammar first file status wires history is_open left before held failed)

@@ -6,33 +6,34 @@ ghost use Rattle.ug_events.specs.Events.{IsEvent};
 ghost use Rattle.ug_events.specs.Views.{event_of};
 ghost use Rattle.ug_world.specs.World.{World};
 ghost use Rattle.ug_speaker.specs.Owes.{IsOpening};
-ghost use Rattle.ug_speaker.specs.Ranges.{IsEventInRange};
 ghost use Rattle.ug_report.specs.Report.{names_in};
-ghost use Rattle.ug_crew.specs.Posts.{AreHere, posts};
+ghost use Rattle.ug_sender.specs.Posts.{AreHere, posts};
 ghost use Rattle.ug_event_loop.specs.Reading.{first_of, IsRead};
-ghost use Rattle.ug_wiring.specs.Wires.{AreNewWires, HasMade};
-ghost use Rattle.ug_wiring.specs.Lanes.{ArePassesFrom};
-ghost use Rattle.ug_wiring.specs.Run.{IsBegun};
-ghost use Rattle.ug_commands.specs.Statuses.{row_of, is_fixed};
+ghost use Rattle.ug_run.specs.Wires.{AreNewWires, HasMade, AreMadeFor, wire_name};
+ghost use Rattle.ug_run.specs.Lanes.{ArePassesFrom};
+ghost use Rattle.ug_run.specs.Boards.{IsBegun};
+ghost use Rattle.ug_report.specs.Statuses.{row_of, is_fixed};
 ghost use Rattle.ug_run.specs.Promise.{IsPromised, IsRun, IsUnmade, IsCounted};
 
+use crate::beginning::{Begun, begin};
+use crate::closing::{Closed, close};
 use crate::ending::{Outcome, finish};
+use crate::lanes::{LaneList, man};
+use crate::wires::{Unmade, WireList, make_wires, names_of};
 use std::alloc::Global;
 use std::sync::Wait;
 use std::sync::ledger::Ledger;
 use std::thread::Threads;
 use ug_board::{Board, HistoryList};
-use ug_commands::{Status, end, pick};
-use ug_crew::Crew;
+use ug_commands::{end, pick};
 use ug_edge::{Sink, Site, Source, Wire};
 use ug_event_loop::{Builder, Grammar, Reading, read_beside};
 use ug_events::Event;
+use ug_report::Status;
+use ug_sender::Crew;
 use ug_speaker::Speaker;
 use ug_turnstile::Turnstile;
 use ug_types::{NameList, NoMemory, Sequence, Steps};
-use ug_wiring::{
-    Begun, Closed, LaneList, Unmade, WireList, begin, close, make_wires, man, names_of,
-};
 use ug_world::World;
 
 /// How a run ended, the wires that were made for it, in configured order, and what was done, step by step.
@@ -81,14 +82,15 @@ pub(crate) fn run_over<S: Speaker, R: Threads + Wait + Sync, E: Site, K: Sink, L
 ) -> Done<E::Wire, S>
     requires opening { IsOpening plan.world }
     requires form { IfSome plan.first (λ event. IsEvent (event_of event)) }
-    requires in_range { IfSome plan.first (λ event. IsEventInRange (event_of event)) }
-    ensures promised { IsPromised S.Machine.rules S.speech plan.world plan.grammar (first_of plan.first) (file_told (E.files site.old) events.now) result.status
+    ensures promised { IsPromised S.Machine.rules S.speech plan.world plan.grammar (first_of plan.first) events.now (file_told (E.files site.old) events.now) (E.picks site.old).names (E.picks site.new).names result.status
         (map (λ wire. record { sessions = E.Wire.sessions wire; faults = E.Wire.faults wire }) result.wires.items) result.history.items
-        (E.is_picked site.new) (E.left site.new) (K.held report.old) (K.held report.new) (Rose (K.faults report.old) (K.faults report.new)) }
-    ensures made { HasMade (E.made site.old) (E.made site.new) dir.now (take (length result.wires.items) (names_in plan.world)) }
+        (E.picks site.new).is_open (E.left site.new) (K.held report.old) (K.held report.new) (Rose (K.faults report.old) (K.faults report.new)) }
+    ensures made { AreMadeFor (E.made site.old) (E.made site.new) dir.now (names_in plan.world) (map E.Wire.made_for result.wires.items) }
     ensures read { result.status ≡ Status.ReadFault → Rose (E.faults site.old) (E.faults site.new) }
+    ensures unharmed { (result.status ≡ Status.ReadFault → ⊥) → E.faults site.new ≡ E.faults site.old }
     ensures report { result.status ≡ Status.ReportFault → Rose (K.faults report.old) (K.faults report.new) }
     ensures site { result.status ≡ Status.SiteFault → Rose (E.wire_faults site.old) (E.wire_faults site.new) }
+    ensures all_wired { (result.status ≡ Status.SiteFault → ⊥) → E.wire_faults site.new ≡ E.wire_faults site.old }
     ensures ended { (row_of result.status).completed ≡ true → IsEnded (E.left site.new) }
     ensures faults { E.faults site.old ≤ E.faults site.new }
     ensures counted { IsCounted S.Machine.rules S.speech plan.world (row_of result.status).completed result.history.items steps.old steps.new }
@@ -139,12 +141,14 @@ fn prepare<E: Site>(
     ensures most { length wires.new.items ≤ length world.now.peers }
     ensures fresh { AreNewWires E.Wire.sessions E.Wire.begun E.Wire.faults wires.new.items }
     ensures made { HasMade (E.made site.old) (E.made site.new) dir.now (take (length wires.new.items) (names_in world.now)) }
+    ensures made_for { map E.Wire.made_for wires.new.items ≡ map (wire_name dir.now) (take (length wires.new.items) (names_in world.now)) }
     ensures status { IfErr result IsUnmade }
     ensures fixed { IfErr result (λ status. is_fixed status ≡ true) }
     ensures failed { IsErrOf result Status.SiteFault → Rose (E.wire_faults site.old) (E.wire_faults site.new) }
+    ensures unharmed { (IsErrOf result Status.SiteFault → ⊥) → E.wire_faults site.new ≡ E.wire_faults site.old }
     ensures wire_faults { E.wire_faults site.old ≤ E.wire_faults site.new }
     ensures left { E.left site.new ≡ E.left site.old }
-    ensures is_picked { E.is_picked site.new ≡ E.is_picked site.old }
+    ensures picks { E.picks site.new ≡ E.picks site.old }
     ensures faults { E.faults site.new ≡ E.faults site.old }
     ensures files { E.files site.new ≡ E.files site.old }
 {
@@ -196,17 +200,20 @@ fn run_begun<S: Speaker, R: Threads + Wait + Sync, E: Site, K: Sink, L: Ledger>(
     requires fresh { AreNewWires E.Wire.sessions E.Wire.begun E.Wire.faults start.wires.items }
     requires form { IfSome start.first (λ event. IsEvent (event_of event)) }
     ensures done { (w : World) (events : List ℕ) → IsOpening w → IsBegun S.speech w begun.turnstile begun.builder begun.passes.items
-        → IfSome start.first (λ event. IsEventInRange (event_of event)) → start.names.items ≡ names_in w → start.peers ≡ length w.peers → length w.peers ≡ length start.wires.items
-        → HasPicked (E.files site.old) events (E.left site.old) → E.is_picked site.old ≡ true
+        → start.names.items ≡ names_in w → start.peers ≡ length w.peers → length w.peers ≡ length start.wires.items
+        → HasPicked (E.files site.old) events (E.left site.old) → (E.picks site.old).is_open ≡ true
         → IsRun S.Machine.rules S.speech w start.grammar (first_of start.first) (file_told (E.files site.old) events) result.status
         (map (λ wire. record { sessions = E.Wire.sessions wire; faults = E.Wire.faults wire }) result.wires.items) result.history.items
-        (E.is_picked site.new) (E.left site.new) (K.held report.old) (K.held report.new) (Rose (K.faults report.old) (K.faults report.new)) }
+        (E.picks site.new).is_open (E.left site.new) (K.held report.old) (K.held report.new) (Rose (K.faults report.old) (K.faults report.new)) }
     ensures all { length result.wires.items ≡ length start.wires.items }
+    ensures made_for { map E.Wire.made_for result.wires.items ≡ map E.Wire.made_for start.wires.items }
     ensures read { result.status ≡ Status.ReadFault → Rose (E.faults site.old) (E.faults site.new) }
+    ensures unharmed { (result.status ≡ Status.ReadFault → ⊥) → E.faults site.new ≡ E.faults site.old }
     ensures report { result.status ≡ Status.ReportFault → Rose (K.faults report.old) (K.faults report.new) }
     ensures site { result.status ≡ Status.SiteFault → ⊥ }
     ensures ended { (row_of result.status).completed ≡ true → IsEnded (E.left site.new) }
     ensures made { E.made site.new ≡ E.made site.old }
+    ensures picks { E.picks site.new ≡ E.picks site.old }
     ensures wire_faults { E.wire_faults site.new ≡ E.wire_faults site.old }
     ensures faults { E.faults site.old ≤ E.faults site.new }
     ensures counted { (w : World) → IsBegun S.speech w begun.turnstile begun.builder begun.passes.items
@@ -302,7 +309,7 @@ fn read_lines<S: Speaker, R: Threads + Wait + Sync, W: Wire, E: Source, K: Sink,
         (record { left = E.left source.new; reads_failed = E.faults source.new; held = K.held report.new; writes_failed = K.faults report.new; steps = steps.new }) reading.new.end }
     ensures posts { posts result.items ≡ posts lanes.items }
     ensures files { E.files source.new ≡ E.files source.old }
-    ensures is_picked { E.is_picked source.new ≡ E.is_picked source.old }
+    ensures picks { E.picks source.new ≡ E.picks source.old }
     ensures made { E.made source.new ≡ E.made source.old }
     ensures wire_faults { E.wire_faults source.new ≡ E.wire_faults source.old }
 {

@@ -5,7 +5,7 @@ ghost use Rattle.std.specs.String.{string_bytes};
 ghost use Rattle.ug_edge.specs.Told.{Rose, AppendsPiece};
 ghost use Rattle.ug_pieces.specs.Reporting.{AppendsFront};
 ghost use Rattle.ug_report.specs.Report.{name_at, lost_status, losses_from};
-ghost use Rattle.ug_commands.specs.Statuses.{status_text};
+ghost use Rattle.ug_report.specs.Statuses.{status_text};
 ghost use Rattle.ug_commands.specs.Files.{AppendsThenStatus};
 ghost use Rattle.ug_run_rules.specs.Crew.{all_losses};
 ghost use Rattle.ug_run.specs.Ends.{last_text, IsFirst, IsConcluded, CompletesBy, IsFinished};
@@ -13,11 +13,11 @@ ghost use Rattle.ug_run.specs.Ends.{last_text, IsFirst, IsConcluded, CompletesBy
 use crate::losses::losses_of;
 use std::alloc::Global;
 use ug_board::BoardEntry;
-use ug_commands::{Status, end};
+use ug_commands::end;
 use ug_edge::{Failed, Sink};
 use ug_event_loop::{End, Tally};
 use ug_pieces::write_all;
-use ug_report::{Loss, write_counts, write_losses, write_lost_status};
+use ug_report::{Loss, Status, write_counts, write_losses, write_lost_status};
 use ug_types::{Name, NoMemory};
 
 /// What a run came to, when its board is closed: how reading ended, how many lines were taken, and whether the loss of a

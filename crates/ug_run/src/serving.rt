@@ -1,18 +1,17 @@
 //! The top call.
 
-ghost use Rattle.std.specs.Prelude.{◌≡◌, ◌<◌, ◌+◌, [], map, take, length, true, false, Some, Ok, IfOk, ◌↔◌};
+ghost use Rattle.std.specs.Prelude.{◌≡◌, ◌<◌, ◌+◌, [], map, true, false, Some, Ok, IfOk, ◌↔◌};
 ghost use Rattle.std.specs.String.{string_bytes};
 ghost use Rattle.ug_edge.specs.Told.{Rose, IsEnded, file_told, Missing};
 ghost use Rattle.ug_events.specs.Events.{IsEvent};
 ghost use Rattle.ug_events.specs.Views.{event_of};
-ghost use Rattle.ug_speaker.specs.Ranges.{IsEventInRange};
 ghost use Rattle.ug_report.specs.Report.{names_in};
-ghost use Rattle.ug_input_laws.specs.One.{one_world};
+ghost use Rattle.ug_config.specs.One.{one_world};
 ghost use Rattle.ug_command_line.specs.Words.{OneCommand, RunCommand, CheckCommand, GroupsCommand, One, Run, Check, Groups, command_of, is_command};
 ghost use Rattle.ug_event_loop.specs.Reading.{first_of};
-ghost use Rattle.ug_wiring.specs.Wires.{HasMade};
-ghost use Rattle.ug_commands.specs.Statuses.{row_of, status_text};
-ghost use Rattle.ug_commands.specs.Files.{AppendsThenStatus};
+ghost use Rattle.ug_run.specs.Wires.{AreMadeFor};
+ghost use Rattle.ug_report.specs.Statuses.{row_of, status_text};
+ghost use Rattle.ug_commands.specs.Files.{AppendsThenStatus, PicksJust};
 ghost use Rattle.ug_commands.specs.Checked.{IsChecked};
 ghost use Rattle.ug_commands.specs.Listed.{IsListed};
 ghost use Rattle.ug_run.specs.Promise.{IsCounted};
@@ -25,11 +24,13 @@ use std::sync::Wait;
 use std::sync::ledger::Ledger;
 use std::thread::Threads;
 use ug_command_line::{Command, OneWords, RunWords, read_command};
-use ug_commands::{Status, check, end, groups};
+use ug_commands::{check, end, groups};
+use ug_config::one_world;
 use ug_edge::{Sink, Site};
 use ug_event_loop::Grammar;
 use ug_events::Event;
-use ug_input_laws::{configurations_open, one_opens, one_world};
+use ug_input_laws::{configurations_open, one_opens};
+use ug_report::Status;
 use ug_speaker::Speaker;
 use ug_types::{Name, NoMemory, Sequence, Steps};
 
@@ -59,15 +60,15 @@ pub fn serve<S: Speaker, R: Threads + Wait + Sync, E: Site, K: Sink, L: Ledger>(
     steps: &mut Steps<L>,
 ) -> Done<E::Wire, S>
     ensures one { (command : OneCommand) → command_of (map string_bytes words.now) ≡ Some (One command) →
-        IsOne S.Machine.rules S.speech (file_told (E.files site.old) command.events) result.status
+        IsOne S.Machine.rules S.speech command.events (file_told (E.files site.old) command.events) (E.picks site.old).names (E.picks site.new).names result.status
         (map (λ wire. record { sessions = E.Wire.sessions wire; faults = E.Wire.faults wire }) result.wires.items) result.history.items
-        (E.is_picked site.new) (E.left site.new) (K.held report.old) (K.held report.new) (Rose (K.faults report.old) (K.faults report.new)) }
+        (E.picks site.new).is_open (E.left site.new) (K.held report.old) (K.held report.new) (Rose (K.faults report.old) (K.faults report.new)) }
     ensures run { (command : RunCommand) → command_of (map string_bytes words.now) ≡ Some (Run command) →
-        IsRunOf S.Machine.rules S.speech (file_told (E.files site.old) command.config) (file_told (E.files site.old) command.events) command.dir result.status
-        (map (λ wire. record { sessions = E.Wire.sessions wire; faults = E.Wire.faults wire }) result.wires.items) result.history.items (E.made site.old) (E.made site.new)
-        (E.is_picked site.new) (E.left site.new) (K.held report.old) (K.held report.new) (Rose (K.faults report.old) (K.faults report.new)) }
+        IsRunOf S.Machine.rules S.speech command (file_told (E.files site.old) command.config) (file_told (E.files site.old) command.events) (E.picks site.old).names (E.picks site.new).names result.status
+        (map (λ wire. record { sessions = E.Wire.sessions wire; faults = E.Wire.faults wire }) result.wires.items) result.history.items (map E.Wire.made_for result.wires.items) (E.made site.old) (E.made site.new)
+        (E.picks site.new).is_open (E.left site.new) (K.held report.old) (K.held report.new) (Rose (K.faults report.old) (K.faults report.new)) }
     ensures checked { (command : CheckCommand) → command_of (map string_bytes words.now) ≡ Some (Check command) →
-        IsChecked command (file_told (E.files site.old) command.stream) (E.is_picked site.new) (E.left site.new) result.status (K.held report.old) (K.held report.new) (Rose (K.faults report.old) (K.faults report.new)) }
+        IsChecked command (file_told (E.files site.old) command.stream) (E.picks site.new).is_open (E.left site.new) result.status (K.held report.old) (K.held report.new) (Rose (K.faults report.old) (K.faults report.new)) }
     ensures listed { (command : GroupsCommand) → command_of (map string_bytes words.now) ≡ Some (Groups command) →
         IsListed (file_told (E.files site.old) command.config) result.status (K.held report.old) (K.held report.new) (Rose (K.faults report.old) (K.faults report.new)) }
     // The runs of the outbound rules are counted.
@@ -80,9 +81,14 @@ pub fn serve<S: Speaker, R: Threads + Wait + Sync, E: Site, K: Sink, L: Ledger>(
         file_told (E.files site.old) command.stream ≡ Missing → (row_of result.status).may_be_unread ≡ true }
     ensures groups_missing { (command : GroupsCommand) → command_of (map string_bytes words.now) ≡ Some (Groups command) →
         file_told (E.files site.old) command.config ≡ Missing → (row_of result.status).may_be_unread ≡ true }
-    // The wires given back are all that were made, in the order of the peers that they are for.
+    // A command without sessions picks its one file once. What `one` and `run` pick they promise themselves.
+    ensures check_picked { (command : CheckCommand) → command_of (map string_bytes words.now) ≡ Some (Check command) →
+        PicksJust (E.picks site.old).names (E.picks site.new).names command.stream result.status }
+    ensures groups_picked { (command : GroupsCommand) → command_of (map string_bytes words.now) ≡ Some (Groups command) →
+        PicksJust (E.picks site.old).names (E.picks site.new).names command.config result.status }
+    // The wires given back are all that were made, each for the peer of its place, in the folder of the command.
     ensures one_made { (command : OneCommand) → command_of (map string_bytes words.now) ≡ Some (One command) →
-        HasMade (E.made site.old) (E.made site.new) command.dir (take (length result.wires.items) (names_in one_world)) }
+        AreMadeFor (E.made site.old) (E.made site.new) command.dir (names_in one_world) (map E.Wire.made_for result.wires.items) }
     ensures check_unmade { (command : CheckCommand) → command_of (map string_bytes words.now) ≡ Some (Check command) → E.made site.new ≡ E.made site.old }
     ensures groups_unmade { (command : GroupsCommand) → command_of (map string_bytes words.now) ≡ Some (Groups command) → E.made site.new ≡ E.made site.old }
     ensures check_idle { (command : CheckCommand) → command_of (map string_bytes words.now) ≡ Some (Check command) → (result.wires.items ≡ []) × (result.history.items ≡ []) × (steps.new ≡ steps.old) }
@@ -94,10 +100,13 @@ pub fn serve<S: Speaker, R: Threads + Wait + Sync, E: Site, K: Sink, L: Ledger>(
     ensures idle { is_command (map string_bytes words.now) ≡ false → (result.wires.items ≡ []) × (result.history.items ≡ []) × (steps.new ≡ steps.old) }
     ensures unmade { is_command (map string_bytes words.now) ≡ false → E.made site.new ≡ E.made site.old }
     ensures unread { is_command (map string_bytes words.now) ≡ false → E.left site.new ≡ E.left site.old }
+    ensures unpicked { is_command (map string_bytes words.now) ≡ false → E.picks site.new ≡ E.picks site.old }
     // What a status says of the outside.
     ensures read { result.status ≡ Status.ReadFault → Rose (E.faults site.old) (E.faults site.new) }
+    ensures unharmed { (result.status ≡ Status.ReadFault → ⊥) → E.faults site.new ≡ E.faults site.old }
     ensures report { result.status ≡ Status.ReportFault → Rose (K.faults report.old) (K.faults report.new) }
     ensures site { result.status ≡ Status.SiteFault → Rose (E.wire_faults site.old) (E.wire_faults site.new) }
+    ensures all_wired { (result.status ≡ Status.SiteFault → ⊥) → E.wire_faults site.new ≡ E.wire_faults site.old }
     ensures ended { (row_of result.status).completed ≡ true → IsEnded (E.left site.new) }
 {
     let Some(command) = read_command(words) else {
@@ -126,13 +135,15 @@ fn one<S: Speaker, R: Threads + Wait + Sync, E: Site, K: Sink, L: Ledger>(
     report: &mut K,
     steps: &mut Steps<L>,
 ) -> Done<E::Wire, S>
-    ensures promised { IsOne S.Machine.rules S.speech (file_told (E.files site.old) words.now.events.now) result.status
+    ensures promised { IsOne S.Machine.rules S.speech words.now.events.now (file_told (E.files site.old) words.now.events.now) (E.picks site.old).names (E.picks site.new).names result.status
         (map (λ wire. record { sessions = E.Wire.sessions wire; faults = E.Wire.faults wire }) result.wires.items) result.history.items
-        (E.is_picked site.new) (E.left site.new) (K.held report.old) (K.held report.new) (Rose (K.faults report.old) (K.faults report.new)) }
-    ensures made { HasMade (E.made site.old) (E.made site.new) words.now.dir.now (take (length result.wires.items) (names_in one_world)) }
+        (E.picks site.new).is_open (E.left site.new) (K.held report.old) (K.held report.new) (Rose (K.faults report.old) (K.faults report.new)) }
+    ensures made { AreMadeFor (E.made site.old) (E.made site.new) words.now.dir.now (names_in one_world) (map E.Wire.made_for result.wires.items) }
     ensures read { result.status ≡ Status.ReadFault → Rose (E.faults site.old) (E.faults site.new) }
+    ensures unharmed { (result.status ≡ Status.ReadFault → ⊥) → E.faults site.new ≡ E.faults site.old }
     ensures report { result.status ≡ Status.ReportFault → Rose (K.faults report.old) (K.faults report.new) }
     ensures site { result.status ≡ Status.SiteFault → Rose (E.wire_faults site.old) (E.wire_faults site.new) }
+    ensures all_wired { (result.status ≡ Status.SiteFault → ⊥) → E.wire_faults site.new ≡ E.wire_faults site.old }
     ensures ended { (row_of result.status).completed ≡ true → IsEnded (E.left site.new) }
     ensures usage { result.status ≡ Status.Usage → ⊥ }
     ensures counted { IsCounted S.Machine.rules S.speech one_world (row_of result.status).completed result.history.items steps.old steps.new }
@@ -166,7 +177,6 @@ fn one<S: Speaker, R: Threads + Wait + Sync, E: Site, K: Sink, L: Ledger>(
 fn up_p1(alloc: Global) -> Result<Event, NoMemory>
     ensures event { IfOk result (λ event. first_of (Some event) ≡ up_p1) }
     ensures form { IfOk result (λ event. IsEvent (event_of event)) }
-    ensures in_range { IfOk result (λ event. IsEventInRange (event_of event)) }
 {
     let Some(peer) = Name::read(alloc, b"p1")? else {
         unreachable!()
@@ -183,12 +193,15 @@ fn run<S: Speaker, R: Threads + Wait + Sync, E: Site, K: Sink, L: Ledger>(
     report: &mut K,
     steps: &mut Steps<L>,
 ) -> Done<E::Wire, S>
-    ensures promised { IsRunOf S.Machine.rules S.speech (file_told (E.files site.old) words.now.config.now) (file_told (E.files site.old) words.now.events.now) words.now.dir.now result.status
-        (map (λ wire. record { sessions = E.Wire.sessions wire; faults = E.Wire.faults wire }) result.wires.items) result.history.items (E.made site.old) (E.made site.new)
-        (E.is_picked site.new) (E.left site.new) (K.held report.old) (K.held report.new) (Rose (K.faults report.old) (K.faults report.new)) }
+    ensures promised { IsRunOf S.Machine.rules S.speech (record { config = words.now.config.now; events = words.now.events.now; dir = words.now.dir.now; apart = words.now.apart })
+        (file_told (E.files site.old) words.now.config.now) (file_told (E.files site.old) words.now.events.now) (E.picks site.old).names (E.picks site.new).names result.status
+        (map (λ wire. record { sessions = E.Wire.sessions wire; faults = E.Wire.faults wire }) result.wires.items) result.history.items (map E.Wire.made_for result.wires.items) (E.made site.old) (E.made site.new)
+        (E.picks site.new).is_open (E.left site.new) (K.held report.old) (K.held report.new) (Rose (K.faults report.old) (K.faults report.new)) }
     ensures read { result.status ≡ Status.ReadFault → Rose (E.faults site.old) (E.faults site.new) }
+    ensures unharmed { (result.status ≡ Status.ReadFault → ⊥) → E.faults site.new ≡ E.faults site.old }
     ensures report { result.status ≡ Status.ReportFault → Rose (K.faults report.old) (K.faults report.new) }
     ensures site { result.status ≡ Status.SiteFault → Rose (E.wire_faults site.old) (E.wire_faults site.new) }
+    ensures all_wired { (result.status ≡ Status.SiteFault → ⊥) → E.wire_faults site.new ≡ E.wire_faults site.old }
     ensures ended { (row_of result.status).completed ≡ true → IsEnded (E.left site.new) }
     ensures usage { result.status ≡ Status.Usage → ⊥ }
     ensures counted { IsCountedRun S.Machine.rules S.speech (file_told (E.files site.old) words.now.config.now) (row_of result.status).completed result.history.items steps.old steps.new }

@@ -1,6 +1,7 @@
-use Rattle.std.proofs.Common.{◌≡◌, ℕ, ◌+◌, ◌-◌, List, length, take, refl, ap, ◌∙◌, arith, rules}
+use Rattle.std.proofs.Common.{◌≡◌, ℕ, ◌+◌, ◌-◌, List, length, take, refl, ap, subst, ◌∙◌, arith, rules}
+use Rattle.ug_edge.specs.Told.{Rose}
 use Rattle.ug_update.specs.Readers.{ReaderState}
-use Rattle.ug_pieces.specs.ReadingLaws.{Rose-later, taken_none, piece_within, buffer_back}
+use Rattle.ug_pieces.specs.ReadingLaws.{taken_none, piece_within, buffer_back}
 use Rattle.ug_check.specs.Checks.{most_bytes}
 use Rattle.ug_check.proofs.Streams.{begins, goes_on, stops_at, passes_limit, not_read, reads_all, reads_no, reports_no}
 use Rattle.ug_check.proofs.stream.read_stream.Goals as goal
@@ -13,9 +14,9 @@ loop-count-init g c = record {
   session = ap (λ (r : ReaderState). r.session) c.new-checker.ensures.reader;
   within = omega arith;
   room = c.in-Ok.ensures.len;
-  faults = omega arith;
+  faults = refl;
   files = refl;
-  is_picked = refl;
+  picks = refl;
   made = refl;
   wire_faults = refl;
 }
@@ -26,7 +27,7 @@ returns-in-Err-read-clause-stopped g c =
     not_read c.loop-count.total (g.E.Source.left c.args.source.now) (g.E.Source.left c.loop-count.source) (g.E.Source.left c.read.new.self) c.args.session _ _ _ _ c.loop-count.invariant.within c.loop-count.invariant.session c.in-Err-read.ensures.err c.loop-count.invariant.behind
 
 pub returns-in-Err-read-clause-unread : goal.returns-in-Err-read-clause-unread
-returns-in-Err-read-clause-unread g c = λ e. Rose-later _ _ _ c.loop-count.invariant.faults c.in-Err-read.ensures.faults c.in-Err-read.ensures.failed
+returns-in-Err-read-clause-unread g c = λ e. subst (λ (n : ℕ). Rose n (g.E.Source.faults c.read.new.self)) c.loop-count.invariant.faults c.in-Err-read.ensures.failed
 
 pub returns-then-count-eq0-clause-ok : goal.returns-then-count-eq0-clause-ok
 unfolding most_bytes
@@ -74,9 +75,9 @@ loop-count-preserved g c =
       session = c.in-Ok-take_piece.ensures.session ∙ c.loop-count.invariant.session;
       within = omega (arith, c.loop-count.invariant.within, c.min-within.ensures, c.if-within-count.false);
       room = c.loop-count.invariant.room;
-      faults = omega (arith, c.loop-count.invariant.faults, c.in-Ok-read.ensures.faults);
+      faults = c.in-Ok-read.ensures.unharmed ∙ c.loop-count.invariant.faults;
       files = c.in-Ok-read.ensures.files ∙ c.loop-count.invariant.files;
-      is_picked = c.in-Ok-read.ensures.is_picked ∙ c.loop-count.invariant.is_picked;
+      picks = c.in-Ok-read.ensures.picks ∙ c.loop-count.invariant.picks;
       made = c.in-Ok-read.ensures.made ∙ c.loop-count.invariant.made;
       wire_faults = c.in-Ok-read.ensures.wire_faults ∙ c.loop-count.invariant.wire_faults;
     }

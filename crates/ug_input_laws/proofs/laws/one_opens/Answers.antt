@@ -1,6 +1,6 @@
 use Rattle.std.proofs.Common.{List, ℕ, [], Option, Some, None, refl}
 use Rattle.ug_outbound.specs.Bounds.{SetsFew}
-use Rattle.ug_input_laws.specs.One.{one_parts}
+use Rattle.ug_config.specs.One.{one_parts}
 use Rattle.ug_input_laws.proofs.laws.one_opens.Goals as goal
 
 no_sets : (map : Option (List ℕ)) → SetsFew [] map
@@ -13,5 +13,5 @@ returns c = record {
   good = refl;
   first = refl;
   few_sets = no_sets;
-  in_range = record { asn = refl; cluster = refl; maps = tt; peers = (record { router = refl; local = refl }, tt) };
+  in_range = record { asn = refl; cluster = refl; maps = refl; peers = refl };
 }

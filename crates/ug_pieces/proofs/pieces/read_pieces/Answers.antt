@@ -12,7 +12,7 @@ loop-count-init g c = record {
   room = c.in-Ok.ensures.len;
   faults = refl;
   files = refl;
-  is_picked = refl;
+  picks = refl;
   made = refl;
   wire_faults = refl;
 }
@@ -63,7 +63,7 @@ loop-count-preserved g c =
       room = c.loop-count.invariant.room;
       faults = c.in-Ok-read.ensures.unharmed ∙ c.loop-count.invariant.faults;
       files = c.in-Ok-read.ensures.files ∙ c.loop-count.invariant.files;
-      is_picked = c.in-Ok-read.ensures.is_picked ∙ c.loop-count.invariant.is_picked;
+      picks = c.in-Ok-read.ensures.picks ∙ c.loop-count.invariant.picks;
       made = c.in-Ok-read.ensures.made ∙ c.loop-count.invariant.made;
       wire_faults = c.in-Ok-read.ensures.wire_faults ∙ c.loop-count.invariant.wire_faults;
     }

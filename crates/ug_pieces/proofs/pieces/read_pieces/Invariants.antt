@@ -11,7 +11,7 @@ invariant-loop-count g l = record {
   room : vec_len l.buffer ≡ 65536;
   faults : g.E.Source.faults l.source ≡ g.E.Source.faults l.fn.source;
   files : g.E.Source.files l.source ≡ g.E.Source.files l.fn.source;
-  is_picked : g.E.Source.is_picked l.source ≡ g.E.Source.is_picked l.fn.source;
+  picks : g.E.Source.picks l.source ≡ g.E.Source.picks l.fn.source;
   made : g.E.Source.made l.source ≡ g.E.Source.made l.fn.source;
   wire_faults : g.E.Source.wire_faults l.source ≡ g.E.Source.wire_faults l.fn.source;
 }

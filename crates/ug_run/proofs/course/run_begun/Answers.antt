@@ -1,13 +1,13 @@
 use Rattle.std.proofs.Common.{◌≡◌, Some, length, map, sym, ◌∙◌, ap, subst, arith}
 use Rattle.ug_pieces.specs.ReadingLaws.{Rose-later}
-use Rattle.ug_crew.specs.Posts.{posts}
+use Rattle.ug_sender.specs.Posts.{posts}
 use Rattle.std.proofs.lemmas.List.{length-map}
 use Rattle.ug_event_loop.specs.Reading.{Outside, first_of}
 use Rattle.ug_event_loop.specs.declared.reading.End.TheVariants as ends
-use Rattle.ug_wiring.specs.Lanes.{AreAtPosts, fresh_lanes}
-use Rattle.ug_wiring.proofs.LaneLaws.{lanes_many}
-use Rattle.ug_commands.specs.Statuses.{row_of}
-use Rattle.ug_run.proofs.Homing.{same-many, fresh-at, back-at, here-at, root-is, first-sound, finished-read, finished-report, finished-made, finished-whole, read-same, read-faults, read-ended, start-stands, read-rose, report-rose, whole-ended, rose-sooner, came-home, counted-home}
+use Rattle.ug_run.specs.Lanes.{AreAtPosts, fresh_lanes}
+use Rattle.ug_run.proofs.LaneLaws.{lanes_many, lanes_for}
+use Rattle.ug_report.specs.Statuses.{row_of}
+use Rattle.ug_run.proofs.Homing.{same-many, same-for, fresh-at, back-at, here-at, root-is, first-sound, finished-read, finished-unread, finished-report, finished-made, finished-whole, read-same, read-faults, read-ended, start-stands, read-rose, report-rose, whole-ended, rose-sooner, came-home, counted-home}
 use Rattle.ug_run.proofs.course.run_begun.Goals as goal
 
 pub read_lines-lanes-requires-clause-lanes : goal.read_lines-lanes-requires-clause-lanes
@@ -15,8 +15,8 @@ read_lines-lanes-requires-clause-lanes g c κs within =
     let begun = c.args.begun in
     let wires = c.args.start.wires.items in
     let is = c.requires.begun.1 in
-    here-at g.S.Speaker.speech c.requires.begun.0 begun.turnstile begun.builder begun.passes.items wires is c.man-lanes.result.items
-    (subst (λ ls. AreAtPosts begun.turnstile.id (Some is.root) 0 ls) (sym c.man-lanes.ensures) (fresh-at g.S.Speaker.speech c.requires.begun.0 begun.turnstile begun.builder begun.passes.items wires is))
+    here-at g.E.Wire.Wire.made_for g.S.Speaker.speech c.requires.begun.0 begun.turnstile begun.builder begun.passes.items wires is c.man-lanes.result.items
+    (subst (λ ls. AreAtPosts begun.turnstile.id (Some is.root) 0 ls) (sym c.man-lanes.ensures) (fresh-at g.E.Wire.Wire.made_for g.S.Speaker.speech c.requires.begun.0 begun.turnstile begun.builder begun.passes.items wires is))
 
 pub close-history-requires-clause-posts : goal.close-history-requires-clause-posts
 close-history-requires-clause-posts g c κs within =
@@ -25,16 +25,16 @@ close-history-requires-clause-posts g c κs within =
     let is = c.requires.begun.1 in
     let same = read-same g.S.Machine.rules g.S.Speaker.speech (first_of c.args.start.first) c.new.result c.read_lines-lanes.new.reading.builder _ _ c.read_lines-lanes.new.reading.end c.read_lines-lanes.ensures.ended in
     let root : c.into_parts-pass.result.0.root ≡ Some is.root =
-    ap (λ p. p.root) c.into_parts-pass.ensures.pass ∙ (same.pass.2 ∙ (ap (λ b. b.pass.root) c.new.ensures ∙ root-is g.S.Speaker.speech c.requires.begun.0 begun.turnstile begun.builder begun.passes.items wires is)) in
+    ap (λ p. p.root) c.into_parts-pass.ensures.pass ∙ (same.pass.2 ∙ (ap (λ b. b.pass.root) c.new.ensures ∙ root-is g.E.Wire.Wire.made_for g.S.Speaker.speech c.requires.begun.0 begun.turnstile begun.builder begun.passes.items wires is)) in
     subst (λ r. AreAtPosts begun.turnstile.id r 0 c.read_lines-lanes.result.items) (sym root)
-    (back-at g.S.Speaker.speech c.requires.begun.0 begun.turnstile begun.builder begun.passes.items wires is c.read_lines-lanes.result.items (c.read_lines-lanes.ensures.posts ∙ ap posts c.man-lanes.ensures))
+    (back-at g.E.Wire.Wire.made_for g.S.Speaker.speech c.requires.begun.0 begun.turnstile begun.builder begun.passes.items wires is c.read_lines-lanes.result.items (c.read_lines-lanes.ensures.posts ∙ ap posts c.man-lanes.ensures))
 
 pub close-history-requires-clause-all : goal.close-history-requires-clause-all
 close-history-requires-clause-all g c κs within =
     let begun = c.args.begun in
     let wires = c.args.start.wires.items in
     let many : length c.read_lines-lanes.result.items ≡ length wires =
-    same-many c.read_lines-lanes.result.items (fresh_lanes 0 wires begun.passes.items) (c.read_lines-lanes.ensures.posts ∙ ap posts c.man-lanes.ensures) ∙ lanes_many 0 wires begun.passes.items c.requires.alike in
+    same-many c.read_lines-lanes.result.items (fresh_lanes g.E.Wire.Wire.made_for 0 wires begun.passes.items) (c.read_lines-lanes.ensures.posts ∙ ap posts c.man-lanes.ensures) ∙ lanes_many g.E.Wire.Wire.made_for 0 wires begun.passes.items c.requires.alike in
     let count = c.requires.begun.1.count in
     let peers = c.requires.begun.2 in
     omega arith
@@ -44,7 +44,7 @@ close-history-requires-clause-wires_room g c κs within =
     let begun = c.args.begun in
     let wires = c.args.start.wires.items in
     let many : length c.read_lines-lanes.result.items ≡ length wires =
-    same-many c.read_lines-lanes.result.items (fresh_lanes 0 wires begun.passes.items) (c.read_lines-lanes.ensures.posts ∙ ap posts c.man-lanes.ensures) ∙ lanes_many 0 wires begun.passes.items c.requires.alike in
+    same-many c.read_lines-lanes.result.items (fresh_lanes g.E.Wire.Wire.made_for 0 wires begun.passes.items) (c.read_lines-lanes.ensures.posts ∙ ap posts c.man-lanes.ensures) ∙ lanes_many g.E.Wire.Wire.made_for 0 wires begun.passes.items c.requires.alike in
     let room = c.requires.wires_room in
     omega arith
 
@@ -53,12 +53,12 @@ close-history-requires-clause-passes_room g c κs within =
     let begun = c.args.begun in
     let wires = c.args.start.wires.items in
     let many : length c.read_lines-lanes.result.items ≡ length wires =
-    same-many c.read_lines-lanes.result.items (fresh_lanes 0 wires begun.passes.items) (c.read_lines-lanes.ensures.posts ∙ ap posts c.man-lanes.ensures) ∙ lanes_many 0 wires begun.passes.items c.requires.alike in
+    same-many c.read_lines-lanes.result.items (fresh_lanes g.E.Wire.Wire.made_for 0 wires begun.passes.items) (c.read_lines-lanes.ensures.posts ∙ ap posts c.man-lanes.ensures) ∙ lanes_many g.E.Wire.Wire.made_for 0 wires begun.passes.items c.requires.alike in
     let room = c.requires.passes_room in
     omega arith
 
 pub returns-clause-done : goal.returns-clause-done
-returns-clause-done g c = λ w events opens is in_range names_is peers_is alike picked stays.
+returns-clause-done g c = λ w events opens is names_is peers_is alike picked stays.
     let machine = g.met.S.Machine g.world.𝓛 g.world.𝓜 g.world.𝓡 ((λ s x. x), (λ x. x), (λ x. x), λ x. x) in
     let speaker = g.met.S.Speaker g.world.𝓛 g.world.𝓜 g.world.𝓡 ((λ s x. x), (λ x. x), (λ x. x), λ x. x) in
     let old = c.new.result in
@@ -66,13 +66,13 @@ returns-clause-done g c = λ w events opens is in_range names_is peers_is alike 
     let o : Outside = record { left = g.E.Source.left c.args.site.now; reads_failed = g.E.Source.faults c.args.site.now; held = g.K.Sink.held c.args.report.now; writes_failed = g.K.Sink.faults c.args.report.now; steps = c.args.steps.now } in
     let o' : Outside = record { left = g.E.Source.left c.read_lines-lanes.new.source; reads_failed = g.E.Source.faults c.read_lines-lanes.new.source; held = g.K.Sink.held c.read_lines-lanes.new.report; writes_failed = g.K.Sink.faults c.read_lines-lanes.new.report; steps = c.read_lines-lanes.new.steps } in
     let ended = read-ended g.S.Machine.rules g.S.Speaker.speech (first_of c.args.start.first) old new o o' c.read_lines-lanes.new.reading.end c.in-Some.end c.in-Some.is c.read_lines-lanes.ensures.ended in
-    came-home g.S.Machine.rules g.S.Speaker.speech machine.lawful speaker.speaks g.E.Wire.Wire.sessions g.E.Wire.Wire.begun g.E.Wire.Wire.faults w opens
+    came-home g.S.Machine.rules g.S.Speaker.speech machine.lawful speaker.speaks g.E.Wire.Wire.sessions g.E.Wire.Wire.begun g.E.Wire.Wire.faults g.E.Wire.Wire.made_for w opens
     c.args.begun.turnstile c.args.begun.builder c.args.begun.passes.items c.args.start.wires.items is c.requires.alike alike
-    (first_of c.args.start.first) (first-sound c.args.start.first c.requires.form in_range) c.args.start.names.items names_is c.args.start.grammar
+    (first_of c.args.start.first) (first-sound c.args.start.first c.requires.form) c.args.start.names.items names_is c.args.start.grammar
     old new c.new.ensures o o' c.in-Some.end ended
     c.read_lines-lanes.result.items (c.read_lines-lanes.ensures.posts ∙ ap posts c.man-lanes.ensures) c.into_parts-pass.result.0 c.into_parts-pass.ensures.pass
     c.close-history.result.history.items c.close-history.ensures.history c.close-history.ensures.kept c.close-history.result.unnoted c.close-history.ensures.unnoted
-    (g.E.Source.files c.args.site.now) events picked (g.E.Source.is_picked c.read_lines-lanes.new.source) (c.read_lines-lanes.ensures.is_picked ∙ stays)
+    (g.E.Source.files c.args.site.now) events picked (g.E.Source.picks c.read_lines-lanes.new.source).is_open (ap (λ p. p.is_open) c.read_lines-lanes.ensures.picks ∙ stays)
     c.args.start.peers peers_is c.as_slice.result.now (c.as_slice.ensures ∙ c.into_parts-pass.ensures.names) c.tally-tally.result c.tally-tally.ensures c.as_slice-2.result.now c.as_slice-2.ensures
     (g.K.Sink.held c.finish-status.new.report) _ _ (λ rose. Rose-later _ _ _ ended.writes c.finish-status.ensures.faults rose) c.finish-status.result c.finish-status.ensures.finished
     c.close-history.result.wires.items c.close-history.ensures.wires
@@ -81,8 +81,15 @@ pub returns-clause-all : goal.returns-clause-all
 returns-clause-all g c =
     let wires = c.args.start.wires.items in
     let many : length c.read_lines-lanes.result.items ≡ length wires =
-    same-many c.read_lines-lanes.result.items (fresh_lanes 0 wires c.args.begun.passes.items) (c.read_lines-lanes.ensures.posts ∙ ap posts c.man-lanes.ensures) ∙ lanes_many 0 wires c.args.begun.passes.items c.requires.alike in
+    same-many c.read_lines-lanes.result.items (fresh_lanes g.E.Wire.Wire.made_for 0 wires c.args.begun.passes.items) (c.read_lines-lanes.ensures.posts ∙ ap posts c.man-lanes.ensures) ∙ lanes_many g.E.Wire.Wire.made_for 0 wires c.args.begun.passes.items c.requires.alike in
     ap length c.close-history.ensures.wires ∙ (length-map c.read_lines-lanes.result.items _ ∙ many)
+
+pub returns-clause-made_for : goal.returns-clause-made_for
+returns-clause-made_for g c =
+    let wires = c.args.start.wires.items in
+    c.close-history.ensures.made_for
+    ∙ (same-for c.read_lines-lanes.result.items (fresh_lanes g.E.Wire.Wire.made_for 0 wires c.args.begun.passes.items) (c.read_lines-lanes.ensures.posts ∙ ap posts c.man-lanes.ensures)
+    ∙ lanes_for g.E.Wire.Wire.made_for 0 wires c.args.begun.passes.items c.requires.alike)
 
 pub returns-clause-read : goal.returns-clause-read
 returns-clause-read g c = λ is.
@@ -93,10 +100,17 @@ returns-clause-read g c = λ is.
     let new = c.read_lines-lanes.new.reading.builder in
     let ended = read-ended g.S.Machine.rules g.S.Speaker.speech (first_of c.args.start.first) old new o o' c.read_lines-lanes.new.reading.end c.in-Some.end c.in-Some.is c.read_lines-lanes.ensures.ended in
     let start = c.requires.begun.1 in
-    let root = root-is g.S.Speaker.speech c.requires.begun.0 begun.turnstile begun.builder begun.passes.items c.args.start.wires.items start in
+    let root = root-is g.E.Wire.Wire.made_for g.S.Speaker.speech c.requires.begun.0 begun.turnstile begun.builder begun.passes.items c.args.start.wires.items start in
     let done = ended.ended (start-stands g.S.Machine.rules g.S.Speaker.speech old begun.builder start.root c.args.start.names.items c.args.start.grammar o.held c.new.ensures root (ap (λ p. p.seen) start.head)) in
     finished-read _ _ _ _ _ _ _ _ c.in-Some.end c.close-history.result.unnoted c.finish-status.result c.finish-status.ensures.finished
     (read-rose g.S.Machine.rules g.S.Speaker.speech (first_of c.args.start.first) old new o o' done.read c.in-Some.end done.so) is
+
+pub returns-clause-unharmed : goal.returns-clause-unharmed
+returns-clause-unharmed g c = λ not_read.
+    let o : Outside = record { left = g.E.Source.left c.args.site.now; reads_failed = g.E.Source.faults c.args.site.now; held = g.K.Sink.held c.args.report.now; writes_failed = g.K.Sink.faults c.args.report.now; steps = c.args.steps.now } in
+    let o' : Outside = record { left = g.E.Source.left c.read_lines-lanes.new.source; reads_failed = g.E.Source.faults c.read_lines-lanes.new.source; held = g.K.Sink.held c.read_lines-lanes.new.report; writes_failed = g.K.Sink.faults c.read_lines-lanes.new.report; steps = c.read_lines-lanes.new.steps } in
+    let ended = read-ended g.S.Machine.rules g.S.Speaker.speech (first_of c.args.start.first) c.new.result c.read_lines-lanes.new.reading.builder o o' c.read_lines-lanes.new.reading.end c.in-Some.end c.in-Some.is c.read_lines-lanes.ensures.ended in
+    ended.unharmed (λ is. not_read (finished-unread _ _ _ _ _ _ _ c.in-Some.end c.close-history.result.unnoted c.finish-status.result c.finish-status.ensures.finished is))
 
 pub returns-clause-report : goal.returns-clause-report
 returns-clause-report g c = λ is.
@@ -107,7 +121,7 @@ returns-clause-report g c = λ is.
     let new = c.read_lines-lanes.new.reading.builder in
     let ended = read-ended g.S.Machine.rules g.S.Speaker.speech (first_of c.args.start.first) old new o o' c.read_lines-lanes.new.reading.end c.in-Some.end c.in-Some.is c.read_lines-lanes.ensures.ended in
     let start = c.requires.begun.1 in
-    let root = root-is g.S.Speaker.speech c.requires.begun.0 begun.turnstile begun.builder begun.passes.items c.args.start.wires.items start in
+    let root = root-is g.E.Wire.Wire.made_for g.S.Speaker.speech c.requires.begun.0 begun.turnstile begun.builder begun.passes.items c.args.start.wires.items start in
     let done = ended.ended (start-stands g.S.Machine.rules g.S.Speaker.speech old begun.builder start.root c.args.start.names.items c.args.start.grammar o.held c.new.ensures root (ap (λ p. p.seen) start.head)) in
     finished-report _ _ _ _ _ _ _ _ c.in-Some.end c.close-history.result.unnoted c.finish-status.result c.finish-status.ensures.finished
     (λ e. rose-sooner _ _ _ (report-rose g.S.Machine.rules g.S.Speaker.speech (first_of c.args.start.first) old new o o' done.read c.in-Some.end done.so e) c.finish-status.ensures.faults)
@@ -125,7 +139,7 @@ returns-clause-ended g c = λ is.
     let new = c.read_lines-lanes.new.reading.builder in
     let ended = read-ended g.S.Machine.rules g.S.Speaker.speech (first_of c.args.start.first) old new o o' c.read_lines-lanes.new.reading.end c.in-Some.end c.in-Some.is c.read_lines-lanes.ensures.ended in
     let start = c.requires.begun.1 in
-    let root = root-is g.S.Speaker.speech c.requires.begun.0 begun.turnstile begun.builder begun.passes.items c.args.start.wires.items start in
+    let root = root-is g.E.Wire.Wire.made_for g.S.Speaker.speech c.requires.begun.0 begun.turnstile begun.builder begun.passes.items c.args.start.wires.items start in
     let done = ended.ended (start-stands g.S.Machine.rules g.S.Speaker.speech old begun.builder start.root c.args.start.names.items c.args.start.grammar o.held c.new.ensures root (ap (λ p. p.seen) start.head)) in
     finished-whole _ _ _ _ _ _ _ _ c.in-Some.end c.close-history.result.unnoted c.finish-status.result c.finish-status.ensures.finished
     (whole-ended g.S.Machine.rules g.S.Speaker.speech (first_of c.args.start.first) old new o o' done.read c.in-Some.end done.so) is
@@ -142,7 +156,7 @@ returns-clause-counted g c = λ w is.
     let new = c.read_lines-lanes.new.reading.builder in
     let ended = read-ended g.S.Machine.rules g.S.Speaker.speech (first_of c.args.start.first) old new o o' c.read_lines-lanes.new.reading.end c.in-Some.end c.in-Some.is c.read_lines-lanes.ensures.ended in
     counted-home g.S.Machine.rules g.S.Speaker.speech (g.met.S.Machine g.world.𝓛 g.world.𝓜 g.world.𝓡 ((λ s x. x), (λ x. x), (λ x. x), λ x. x)).lawful
-    (g.met.S.Speaker g.world.𝓛 g.world.𝓜 g.world.𝓡 ((λ s x. x), (λ x. x), (λ x. x), λ x. x)).speaks g.E.Wire.Wire.sessions g.E.Wire.Wire.begun g.E.Wire.Wire.faults
+    (g.met.S.Speaker g.world.𝓛 g.world.𝓜 g.world.𝓡 ((λ s x. x), (λ x. x), (λ x. x), λ x. x)).speaks g.E.Wire.Wire.sessions g.E.Wire.Wire.begun g.E.Wire.Wire.faults g.E.Wire.Wire.made_for
     w c.args.begun.turnstile c.args.begun.builder c.args.begun.passes.items c.args.start.wires.items is c.args.start.names.items c.args.start.grammar old new c.new.ensures
     (first_of c.args.start.first) o o' c.in-Some.end ended c.read_lines-lanes.result.items c.into_parts-pass.result.0 c.into_parts-pass.ensures.pass
     c.close-history.result.history.items c.close-history.ensures.history (row_of c.finish-status.result).completed

@@ -1,12 +1,24 @@
-use Rattle.std.proofs.Common.{◌≡◌, [], true, inl, inr, refl, map, sym, subst, ◌∙◌, ap, arith}
+use Rattle.std.proofs.Common.{◌≡◌, [], true, inl, inr, refl, Err, map, sym, subst, ◌∙◌, ap, arith}
 use Rattle.ug_edge.specs.Told.{Rose, Missing, file_told}
 use Rattle.ug_pieces.specs.ReadingLaws.{Rose-later}
 use Rattle.ug_commands.specs.Files.{AppendsThenStatus}
-use Rattle.ug_commands.specs.Statuses.{row_of, status_text}
+use Rattle.ug_report.specs.Statuses.{row_of, status_text}
+use Rattle.ug_commands.specs.declared.stop.Stop.TheVariants as stops
 use Rattle.ug_run.specs.Setups.{IsStopOf}
 use Rattle.ug_run.specs.Commands.{IsUnconfigured}
-use Rattle.ug_run.proofs.Starting.{unset-completed}
+use Rattle.ug_run.proofs.Starting.{unset-completed, err_same, ok_no_err}
 use Rattle.ug_run.proofs.serving.run.Goals as goal
+
+pub returns-clause-promised : goal.returns-clause-promised
+returns-clause-promised g c = inr (record {
+  there = c.in-Ok.ensures.there;
+  world = c.in-Ok.world;
+  configured = c.in-Ok.ensures.world;
+  then_names = (g.E.Source.picks c.configure.new.site).names;
+  picked = c.in-Ok.ensures.named;
+  made_all = rw (sym c.configure.ensures.made) c.run_over.ensures.made;
+  promised = rw (sym c.configure.ensures.files) c.run_over.ensures.promised;
+})
 
 pub returns-in-Err-clause-promised : goal.returns-in-Err-clause-promised
 returns-in-Err-clause-promised g c =
@@ -14,6 +26,10 @@ returns-in-Err-clause-promised g c =
     let same = sym c.idle.ensures.status in
     inl (record {
       cause = subst (λ s. IsUnconfigured file s) same (c.end_unset-status.ensures.cause file c.in-Err.ensures.stopped);
+      picked = elim c.configure.ensures.picked [
+        | inl named ↦ inl named
+        | inr none ↦ inr (c.idle.ensures.status ∙ c.end_unset-status.ensures.starved (err_same c.in-Err.stop stops.NoMemory _ _ refl refl (sym c.in-Err.is ∙ none.0)), none.1)
+      ];
       missing = λ m. subst (λ s. (row_of s).may_be_unread ≡ true) same (c.end_unset-status.ensures.missing (subst (λ f. IsStopOf f c.in-Err.stop) m c.in-Err.ensures.stopped));
       no_wires = ap (map _) (c.idle.ensures.wires ∙ c.new.ensures);
       unmade = c.configure.ensures.made;
@@ -53,3 +69,13 @@ returns-clause-counted g c =
       | inl none ↦ inl none
       | inr counted ↦ inr (c.in-Ok.world, c.in-Ok.ensures.world, counted)
     ]
+
+pub returns-in-Err-clause-unharmed : goal.returns-in-Err-clause-unharmed
+returns-in-Err-clause-unharmed g c = λ not_read.
+    c.in-Err.ensures.unharmed (λ e. not_read (c.idle.ensures.status ∙ c.end_unset-status.ensures.unread (err_same c.in-Err.stop stops.Read _ _ refl refl e)))
+
+pub returns-clause-unharmed : goal.returns-clause-unharmed
+returns-clause-unharmed g c = λ not_read. c.run_over.ensures.unharmed not_read ∙ c.in-Ok.ensures.unharmed (λ e. ok_no_err _ stops.Read e)
+
+pub returns-clause-all_wired : goal.returns-clause-all_wired
+returns-clause-all_wired g c = λ not_site. c.run_over.ensures.all_wired not_site ∙ c.configure.ensures.wire_faults

@@ -1,0 +1,59 @@
+//! The words that need no lanes: `check`, `groups`, and those that are no command.
+
+ghost use Rattle.std.specs.Prelude.{◌≡◌, ◌↔◌, [], map, true, false, Some, None, IfSome, IfNone};
+ghost use Rattle.std.specs.String.{string_bytes};
+ghost use Rattle.ug_edge.specs.Told.{Rose, IsEnded, file_told, Missing};
+ghost use Rattle.ug_command_line.specs.Words.{CheckCommand, GroupsCommand, Check, Groups, command_of, is_command};
+ghost use Rattle.ug_report.specs.Statuses.{row_of, status_text};
+ghost use Rattle.ug_commands.specs.Files.{AppendsThenStatus, PicksJust};
+ghost use Rattle.ug_commands.specs.Checked.{IsChecked};
+ghost use Rattle.ug_commands.specs.Listed.{IsListed};
+ghost use Rattle.ug_run.specs.Commands.{has_sessions};
+
+use std::alloc::Global;
+use ug_command_line::{Command, read_command};
+use ug_commands::{check, end, groups};
+use ug_edge::{Sink, Site};
+use ug_report::Status;
+
+/// How a command without sessions ended, or that the words are no command; `None` where they are `one` or `run`, of which
+/// nothing was begun. No lane is there, and nobody is waited for: the call ends.
+pub fn answer_alone<E: Site, K: Sink>(
+    alloc: Global,
+    words: &[String],
+    site: &mut E,
+    report: &mut K,
+) -> Option<Status>
+    ensures alone { (result ≡ None) ↔ (has_sessions (command_of (map string_bytes words.now)) ≡ true) }
+    ensures untouched { IfNone result ((site.new ≡ site.old) × (report.new ≡ report.old)) }
+    ensures checked { (command : CheckCommand) → command_of (map string_bytes words.now) ≡ Some (Check command) → IfSome result (λ status.
+        IsChecked command (file_told (E.files site.old) command.stream) (E.picks site.new).is_open (E.left site.new) status (K.held report.old) (K.held report.new) (Rose (K.faults report.old) (K.faults report.new))) }
+    ensures check_picked { (command : CheckCommand) → command_of (map string_bytes words.now) ≡ Some (Check command) → IfSome result (λ status.
+        PicksJust (E.picks site.old).names (E.picks site.new).names command.stream status) }
+    ensures check_missing { (command : CheckCommand) → command_of (map string_bytes words.now) ≡ Some (Check command) →
+        file_told (E.files site.old) command.stream ≡ Missing → IfSome result (λ status. (row_of status).may_be_unread ≡ true) }
+    ensures listed { (command : GroupsCommand) → command_of (map string_bytes words.now) ≡ Some (Groups command) → IfSome result (λ status.
+        IsListed (file_told (E.files site.old) command.config) status (K.held report.old) (K.held report.new) (Rose (K.faults report.old) (K.faults report.new))) }
+    ensures groups_picked { (command : GroupsCommand) → command_of (map string_bytes words.now) ≡ Some (Groups command) → IfSome result (λ status.
+        PicksJust (E.picks site.old).names (E.picks site.new).names command.config status) }
+    ensures groups_missing { (command : GroupsCommand) → command_of (map string_bytes words.now) ≡ Some (Groups command) →
+        file_told (E.files site.old) command.config ≡ Missing → IfSome result (λ status. (row_of status).may_be_unread ≡ true) }
+    ensures usage { is_command (map string_bytes words.now) ≡ false → (result ≡ Some Status.Usage) × (site.new ≡ site.old) }
+    ensures no_command { is_command (map string_bytes words.now) ≡ false →
+        AppendsThenStatus (K.held report.old) (K.held report.new) (Rose (K.faults report.old) (K.faults report.new)) [] (status_text Status.Usage) }
+    ensures unmade { E.made site.new ≡ E.made site.old }
+    // What a status says of the outside.
+    ensures read { result ≡ Some Status.ReadFault → Rose (E.faults site.old) (E.faults site.new) }
+    ensures unharmed { (result ≡ Some Status.ReadFault → ⊥) → E.faults site.new ≡ E.faults site.old }
+    ensures report { result ≡ Some Status.ReportFault → Rose (K.faults report.old) (K.faults report.new) }
+    ensures ended { IfSome result (λ status. (row_of status).completed ≡ true → IsEnded (E.left site.new)) }
+{
+    match read_command(words) {
+        None => Some(end(report, Status::Usage)),
+        Some(Command::Check(words)) => {
+            Some(check(alloc, words.session, words.stream, site, report))
+        }
+        Some(Command::Groups(words)) => Some(groups(alloc, words.config, site, report)),
+        Some(Command::One(_)) | Some(Command::Run(_)) => None,
+    }
+}

@@ -1,4 +1,0 @@
-pub mod LaneLaws
-mod Wired
-mod Ending
-mod Starting
