@@ -3,8 +3,8 @@ use Rattle.std.proofs.Common.{◌≡◌, ℕ, zero, suc, ◌+◌, ◌-◌, ◌<�
 use Rattle.std.specs.Prelude.{slice_get, slice_index_or}
 use Rattle.ug_world.specs.declared.peer_state.PeerState.{PeerState}
 use Rattle.ug_world.specs.World.{World}
-use Rattle.ug_packing.proofs.Running.{all_of}
-use Rattle.ug_plain_rules.specs.Seats.{sessions_at, sessions_had}
+use Rattle.std.proofs.lemmas.List.{take_all}
+use Rattle.ug_speaker.specs.Counts.{sessions_at, sessions_had}
 use Rattle.ug_group_rules.specs.Machine.{Member, fresh_member, is_member_quiet, are_quiet}
 use Rattle.ug_group_rules.specs.Rules.{member_due, due}
 
@@ -16,7 +16,7 @@ one_quiet (suc p) (s ∷ peers) m members = let f : suc p + 1 ≡ suc (p + 1) = 
 
 -- what is left behind the first
 rest_is : (m : Member) (ms : List Member) → take (length (m ∷ ms) - 1) (drop 1 (m ∷ ms)) ≡ ms
-rest_is m ms = all_of ms (length (m ∷ ms) - 1) (omega arith)
+rest_is m ms = take_all (length (m ∷ ms) - 1) ms (omega arith)
 
 -- the peer at a place beside those behind it
 pub quiet_on : (p n : ℕ) (w : World) (ms : List Member) (m : Member) (b : Bool) → 1 ≤ length ms → m ≡ slice_index_or ms 0 m → n ≡ sessions_at p w → is_member_quiet n m ≡ true → b ≡ are_quiet (drop (p + 1) w.peers) (take (length ms - 1) (drop 1 ms))

@@ -2,7 +2,7 @@
 use Rattle.std.proofs.Common.{◌≡◌, ℕ, zero, suc, Bool, true, false, List, [], ◌∷◌, ◌++◌, length, Option, Some, None, is_some, refl, sym, ap, ◌∙◌}
 use Rattle.std.specs.Prelude.{slice_get}
 use Rattle.std.specs.Option.{option_map}
-use Rattle.ug_plain_rules.specs.Seats.{change_at}
+use Rattle.ug_speaker.specs.Places.{change_at}
 use Rattle.ug_group_rules.specs.Machine.{Seat, Member, Subgroup, System, subgroup_at, seat_at, seat_of, leave, seated, unless_empty, format_of, has_company, split, split_by, apart, reseated, parted, queued, slow_of, with_new, with_seat, with_seats, with_subgroup, unstuck}
 use Rattle.ug_group_trials.specs.Seen.{seat_in}
 

@@ -5,7 +5,7 @@ use Rattle.std.proofs.lemmas.List.{append_assoc}
 use Rattle.ug_types.specs.declared.mark.Mark.{Mark}
 use Rattle.ug_history_rules.specs.Deeds.{when}
 use Rattle.ug_world.specs.declared.peer_state.PeerState.{PeerState}
-use Rattle.ug_packing.proofs.Running.{none_left}
+use Rattle.std.proofs.lemmas.List.{drop_all}
 use Rattle.ug_group_rules.specs.Machine.{System, mark_at, marks_at, seat_at}
 
 there_is : {T : Type 0} (xs : List T) (p : ℕ) → p < length xs → (x : T) × (slice_get xs p ≡ Some x) × (drop p xs ≡ x ∷ drop (p + 1) xs)
@@ -35,4 +35,4 @@ module _ (test : PeerState → Bool) (state : System) (peers : List PeerState) (
 
   -- no peer is left
   pub mark_end : (marks all : List Mark) → length peers ≤ p → marks ++ marks_at test p (drop p peers) state ≡ all → marks ≡ all
-  mark_end marks all past so = sym (none_more marks) ∙ ap (λ (left : List PeerState). marks ++ marks_at test p left state) (sym (none_left peers p past)) ∙ so
+  mark_end marks all past so = sym (none_more marks) ∙ ap (λ (left : List PeerState). marks ++ marks_at test p left state) (sym (drop_all p peers past)) ∙ so

@@ -1,7 +1,7 @@
 -- A list of which one place is looked at or changed.
 use Rattle.std.proofs.Common.{◌≡◌, ℕ, zero, suc, ◌+◌, ◌<◌, ◌≤◌, List, [], ◌∷◌, ◌++◌, map, take, drop, length, Option, Some, None, refl, sym, ap, ◌∙◌, arith}
 use Rattle.std.specs.Prelude.{slice_get, slice_set, slice_index_or}
-use Rattle.ug_plain_rules.specs.Seats.{change_at}
+use Rattle.ug_speaker.specs.Places.{change_at}
 use Rattle.std.specs.Option.{option_map}
 use Rattle.ug_group_rules.specs.Machine.{Subgroup, System, there, counted, counted_from}
 

@@ -6,10 +6,11 @@ use Rattle.ug_types.specs.declared.capabilities.Capabilities.{Capabilities}
 use Rattle.ug_types.specs.declared.key.Key.{Key}
 use Rattle.ug_types.specs.Attributes.{Attributes}
 use Rattle.ug_types.specs.Messages.{Message}
-use Rattle.ug_packing.specs.Packing.{Shared, announcements_of, announcing, fits, runs, runs_from, text_of, with_key, withdrawals, withdrawing}
+use Rattle.ug_message.specs.Fitting.{announcing, fits, text_of, withdrawing}
+use Rattle.ug_packing.specs.Packing.{Shared, announcements_of, runs, runs_from, with_key, withdrawals}
 use Rattle.ug_packing.specs.Seen.{announced, first_text, texts_in}
 use Rattle.ug_packing.proofs.Grouping.{same_is}
-use Rattle.ug_packing.proofs.Running.{all_of}
+use Rattle.std.proofs.lemmas.List.{take_all}
 use Rattle.ug_group_trials.specs.Seen.{sharing}
 
 none_behind : {T : Type 0} (xs : List T) → xs ++ [] ≡ xs
@@ -87,7 +88,7 @@ sharing_step a keys i key groups inside is so =
     ap (with_key a key) so ∙ one_more a (take i keys) key ∙ ap (sharing a) (sym (front_more keys i key inside is))
 
 pub sharing_end : (a : Attributes) (keys : List Key) (i : ℕ) → length keys ≤ i → sharing a (take i keys) ≡ sharing a keys
-sharing_end a keys i past = ap (sharing a) (all_of keys i past)
+sharing_end a keys i past = ap (sharing a) (take_all i keys past)
 
 pub only_is : (texts : List (List ℕ)) (text : List ℕ) → length texts ≡ 1 → first_text texts ≡ Some text → texts ≡ text ∷ []
 only_is [] text one first = absurd cc

@@ -1,7 +1,7 @@
 //! Lanes: what is next for a peer, and the loss of a session.
 
 ghost use Rattle.std.specs.Prelude.{◌≡◌, Some, slice_get, OnOk, IfOk};
-ghost use Rattle.ug_plain_rules.specs.Seats.{change_at};
+ghost use Rattle.ug_speaker.specs.Places.{change_at};
 ghost use Rattle.ug_board.specs.declared.steps.LaneStep.TheVariants as steps;
 ghost use Rattle.ug_group_rules.specs.Machine.{after_next, has_unlost, upshot, with_loss};
 ghost use Rattle.ug_group_rules.specs.Rules.{after_lane, due, lane_reply, said_of, text_for};

@@ -2,7 +2,7 @@
 
 ghost use Rattle.std.specs.Prelude.{◌≡◌, ℕ, ◌+◌, ◌<◌, ◌==◌, map, not, filter, slice_get, Some, is_some, IfOk, OnOk};
 ghost use Rattle.std.specs.Option.{option_map};
-ghost use Rattle.ug_plain_rules.specs.Seats.{has};
+ghost use Rattle.ug_speaker.specs.Counts.{has};
 ghost use Rattle.ug_group_rules.specs.Machine.{after_upshot, first_left, fresh_member, handed_now, hands_by, rest_behind, upshot_of, with_loss, with_session};
 ghost use Rattle.ug_group_rules.specs.Machine as machine;
 ghost use Rattle.ug_group_trials.specs.Seen.{upshot_seen};

@@ -2,7 +2,7 @@
 
 ghost use Rattle.std.specs.Prelude.{◌≡◌, None, slice_get, IfOk, OnOk};
 ghost use Rattle.std.specs.Option.{option_map};
-ghost use Rattle.ug_plain_rules.specs.Seats.{change_at};
+ghost use Rattle.ug_speaker.specs.Places.{change_at};
 ghost use Rattle.ug_group_rules.specs.Machine.{after_upshot, at_end, reseated, upshot_of, with_loss, with_seat};
 ghost use Rattle.ug_group_trials.specs.Seen.{seat_in, upshot_seen};
 

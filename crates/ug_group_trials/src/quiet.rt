@@ -1,7 +1,7 @@
 //! What is left to be done by lanes.
 
 ghost use Rattle.std.specs.Prelude.{◌≡◌, ◌*◌, ◌+◌, ◌-◌, ◌^◌, ◌<◌, drop, length, IfOk};
-ghost use Rattle.ug_plain_rules.specs.Seats.{sessions_at};
+ghost use Rattle.ug_speaker.specs.Counts.{sessions_at};
 ghost use Rattle.ug_group_rules.specs.Machine.{is_seat_quiet, is_member_quiet, are_quiet};
 ghost use Rattle.ug_group_rules.specs.Rules.{rest_due, member_due, due};
 

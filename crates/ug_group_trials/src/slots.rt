@@ -2,7 +2,7 @@
 
 ghost use Rattle.std.specs.Prelude.{◌≡◌, ◌+◌, ◌^◌, ◌<◌, None, length, slice_get, OnOk, IfOk};
 ghost use Rattle.std.specs.Option.{option_map};
-ghost use Rattle.ug_plain_rules.specs.Seats.{change_at};
+ghost use Rattle.ug_speaker.specs.Places.{change_at};
 ghost use Rattle.ug_group_rules.specs.Machine.{there, formatted, next_packet, unstuck, rekeyed, asked, first_joinable};
 ghost use Rattle.ug_group_rules.specs.Machine as machine;
 

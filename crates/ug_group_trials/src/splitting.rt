@@ -5,7 +5,7 @@ ghost use Rattle.std.specs.Option.{option_map};
 ghost use Rattle.ug_group_rules.specs.Machine.{apart, has_company, parted, queued, reseated, seat_at, slow_of, split_by, subgroup_at, unstuck, with_new, with_seats, with_subgroup};
 ghost use Rattle.ug_group_rules.specs.Machine as machine;
 ghost use Rattle.ug_group_trials.specs.Seen.{seat_in};
-ghost use Rattle.ug_plain_rules.specs.Seats.{change_at};
+ghost use Rattle.ug_speaker.specs.Places.{change_at};
 
 use crate::groups::SlowGroups;
 use crate::members::{count_members, part_all};

@@ -5,7 +5,7 @@ ghost use Rattle.ug_types.specs.Messages.{message_of, changes_of, Updates, Begin
 ghost use Rattle.ug_board.specs.Rules.{buffer_size};
 ghost use Rattle.ug_outbound.specs.Keys.{ends_of};
 ghost use Rattle.ug_speaker.specs.Speech.{capabilities_of};
-ghost use Rattle.ug_packing.specs.Packing.{announcing, text_of, withdrawing};
+ghost use Rattle.ug_message.specs.Fitting.{announcing, text_of, withdrawing};
 ghost use Rattle.ug_group_rules.specs.Packets.{message_to};
 ghost use Rattle.ug_group_trials.specs.Seen.{sharing};
 

@@ -5,7 +5,7 @@ use std::test::Fail;
 use ug_outbound::{Local, NamedPolicy, Peer, Policy};
 use ug_prefixlist::{NamedList, PrefixList};
 use ug_text::{read_address, read_prefix};
-use ug_types::{Addr, Family, Name, Sequence};
+use ug_types::{Addr, Family, Name, RouterId, Sequence};
 use ug_world::{World, WorldParts};
 
 fn name(alloc: Global, text: &str) -> Result<Name, Fail> {
@@ -21,7 +21,7 @@ fn peer(alloc: Global, enhanced_refresh: bool) -> Result<Peer, Fail> {
     Ok(Peer {
         name: name(alloc, "p1")?,
         asn: 65002,
-        router_id: address("192.0.2.2")?,
+        router_id: RouterId::new(0xC000_0202),
         family: Family::V4,
         address: address("192.0.2.2")?,
         local_address: address("192.0.2.1")?,

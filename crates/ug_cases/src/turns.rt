@@ -1,0 +1,180 @@
+//! Turns on a board, and what comes of them as text. Each piece of it ends with a semicolon.
+
+ghost use Rattle.ug_events.specs.Events.{IsEvent};
+ghost use Rattle.ug_events.specs.Views.{event_of};
+
+use crate::bytes::spelled;
+use crate::running::Shipped;
+use crate::stage::{Job, Stage};
+use crate::wrong::Wrong;
+use std::alloc::Global;
+use std::sync::ledger::Ledger;
+use ug_board::{LaneSaid, LaneStep};
+use ug_events::{Event, Line, LineRefusal, read_line};
+use ug_speaker::Speaker;
+use ug_types::{Mark, NoMemory, PeerId, Steps};
+
+impl Stage {
+    /// What comes of a turn: `next PEER`, the lane to a peer asks once what is next; `rest PEER`, it asks until nothing is
+    /// to be done for now; `lost PEER SESSION`, it tells the loss of a session; `settle` and `drain`, the jobs are done that
+    /// have to be done before the next event, or by which more can be told; `close`, there are no further events; and else
+    /// a line of events is taken, or a mark where it says `sync`.
+    pub fn play<L: Ledger>(
+        &mut self,
+        alloc: Global,
+        turn: &str,
+        steps: &mut Steps<L>,
+    ) -> Result<String, Wrong> {
+        let (verb, rest) = turn.split_once(' ').unwrap_or((turn, ""));
+        match verb {
+            "next" => self.play_next(alloc, self.peer(alloc, rest)?),
+            "rest" => self.play_rest(alloc, self.peer(alloc, rest)?),
+            "lost" => self.play_loss(alloc, rest),
+            "settle" => self.play_settling(alloc, steps),
+            "drain" => self.play_draining(alloc, steps),
+            "close" => self.play_job(alloc, Shipped::close_job(), steps),
+            _ => self.play_line(alloc, turn, steps),
+        }
+    }
+
+    /// The peer with a name, or the place that a number is.
+    fn peer(&self, alloc: Global, name: &str) -> Result<PeerId, Wrong> {
+        if let Ok(place) = name.parse::<u32>() {
+            return Ok(place);
+        }
+        match self.peer_named(alloc, name)? {
+            Some(peer) => Ok(peer),
+            None => Err(Wrong::Line("no such peer")),
+        }
+    }
+
+    /// Takes a line: an event, or a mark.
+    fn play_line<L: Ledger>(
+        &mut self,
+        alloc: Global,
+        line: &str,
+        steps: &mut Steps<L>,
+    ) -> Result<String, Wrong> {
+        match read_line(alloc, line.as_bytes()) {
+            Ok(Line::Happened(event)) => self.play_event(alloc, event, steps),
+            Ok(Line::Sync) => self.play_job(alloc, Shipped::sync_job(), steps),
+            Ok(Line::Blank) => Ok(String::new(alloc)),
+            Err(LineRefusal::Refused { number, .. }) => Ok(format!(in alloc; "unread {number}; ")?),
+            Err(LineRefusal::NoMemory) => Err(Wrong::from(NoMemory)),
+        }
+    }
+
+    /// Takes an event, or tells why the world refuses it.
+    fn play_event<L: Ledger>(
+        &mut self,
+        alloc: Global,
+        event: Event,
+        steps: &mut Steps<L>,
+    ) -> Result<String, Wrong>
+        requires { IsEvent (event_of event) }
+    {
+        if let Err(refusal) = self.judge(&event) {
+            return Ok(format!(in alloc; "refused {}; ", refusal.number)?);
+        }
+        let job = Shipped::event_job(alloc, event)?;
+        self.play_job(alloc, job, steps)
+    }
+
+    /// Does a job where it may be done now, and tells its marks.
+    fn play_job<L: Ledger>(
+        &mut self,
+        alloc: Global,
+        job: Job,
+        steps: &mut Steps<L>,
+    ) -> Result<String, Wrong> {
+        match self.job(job, steps)? {
+            Some(said) => say_marks(alloc, Shipped::marks(&said)),
+            None => Ok(format!(in alloc; "not now; ")?),
+        }
+    }
+
+    /// Does the jobs that have to be done before the next event, and tells how many.
+    fn play_settling<L: Ledger>(
+        &mut self,
+        alloc: Global,
+        steps: &mut Steps<L>,
+    ) -> Result<String, Wrong> {
+        for count in 0..1000u32 {
+            let Some(job) = self.machine().settling()? else {
+                return Ok(format!(in alloc; "{count} jobs; ")?);
+            };
+            let _said = self.job(job, steps)?;
+        }
+        Err(Wrong::Line("there are always more jobs"))
+    }
+
+    /// Does the jobs by which more can be told, and tells how many.
+    fn play_draining<L: Ledger>(
+        &mut self,
+        alloc: Global,
+        steps: &mut Steps<L>,
+    ) -> Result<String, Wrong> {
+        for count in 0..1000u32 {
+            let Some(job) = self.machine().draining()? else {
+                return Ok(format!(in alloc; "{count} jobs; ")?);
+            };
+            let _said = self.job(job, steps)?;
+        }
+        Err(Wrong::Line("there are always more jobs"))
+    }
+
+    /// The lane to a peer asks what is next, and is told so with the message that is handed out.
+    fn play_next(&mut self, alloc: Global, peer: PeerId) -> Result<String, Wrong> {
+        Ok(match self.lane(LaneStep::Next { peer }) {
+            LaneSaid::Begun { session } => format!(in alloc; "begun {session}; ")?,
+            LaneSaid::Hand { len, .. } => {
+                format!(in alloc; "{}; ", spelled(alloc, self.handed(len))?)?
+            }
+            LaneSaid::Idle => format!(in alloc; "idle; ")?,
+            LaneSaid::Stop => format!(in alloc; "stop; ")?,
+            LaneSaid::Noted => format!(in alloc; "noted; ")?,
+        })
+    }
+
+    /// The lane to a peer asks until nothing is to be done for now, which isn't told.
+    fn play_rest(&mut self, alloc: Global, peer: PeerId) -> Result<String, Wrong> {
+        let mut text = String::new(alloc);
+        for _ in 0..1000 {
+            let said = self.play_next(alloc, peer)?;
+            if said.as_str() == "idle; " {
+                return Ok(text);
+            }
+            text.push_str(said.as_str())?;
+            if said.as_str() == "stop; " {
+                return Ok(text);
+            }
+        }
+        Err(Wrong::Line("there is always more to tell"))
+    }
+
+    /// The lane to a peer tells the loss of a session, which is noted or passed over.
+    fn play_loss(&mut self, alloc: Global, text: &str) -> Result<String, Wrong> {
+        let Some((name, number)) = text.split_once(' ') else {
+            return Err(Wrong::Line("no peer and session"));
+        };
+        let Ok(session) = number.parse::<u32>() else {
+            return Err(Wrong::Line("no session"));
+        };
+        let peer = self.peer(alloc, name)?;
+        if self.lose(peer, session) {
+            return Ok(format!(in alloc; "lost {session}; ")?);
+        }
+        Ok(format!(in alloc; "passed; ")?)
+    }
+}
+
+/// Marks: the version, the place of the peer, its session, and how many messages it was handed.
+fn say_marks(alloc: Global, marks: &[Mark]) -> Result<String, Wrong> {
+    let mut text = String::new(alloc);
+    for mark in marks {
+        let (version, peer, session) = (mark.version, mark.peer, mark.session);
+        let piece = format!(in alloc; "mark {version}:{peer}:{session}:{}; ", mark.handed)?;
+        text.push_str(piece.as_str())?;
+    }
+    Ok(text)
+}

@@ -1,0 +1,4 @@
+pub mod Counting
+pub mod Filled
+pub mod Lawful
+pub mod Orders

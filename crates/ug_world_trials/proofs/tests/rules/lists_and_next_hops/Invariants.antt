@@ -1,4 +1,0 @@
-use Rattle.ug_world_trials.proofs.tests.rules.lists_and_next_hops.Given as goal
-
-abbrev pub ghosts-check : goal.ghosts-check
-ghosts-check g a = record { name = a.blank.name; parts = a.blank.parts }
