@@ -1,0 +1,97 @@
+#!/bin/bash
+# Tries the bridges. What needs a tool that isn't there is passed over. PROGRAM is the program, or else out/ug_main; without
+# one the tests that run it are passed over.
+export LC_ALL=C
+cd "$(dirname "$0")/.." || exit 1
+program=${PROGRAM:-$PWD/out/ug_main}
+examples=examples/configurations
+work=$(mktemp -d)
+trap 'rm -rf "$work"' EXIT
+passed=0
+failed=0
+
+# same NAME FILE FILE: counts whether the files are equal, and shows where they aren't.
+same() {
+    if cmp -s "$2" "$3"; then
+        passed=$((passed + 1))
+    else
+        failed=$((failed + 1))
+        echo "$1:"
+        diff "$2" "$3" | head -n 10
+    fi
+}
+
+# missing NAME TOOL..: says what is passed over where one of the tools isn't there.
+missing() {
+    local name=$1 tool
+    shift
+    for tool in "$@"; do
+        command -v "$tool" > /dev/null || { echo "passed over, for want of $tool: $name"; return 0; }
+    done
+    return 1
+}
+
+# ---- events of an MRT file
+
+bridges/events_of_mrt.py bridges/tests/mrt.toml < bridges/tests/mrt.lines > "$work/events" 2> "$work/told"
+same "events of the lines of a dump" "$work/events" bridges/tests/mrt.events
+same "what the lines of a dump have that can't be said" "$work/told" bridges/tests/mrt.told
+if ! missing "the lines of an MRT file" bgpdump; then
+    bridges/tests/mrt.py > "$work/mrt"
+    bgpdump -m "$work/mrt" 2> "$work/log" > "$work/lines"
+    same "the lines of an MRT file" "$work/lines" bridges/tests/mrt.lines
+fi
+
+# ---- captures
+
+if ! missing "captures of real streams" tshark text2pcap; then
+    for name in frr-full bird-external gobgp-refresh openbgpd-ipv6-addpath frr-day; do
+        stream=tests/samples/$name
+        bridges/pcap_of_session.py $stream.bin "$work/capture" 2> "$work/log"
+        bridges/session_of_pcap.py "$work/capture" 192.0.2.1 > "$work/stream" 2> "$work/log"
+        same "a stream that was made a capture and cut out again ($name)" "$work/stream" $stream.bin
+        bridges/rows_of_pcap.py "$work/capture" > "$work/rows"
+        grep -v '^messages ' $stream.rows > "$work/wanted"
+        same "what tshark reads of a real stream ($name)" "$work/rows" "$work/wanted"
+    done
+fi
+
+# ---- JSON
+
+for name in route-reflector route-server spine; do
+    bridges/json_of.py groups < $examples/$name.groups > "$work/groups.json"
+    bridges/json_of.py run < $examples/$name.report > "$work/run.json"
+    for kind in groups run; do
+        python3 -c 'import json, sys; [json.loads(line) for line in sys.stdin]' < "$work/$kind.json" > "$work/log" 2>&1
+        same "each line of $kind is JSON ($name)" "$work/log" /dev/null
+    done
+done
+bridges/json_of.py check < bridges/tests/check.text > "$work/check.json"
+same "rows and faults of check as JSON" "$work/check.json" bridges/tests/check.json
+bridges/json_of.py run < bridges/tests/run.text > "$work/run.json"
+same "the lines of a report as JSON" "$work/run.json" bridges/tests/run.json
+
+# ---- runs of the program
+
+if [ -x "$program" ]; then
+    for name in route-reflector route-server spine; do
+        rm -rf "$work/there" && mkdir "$work/there"
+        "$program" run $examples/$name.toml $examples/$name.events "$work/there" > "$work/report"
+        bridges/page_of_run.py $examples/$name.toml $examples/$name.events "$work/report" "$work/there" --groups $examples/$name.groups > "$work/page"
+        bridges/tests/page.py "$work/page" > "$work/log" 2>&1
+        same "the page of a run is whole ($name)" "$work/log" /dev/null
+        missing "what tshark reads of the sessions of $name" tshark text2pcap && continue
+        examples/rows.sh $examples/$name.toml "$work/there" "$program" > "$work/rows"
+        for session in "$work"/there/*; do
+            peer=${session##*/}
+            bridges/pcap_of_session.py "$session" "$work/capture" 2> "$work/log"
+            bridges/rows_of_pcap.py "$work/capture" > "$work/read"
+            awk -v session="$peer" '/^[a-z0-9_-]+\.[0-9]+$/ { mine = $0 == session; next } mine && !/^messages /' "$work/rows" > "$work/wanted"
+            same "what tshark reads of $peer of $name" "$work/read" "$work/wanted"
+        done
+    done
+else
+    echo "passed over, for want of a program at $program: pages and captures of runs"
+fi
+echo "$passed passed, $failed failed"
+[ "$failed" = 0 ]
