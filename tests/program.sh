@@ -73,6 +73,20 @@ expect "no words" 1 "status 1 usage" -
 expect "an unknown option" 1 "status 1 usage" - one --fast events there
 expect "words that are no text" 1 "status 1 usage" - one events $'\xff'
 
+# Lines of a file that is read in many pieces, and cut within a line by most of them.
+for n in $(seq 1 250); do
+    for m in 1 2 3 4 5 6 7 8; do
+        echo "paths 10.$n.$m.0/24 id=1 from=local nh=0.0.0.0 origin=igp as=-"
+    done
+done > pieces
+run one pieces there
+ends "a file that is read in pieces" 0 "accepted 2000 refused 0"
+run check there/p1.1
+tail -n 1 <<< "$said" > counted
+grep -c ' nh=192.0.2.1 origin=igp as=65001$' <<< "$said" >> counted
+printf 'messages 2001 eors 1 rows 2000 rest 0\n2000\n' > wanted
+same "all routes of a file that is read in pieces" counted wanted
+
 head -c 2000000 /dev/zero | tr '\0' '\n' > lines
 expect "as many lines as are read" 0 "accepted 0 refused 0" 23 one lines there
 echo >> lines
@@ -94,6 +108,35 @@ rm -rf there/*
 mkdir there/p1.1
 run one events there
 ends "a folder as the session's file" 8 "$lost"
+rm -rf there/*
+
+# ---- what stands already under a session's name
+
+rm -rf there/*
+head -c 1000 /dev/zero > there/p1.1
+run one events there
+ends "a session whose file was there" 0 "accepted 1 refused 0"
+same "a session that replaces a longer file" there/p1.1 announced
+rm -rf there/*
+
+echo "of another folder" > elsewhere
+cp elsewhere untouched
+ln -s "$work/elsewhere" there/p1.1
+run one events there
+ends "a symbolic link under a session's name" 8 "$lost"
+same "the file that a symbolic link leads to" elsewhere untouched
+rm -rf there/*
+ln elsewhere there/p1.1
+run one events there
+ends "a hard link under a session's name" 8 "$lost"
+same "a file that has another name too" elsewhere untouched
+rm -rf there/*
+mkfifo there/p1.1
+cat there/p1.1 > piped &
+run one events there
+wait $!
+ends "a pipe under a session's name" 0 "accepted 1 refused 0"
+same "what went through a pipe" piped announced
 rm -rf there/*
 
 # A file may have 1,024 bytes, and the last of these messages goes past them.
