@@ -1,5 +1,0 @@
-use Rattle.ug_trials.specs.Filled.{IsFilled}
-use Rattle.ug_trials.proofs.packets.clear_all.Given as goal
-
-abbrev pub invariant-loop-number : goal.invariant-loop-number
-invariant-loop-number l = IsFilled l.id l.adj

@@ -1,4 +1,0 @@
-pub mod Counting
-pub mod Filled
-pub mod Lawful
-pub mod Orders
