@@ -1,6 +1,17 @@
 # The commands of the repository. Each but `test` needs the toolchain alone, and that Python 3 beside it.
 
-.PHONY: build demo test wrong-bodies bench clean
+.PHONY: help build check demo test wrong-bodies fmt bench clean
+
+# What there is.
+help:
+	@echo "make demo          runs an example by an unproved build (some minutes); NAME=route-reflector, route-server or spine"
+	@echo "make build         proves the program and leaves it at out/ug_main (the first time an hour and more)"
+	@echo "make check         proves the crates that changed since the last commit, and what they stand on"
+	@echo "make fmt           formats the sources"
+	@echo "make test          the gate: proves and tests everything"
+	@echo "make wrong-bodies  tries all wrong bodies, or those of the crates in CRATES (hours)"
+	@echo "make bench         measures the program, proved"
+	@echo "make clean         removes what was built"
 
 # Proves what the program stands on, runs it once, and leaves it at out/ug_main.
 build:
@@ -8,12 +19,17 @@ build:
 	cd crates/ug_main && rt run -- one data/events.txt ../../out/build
 	cp crates/ug_main/out/ug_main out/ug_main
 
+# Proves and tries the crates that changed since the last commit.
+check:
+	@changed=$$(git status --porcelain -- crates | sed -E 's#^.. ("?crates/[^>]*-> )?"?crates/([^/]*)/.*#\2#' | sort -u | while read -r c; do [ -d "crates/$$c/src" ] && echo "$$c"; done); \
+	if [ -n "$$changed" ]; then rt ci $$changed; else echo "no crate changed"; fi
+
 # Runs an example by an unproved build of the same sources, which takes some minutes and isn't kept. Of `first` it shows the
 # report and the bytes of the session; of one of examples/configurations (make demo NAME=route-server) the report and then
 # what each session leaves at its receiver.
 NAME = first
 demo:
-	@echo "This build is not proved: make build proves the program and leaves it at out/ug_main."
+	@echo "This build is not proved, and takes some minutes: make build proves the program and leaves it at out/ug_main."
 ifeq ($(NAME),first)
 	rm -rf out/first && mkdir -p out/first
 	cd crates/ug_main && rt try -- one data/events.txt "$(CURDIR)/out/first"
@@ -29,6 +45,10 @@ test:
 # Tries all wrong bodies, also those that the gate passes over, or those of the crates in CRATES. It takes hours.
 wrong-bodies:
 	tests/wrong-bodies.sh $(CRATES)
+
+# Formats the sources.
+fmt:
+	rt fmt
 
 # Measures the program, proved.
 bench: build

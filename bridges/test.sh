@@ -10,16 +10,7 @@ trap 'rm -rf "$work"' EXIT
 passed=0
 failed=0
 
-# same NAME FILE FILE: counts whether the files are equal, and shows where they aren't.
-same() {
-    if cmp -s "$2" "$3"; then
-        passed=$((passed + 1))
-    else
-        failed=$((failed + 1))
-        echo "$1:"
-        diff "$2" "$3" | head -n 10
-    fi
-}
+. tests/same.sh
 
 # missing NAME TOOL..: says what is passed over where one of the tools isn't there.
 missing() {

@@ -9,7 +9,7 @@ but for the number of messages. The seed is fixed: each run writes the same. Wit
 prefixes and of the further lines.
 
 The model is a plain one: it keeps the world, and works out each peer's table from scratch, by the rules of
-docs/RULES.md and docs/POLICY.md. It shares nothing with the program.
+docs/RUNNING.md and docs/POLICY.md. It shares nothing with the program.
 """
 
 import os

@@ -11,16 +11,7 @@ trap 'rm -rf "$work"' EXIT
 passed=0
 failed=0
 
-# same NAME FILE FILE: counts whether the files are equal, and shows where they aren't.
-same() {
-    if cmp -s "$2" "$3"; then
-        passed=$((passed + 1))
-    else
-        failed=$((failed + 1))
-        echo "$1:"
-        diff "$2" "$3" | head -n 10
-    fi
-}
+. tests/same.sh
 
 python3 tests/day.py "$work" "${1:-1}" || { echo "0 passed, 1 failed"; exit 1; }
 for how in 0 1; do

@@ -6,7 +6,7 @@ program=${PROGRAM:-$PWD/out/ug_main}
 [ -x "$program" ] || { echo "no program at $program"; echo "0 passed, 1 failed"; exit 1; }
 examples=$PWD/examples
 samples=$PWD/tests/samples
-readme=$PWD/README.md
+page=$PWD/docs/RUNNING.md
 work=$(mktemp -d)
 trap 'rm -rf "$work"' EXIT
 cd "$work" || exit 1
@@ -94,8 +94,8 @@ expect "a line too many" 7 "status 7 too-long" 23 one lines there
 
 run one "$examples/first/events.txt" there
 od -A d -t x1 there/p1.1 > dump
-sed -n '/^    od -A d -t x1/,/^$/p' "$readme" | sed -e 1d -e '/^$/d' -e 's/^    //' > dump.readme
-same "the bytes that README shows" dump dump.readme
+sed -n '/^    od -A d -t x1/,/^$/p' "$page" | sed -e 1d -e '/^$/d' -e 's/^    //' > dump.page
+same "the bytes that docs/RUNNING.md shows" dump dump.page
 
 # ---- sessions and reports that can't be written
 

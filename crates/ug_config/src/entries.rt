@@ -1,7 +1,7 @@
 //! Entries of prefix lists.
 
 ghost use Rattle.std.specs.Prelude.{◌≡◌};
-ghost use Rattle.ug_prefixlist.specs.Lists.{is_bound, are_ordered, is_good};
+ghost use Rattle.ug_prefixlist.specs.Lists.{is_good};
 ghost use Rattle.ug_fields.specs.Gives.{Gives};
 ghost use Rattle.ug_config.specs.Readings.{list_entry, list_entry_of, where_good};
 
@@ -11,7 +11,6 @@ use std::alloc::Global;
 use toml::Value;
 use ug_fields::{ConfigRefusal, Field, TableReader, octet_at, refusal};
 use ug_prefixlist::ListEntry;
-use ug_types::Family;
 
 /// The entries of a prefix list.
 pub struct ListEntries;
@@ -44,37 +43,9 @@ fn list_entry_of(fields: &[Field]) -> ListEntry
 fn where_good(alloc: Global, way: &str, entry: ListEntry) -> Result<ListEntry, ConfigRefusal>
     ensures { Gives result (where_good way.now entry) }
 {
-    if is_good(&entry) {
+    if entry.is_good() {
         return Ok(entry);
     }
     let name = if entry.le.is_some() { "le" } else { "ge" };
     Err(refusal(alloc, 3, way, name))
-}
-
-fn is_good(entry: &ListEntry) -> bool
-    ensures { result ≡ is_good entry.now }
-{
-    let len = entry.prefix.len;
-    entry.prefix.family == Family::V4
-        && is_bound(len, entry.ge)
-        && is_bound(len, entry.le)
-        && are_ordered(entry.ge, entry.le)
-}
-
-fn is_bound(len: u8, bound: Option<u8>) -> bool
-    ensures { result ≡ is_bound len bound }
-{
-    match bound {
-        None => true,
-        Some(bound) => len <= bound && bound <= 32,
-    }
-}
-
-fn are_ordered(ge: Option<u8>, le: Option<u8>) -> bool
-    ensures { result ≡ are_ordered ge le }
-{
-    match (ge, le) {
-        (Some(ge), Some(le)) => ge <= le,
-        _ => true,
-    }
 }

@@ -3,5 +3,4 @@ pub mod Gone
 pub mod Heeded
 pub mod Marked
 pub mod Placed
-pub mod Single
 pub mod Turns

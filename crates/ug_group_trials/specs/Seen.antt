@@ -1,13 +1,10 @@
 -- What the code's values say, without where they lie in memory.
-use Rattle.std.specs.Prelude.{◌≡◌, ℕ, List, [], ◌∷◌, length, Option, Some, None}
+use Rattle.std.specs.Prelude.{◌≡◌, ℕ, List, [], length, Option, Some, None}
 use Rattle.ug_board.specs.declared.steps.LaneSaid.{LaneSaid}
 use Rattle.ug_board.specs.declared.steps.LaneSaid.TheVariants as lanes
 use Rattle.ug_events.specs.Events.{IsEvent}
 use Rattle.ug_events.specs.Views.{event_of}
 use Rattle.ug_world.specs.declared.peer_state.PeerState.{PeerState}
-use Rattle.ug_types.specs.Attributes.{Attributes}
-use Rattle.ug_types.specs.declared.key.Key.{Key}
-use Rattle.ug_packing.specs.Packing.{Shared}
 use Rattle.ug_group_trials.specs.declared.job.Job.{Job}
 use Rattle.ug_group_trials.specs.declared.job.Job.TheVariants as jobs
 use Rattle.ug_group_trials.specs.declared.job.Said.{Said}
@@ -76,11 +73,6 @@ abbrev pub upshot_text : Option PeerState → machine.Upshot → List ℕ
 upshot_text peer (machine.Begins session) = []
 upshot_text peer (machine.Hands session packet) = text_for peer (Some packet)
 upshot_text peer machine.Rests = []
-
--- the keys that share attributes, where there are some
-abbrev pub sharing : Attributes → List Key → List Shared
-sharing a [] = []
-sharing a (key ∷ keys) = record { attrs = a; keys = key ∷ keys } ∷ []
 
 -- the seat in another subgroup
 abbrev pub seat_in : ℕ → machine.Seat → machine.Seat

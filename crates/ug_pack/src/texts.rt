@@ -8,9 +8,8 @@ ghost use Rattle.ug_pack.specs.Rooms.{withdrawal_bytes, announcement_bytes};
 ghost use Rattle.ug_pack.specs.Packets.{IsWithdrawalText, IsAnnouncementText};
 
 use std::alloc::Global;
-use ug_mp::{write_update6, write_withdraw6};
 use ug_types::{Attrs, ByteList, Family, Key, NoMemory, Written};
-use ug_update::{write_update, write_withdraw};
+use ug_update::{write_update, write_update6, write_withdraw, write_withdraw6};
 
 /// The message that withdraws these routes, which are within a limit.
 pub fn withdrawal(

@@ -8,10 +8,9 @@ ghost use Rattle.ug_update.specs.Updates.{withdrawing};
 ghost use Rattle.ug_pack.specs.Packets.{IsPlain};
 
 use std::alloc::Global;
-use ug_mp::write_eor6;
 use ug_rewrite::Packet;
 use ug_types::{Addr, ByteList, Family, NhKind, NoMemory};
-use ug_update::{write_eor, write_mark};
+use ug_update::{write_eor, write_eor6, write_mark};
 
 /// End-of-RIB for the family: 23 bytes for IPv4, and 29 for IPv6 (RFC 4724 section 2).
 pub fn build_eor(alloc: Global, family: Family) -> Result<Packet, NoMemory>

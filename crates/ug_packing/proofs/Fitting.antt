@@ -25,7 +25,7 @@ use Rattle.ug_message.specs.Texts as texts
 use Rattle.ug_message.specs.Fitting.{withdrawing, announcing, fits, text_of}
 use Rattle.ug_message.specs.Frames.{said, are_spellable, attributes_text, routes_around, message_size}
 use Rattle.ug_message.proofs.Fitting.{fits_is}
-use Rattle.ug_mp.proofs.Texts.{least_around as around_least}
+use Rattle.ug_update.proofs.Texts6.{least_around as around_least}
 use Rattle.std.proofs.lemmas.Bool.Decides.{nat_tests}
 use Rattle.ug_update.specs.Updates.{header}
 use Rattle.ug_update.proofs.Texts.{framed_is}

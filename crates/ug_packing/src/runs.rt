@@ -17,9 +17,8 @@ use crate::texts::Texts;
 use crate::writing::{announcement, front_of, withdrawal};
 use std::alloc::Global;
 use ug_attrwire::size_around;
-use ug_mp::write_eor6;
 use ug_types::{Attrs, ByteList, Capabilities, Family, Key, NoMemory, Sequence};
-use ug_update::{write_eor, write_mark};
+use ug_update::{write_eor, write_eor6, write_mark};
 
 /// Adds the messages that withdraw keys.
 #[tactic(auto, unfolding(crate::specs::Packing::withdrawals))]

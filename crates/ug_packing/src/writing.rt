@@ -89,7 +89,7 @@ fn withdrawal4(
     Ok(bytes)
 }
 
-#[tactic(auto, using(ug_mp::proofs::Texts::least_around))]
+#[tactic(auto, using(ug_update::proofs::Texts6::least_around))]
 fn withdrawal6(
     alloc: Global,
     add_path: bool,
@@ -152,7 +152,7 @@ fn announcement4(
     Ok(bytes)
 }
 
-#[tactic(auto, using(ug_mp::proofs::Texts::least_around))]
+#[tactic(auto, using(ug_update::proofs::Texts6::least_around))]
 fn announcement6(
     alloc: Global,
     add_path: bool,

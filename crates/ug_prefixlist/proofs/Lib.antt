@@ -1,2 +1,4 @@
 pub mod Sorting
 pub mod Refusals
+pub mod OrfWalks
+pub mod OrfChanged

@@ -2,3 +2,8 @@ pub mod Order
 pub mod Lists
 pub mod Named
 pub mod Filters
+pub mod OrfChanges
+pub mod OrfWalking
+pub mod OrfReading
+pub mod OrfApplying
+pub mod OrfViews

@@ -3,14 +3,14 @@
 ghost use Rattle.std.specs.Prelude.{◌≡◌, None, IfOk, MatchResult};
 ghost use Rattle.std.specs.List.{list_all};
 ghost use Rattle.ug_prefixlist.specs.Order.{ascending};
-ghost use Rattle.ug_prefixlist.specs.Lists.{seq_of, shortest, longest, is_match, permits, is_bound, are_ordered, is_good, list_refusal, refusal_in_order, IsRefusal};
+ghost use Rattle.ug_prefixlist.specs.Lists.{seq_of, shortest, longest, is_match, permits, is_good, list_refusal, refusal_in_order, IsRefusal};
 
 use crate::entry::{EntryList, ListEntry};
 use crate::numbered::{Numbered, in_order, is_rising};
 use crate::refusal::ListRefusal;
 use std::alloc::Global;
 use std::marker::Model;
-use ug_types::{Family, NoMemory, Prefix, Sequence};
+use ug_types::{NoMemory, Prefix, Sequence};
 
 /// A prefix list: at most 1,024 good entries, in ascending order of their sequence numbers, which are all different.
 /// Contracts see the entries in that order.
@@ -138,40 +138,9 @@ fn are_good(entries: &[ListEntry]) -> bool
     ensures { result ≡ list_all is_good entries.now }
 {
     for entry in entries {
-        if !is_good(entry) {
+        if !entry.is_good() {
             return false;
         }
     }
     true
-}
-
-/// Whether an entry is an IPv4 one whose bounds follow one another.
-fn is_good(entry: &ListEntry) -> bool
-    ensures { result ≡ is_good entry.now }
-{
-    let len = entry.prefix.len;
-    entry.prefix.family == Family::V4
-        && is_bound(len, entry.ge)
-        && is_bound(len, entry.le)
-        && are_ordered(entry.ge, entry.le)
-}
-
-/// Whether a bound, where it is given, lies between a length and 32.
-fn is_bound(len: u8, bound: Option<u8>) -> bool
-    ensures { result ≡ is_bound len bound }
-{
-    match bound {
-        None => true,
-        Some(bound) => len <= bound && bound <= 32,
-    }
-}
-
-/// Whether two bounds, where both are given, follow one another.
-fn are_ordered(ge: Option<u8>, le: Option<u8>) -> bool
-    ensures { result ≡ are_ordered ge le }
-{
-    match (ge, le) {
-        (Some(ge), Some(le)) => ge <= le,
-        _ => true,
-    }
 }

@@ -1,3 +1,5 @@
 pub mod Copies
 pub mod Rooms
 pub mod Dues
+pub mod Loads
+pub mod Fitting

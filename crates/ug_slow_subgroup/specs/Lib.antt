@@ -1,2 +1,3 @@
 pub mod Views
 pub mod Dues
+pub mod Frames

@@ -5,18 +5,22 @@
 mod adj_out;
 mod due;
 mod keys;
+mod load;
 mod next;
 mod packet;
 mod room;
+mod routes;
 mod rows;
 mod saying;
 mod says;
 mod shared;
 mod short;
 mod subgroup;
+mod texts;
 mod told;
 mod waits;
 mod wanted;
+mod writing;
 
 pub use packet::Packet;
 pub use rows::Row;
@@ -24,3 +28,4 @@ pub use saying::Saying;
 pub use says::Says;
 pub use shared::SharedAttrs;
 pub use subgroup::Subgroup;
+pub use texts::text_of;

@@ -1,11 +1,13 @@
 //! Whether attributes can stand in a message at all.
 
-ghost use Rattle.std.specs.Prelude.{◌≤◌, ◌↔◌, IsTrue, length, map};
+ghost use Rattle.std.specs.Prelude.{◌≡◌, ◌≤◌, ◌↔◌, ◌&&◌, IsTrue, length, map};
+ghost use Rattle.ug_types.specs.Ip.{same_family};
 ghost use Rattle.ug_types.specs.Attributes.{attributes_of, segment_of};
 ghost use Rattle.ug_message.specs.Spelling.{segments, numbers};
+ghost use Rattle.ug_message.specs.Spellable.{is_ipv4, has_ipv4_addresses};
 ghost use Rattle.ug_message.specs.Lengths.{HasShortValues};
 
-use ug_types::{AttrParts, NumberList, Segment};
+use ug_types::{Addr, AttrParts, Family, NumberList, Segment};
 
 /// Whether no value takes over 65,535 bytes.
 pub fn has_short_values(parts: &AttrParts) -> bool
@@ -39,4 +41,29 @@ fn is_short_path(path: &[Segment]) -> bool
         }
     }
     true
+}
+
+/// Whether the next hop is of the family, and all other addresses are of IPv4.
+#[tactic(auto, unfolding(ug_message::specs::Spellable::has_ipv4_addresses))]
+pub fn has_addresses(family: Family, parts: &AttrParts) -> bool
+    ensures { result ≡ (same_family parts.now.next_hop.family family && has_ipv4_addresses (attributes_of parts.now)) }
+{
+    if parts.next_hop.family != family {
+        return false;
+    }
+    if let Some(aggregator) = parts.aggregator {
+        if !is_ipv4(&aggregator.addr) {
+            return false;
+        }
+    }
+    if let Some(originator) = parts.originator {
+        return is_ipv4(&originator);
+    }
+    true
+}
+
+fn is_ipv4(addr: &Addr) -> bool
+    ensures { result ≡ is_ipv4 addr.now }
+{
+    addr.family == Family::V4
 }

@@ -1,3 +1,4 @@
 pub mod Updates
 pub mod Views
 pub mod Readers
+pub mod Sizes6

@@ -7,8 +7,8 @@ use Rattle.ug_prefixlist.specs.Order.{ascending}
 use Rattle.ug_prefixlist.specs.Lists.{seq_of}
 use Rattle.ug_prefixlist.specs.Named.{NamedList}
 use Rattle.ug_prefixlist.specs.declared.entry.ListEntry.{ListEntry}
-use Rattle.ug_orf.specs.Changes.{OrfRequest}
-use Rattle.ug_orf.specs.Applying.{applied}
+use Rattle.ug_prefixlist.specs.OrfChanges.{OrfRequest}
+use Rattle.ug_prefixlist.specs.OrfApplying.{applied}
 use Rattle.ug_events.specs.Events.{Happening, ComesUp, GoesDown, HasPaths, HasNone, HasPolicy, HasEntries, AsksAgain, SendsRequest, SendsList}
 use Rattle.ug_world.specs.declared.peer_state.PeerState.{PeerState}
 use Rattle.ug_world.specs.World.{Routes, World}

@@ -2,11 +2,10 @@
 
 ghost use Rattle.std.specs.Prelude.{◌≡◌, ◌<◌, ◌-◌, ◌^◌, Some, length};
 ghost use Rattle.ug_prefixlist.specs.declared.entry.ListEntry as stored;
-ghost use Rattle.ug_orf.specs.Applying.{applied};
+ghost use Rattle.ug_prefixlist.specs.OrfApplying.{applied};
 ghost use Rattle.ug_world.specs.Filtered.{has_seq, has_seq_then, count_then};
 
-use ug_orf::{Action, OrfEntry};
-use ug_prefixlist::{Filter, ListEntry};
+use ug_prefixlist::{Action, Filter, ListEntry, OrfEntry};
 
 /// How many entries the filter has after the changes, in their order. It takes no memory; for each change it looks back
 /// at those before, of which a message has a few hundred at most.

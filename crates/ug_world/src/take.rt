@@ -5,7 +5,7 @@ ghost use Rattle.ug_prefixlist.specs.Order.{ascending};
 ghost use Rattle.ug_prefixlist.specs.Lists.{list_refusal, seq_of};
 ghost use Rattle.ug_events.specs.Events.{ComesUp, GoesDown, HasPaths, HasNone, HasPolicy, HasEntries, AsksAgain, SendsRequest, SendsList, IsEvent};
 ghost use Rattle.ug_events.specs.Views.{event_of};
-ghost use Rattle.ug_orf.specs.Views.{orf_seen};
+ghost use Rattle.ug_prefixlist.specs.OrfViews.{orf_seen};
 ghost use Rattle.ug_world.specs.Verdicts.{path_of, learned_of, sender, with_paths, is_overfull, verdict};
 ghost use Rattle.ug_world.specs.World.{learned_from};
 ghost use Rattle.ug_world.specs.After.{after};
@@ -16,9 +16,8 @@ use crate::peer_state::PeerState;
 use crate::world::World;
 use std::alloc::Global;
 use ug_events::{Event, Given};
-use ug_orf::OrfMessage;
 use ug_outbound::Local;
-use ug_prefixlist::{EntryList, ListRefusal, PrefixList};
+use ug_prefixlist::{EntryList, ListRefusal, OrfMessage, PrefixList};
 use ug_types::{Learned, Name, NoMemory, Path, Prefix};
 
 impl World {

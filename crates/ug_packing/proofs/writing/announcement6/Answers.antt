@@ -1,7 +1,7 @@
 use Rattle.std.proofs.Common.{sym, arith}
 use Rattle.std.proofs.lemmas.Grind.{common_steps}
 use Rattle.ug_message.specs.Spelling.{routes}
-use Rattle.ug_mp.proofs.Texts.{ipv6_announcement}
+use Rattle.ug_update.proofs.Texts6.{ipv6_announcement}
 use Rattle.ug_packing.proofs.writing.announcement6.Goals as goal
 
 pub returns : goal.returns

@@ -1,5 +1,0 @@
-pub mod Changes
-pub mod Walking
-pub mod Reading
-pub mod Applying
-pub mod Views
