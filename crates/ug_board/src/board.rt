@@ -185,7 +185,8 @@ impl<M: Machine> Board<M> {
     }
 }
 
-/// The history of a board is kept under its turnstile: its root is the opening, and an entry is of the pass that made it.
+/// The history of a board is kept under its turnstile: its root is the opening, and an entry is of the pass that made it. A
+/// spent board is a spent state.
 impl<M: Machine> Logged for Board<M> {
     type Entry = BoardEntry<M::Job, M::Said>;
 
@@ -194,6 +195,8 @@ impl<M: Machine> Logged for Board<M> {
     ghost root = { λ board. board.opening };
 
     ghost entries = { λ board. board.history };
+
+    ghost spent = { λ board. board.spent };
 
     ghost owner = { λ entry. entry.pass };
 

@@ -1,5 +1,5 @@
 -- What a turn comes to for the pass that took it.
-use Rattle.std.proofs.Common.{◌≡◌, true, List, Option, Some, None, Result, Ok, Err, sym, ◌∙◌, ap, subst}
+use Rattle.std.proofs.Common.{◌≡◌, Bool, true, false, List, Option, Some, None, Result, Ok, Err, sym, ◌∙◌, ap, subst}
 use Rattle.std.specs.Prelude.{IfOk, IfSome, IfNone, OnOk, OnErr}
 use Rattle.ug_board.specs.Entry.{Entry}
 use Rattle.ug_board.specs.Rules.{Rules}
@@ -9,7 +9,7 @@ use Rattle.ug_events.specs.Events.{Saying}
 use Rattle.ug_events.specs.Reads.{Reads}
 use Rattle.ug_speaker.specs.Speech.{Speech}
 use Rattle.ug_report.specs.Report.{Answer}
-use Rattle.ug_event_loop.specs.Turns.{GoesOn, Answers, AnswersAt, IsLegalAt, IsEndedAt}
+use Rattle.ug_event_loop.specs.Turns.{GoesOn, Answers, AnswersAt, IsLegalAt, IsEndedAt, IsClosedAt}
 use Rattle.ug_event_loop.proofs.Turning.{goes_further, goes_by_others, answers_later}
 
 pub if-ok : {A E : Type 0} (P Q : A → Type 0) (r : Result A E) → ((x : A) → P x → Q x) → IfOk r P → IfOk r Q
@@ -70,3 +70,13 @@ module _ {Opening State Job Said : Type 0} (rules : Rules Opening State Job Said
           subst (λ (es : List (Entry Job Said)). speech.drained (replay rules gave.opening es) ≡ true) (sym seen_is) drained,
           subst (λ (es : List (Entry Job Said)). speech.closed (replay rules gave.opening es) ≡ true) (sym seen_is) closed,
         )
+
+    pub closed-over : (spent : Bool) → spent ≡ gave.spent → (gave.spent ≡ false → speech.closed (state_of rules gave) ≡ true) → IsClosedAt rules speech spent root seen
+    closed-over spent is closed =
+        subst (λ (r : Option Opening). IsClosedAt rules speech spent r seen) (sym root_is)
+        (λ unspent. subst (λ (es : List (Entry Job Said)). speech.closed (replay rules gave.opening es) ≡ true) (sym seen_is) (closed (sym is ∙ unspent)))
+
+  -- work that is ended is closed
+  pub ended-closed : (spent : Bool) (root : Option Opening) (seen : List (Entry Job Said)) → IsEndedAt rules speech root seen → IsClosedAt rules speech spent root seen
+  ended-closed spent None seen ended = tt
+  ended-closed spent (Some root) seen ended = λ unspent. ended.1

@@ -14,7 +14,7 @@ use Rattle.ug_event_loop.specs.declared.stop.Stop.{Stop}
 use Rattle.ug_event_loop.specs.declared.stop.Stop.TheVariants as stops
 use Rattle.ug_event_loop.specs.declared.reading.End.{End}
 use Rattle.ug_event_loop.specs.declared.reading.End.TheVariants as ends
-use Rattle.ug_event_loop.specs.Turns.{GoesOn, IsLegalAt}
+use Rattle.ug_event_loop.specs.Turns.{GoesOn, IsLegalAt, IsClosedAt}
 use Rattle.ug_event_loop.specs.Counts.{least_at, RisesBy}
 use Rattle.ug_event_loop.specs.Standing.{said_by, BuilderView, IsSameBuilder, BuilderStands, BuilderStops, TakesLines, StopsWithin}
 use Rattle.ug_event_loop.specs.Files.{lines_read}
@@ -94,10 +94,11 @@ module _ {Opening State Job Said : Type 0} (rules : Rules Opening State Job Said
 
   -- memory was wanting before anything was read
   pub given-up : (first : List (Reads Saying)) (old new : BuilderView Opening Job Said) (o : Outside) (before after : ℕ) → IsSameBuilder old new → new.tally ≡ old.tally → GoesOn rules speech old.pass.seen new.pass.seen
-      → IsLegalAt rules speech new.pass.root new.pass.seen → RisesBy before after (least_at rules old.pass.root old.pass.seen) (least_at rules old.pass.root new.pass.seen)
+      → IsClosedAt rules speech new.pass.spent new.pass.root new.pass.seen → IsLegalAt rules speech new.pass.root new.pass.seen → RisesBy before after (least_at rules old.pass.root old.pass.seen) (least_at rules old.pass.root new.pass.seen)
       → HasEnded rules speech first old new (record o { steps = before }) (record o { steps = after }) ends.NoMemory
-  given-up first old new o before after same tally goes legal least = record {
+  given-up first old new o before after same tally goes closed legal least = record {
     same = same;
+    closed = closed;
     ended = λ stands. read-nothing o.left _ (inr (record { none = refl; stands = builder-still rules speech old new same tally goes legal [] [] o.held o.held stands }));
     unharmed = λ other. refl;
     reads = omega arith;

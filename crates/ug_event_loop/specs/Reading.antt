@@ -14,7 +14,7 @@ use Rattle.ug_event_loop.specs.declared.stop.Stop.{Stop}
 use Rattle.ug_event_loop.specs.declared.stop.Stop.TheVariants as stops
 use Rattle.ug_event_loop.specs.declared.reading.End.{End}
 use Rattle.ug_event_loop.specs.declared.reading.End.TheVariants as ends
-use Rattle.ug_event_loop.specs.Turns.{IsEndedAt}
+use Rattle.ug_event_loop.specs.Turns.{IsEndedAt, IsClosedAt}
 use Rattle.ug_event_loop.specs.Counts.{least_at, most_at, RisesBy, RisesWithin}
 use Rattle.ug_event_loop.specs.Standing.{said_by, BuilderView, IsSameBuilder, BuilderStands, BuilderStops, TakesLines, StopsWithin}
 use Rattle.ug_event_loop.specs.Files.{lines_read, IsPastLimits}
@@ -78,10 +78,12 @@ module _ {Opening State Job Said : Type 0} (rules : Rules Opening State Job Said
     EndsAt ends.NoMemory read = OfLines outside'.left read (StopsBefore stops.NoMemory) ⊎ IsNotBegun read
     EndsAt ends.Report read = OfLines outside'.left read (StopsBefore stops.Report) × Rose outside.writes_failed outside'.writes_failed
 
-    -- From a builder that stands behind no lines, so the reading ended.
+    -- From a builder that stands behind no lines, so the reading ended. However it did the work is then ended, unless the board is
+    -- spent.
     pub record HasEnded (end : End) : Type 0 where
       pub same : IsSameBuilder old new
       pub ended : BuilderStands rules speech old [] [] outside.held outside.held → HasRead outside.left outside'.left (EndsAt end)
+      pub closed : IsClosedAt rules speech new.pass.spent new.pass.root new.pass.seen
       pub unharmed : (end ≡ ends.Read → ⊥) → outside'.reads_failed ≡ outside.reads_failed
       pub reads : outside.reads_failed ≤ outside'.reads_failed
       pub writes : outside.writes_failed ≤ outside'.writes_failed

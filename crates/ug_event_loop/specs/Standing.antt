@@ -1,5 +1,5 @@
 -- Where a builder stands between lines: what it has done for those so far, and what its report says of them.
-use Rattle.std.specs.Prelude.{◌≡◌, ℕ, false, List, [], ◌++◌, length, map, Option, Some, None}
+use Rattle.std.specs.Prelude.{◌≡◌, ℕ, ◌+◌, ◌%◌, max, ◌==◌, Bool, true, false, List, [], ◌++◌, length, map, Option, Some, None}
 use Rattle.std.specs.List.{concat}
 use Rattle.ug_types.specs.declared.mark.Mark.{Mark}
 use Rattle.ug_edge.specs.Told.{AppendsPiece}
@@ -84,11 +84,22 @@ module _ {Opening State Job Said : Type 0} (rules : Rules Opening State Job Said
   Stops stop None first lines names seen before held = ⊥
   Stops stop (Some opening) first lines names seen before held = AreLanes seen → StopsAt stop opening first lines names seen before held
 
--- a builder as contracts see it: its pass, the names of the peers, the verbs it knows, and the lines it took
+-- After so many accepted events the lanes here are pumped: after each `every` of them.
+abbrev pub is_due : ℕ → ℕ → Bool
+is_due accepted every = (accepted % max 1 every) == 0
+
+-- That is the number of the world with which this root begins.
+abbrev pub IsPacedBy : {Opening State Job Said : Type 0} → Speech Opening State Job Said → Option Opening → ℕ → Type 0
+IsPacedBy speech None every = Unit {0}
+IsPacedBy speech (Some root) every = every ≡ (speech.first root).local.coalesce
+
+-- a builder as contracts see it: its pass, the names of the peers, the verbs it knows, after how many accepted events the
+-- lanes here are pumped, and the lines it took
 pub record BuilderView (Opening Job Said : Type 0) : Type 0 where
   pub pass : Held (Entry Job Said) Opening
   pub names : List (List ℕ)
   pub grammar : Grammar
+  pub coalesce : ℕ
   pub tally : Tally
 
 -- It is the same builder, with the same pass, however many lines it took.
@@ -96,6 +107,12 @@ pub record IsSameBuilder {Opening Job Said : Type 0} (old new : BuilderView Open
   pub pass : IsSamePass old.pass new.pass
   pub names : new.names ≡ old.names
   pub grammar : new.grammar ≡ old.grammar
+  pub coalesce : new.coalesce ≡ old.coalesce
+
+-- One more event was accepted, with which the lanes here are due to be pumped.
+pub record IsPumpedBetween {Opening Job Said : Type 0} (old new : BuilderView Opening Job Said) : Type 0 where
+  pub accepted : new.tally.accepted ≡ old.tally.accepted + 1
+  pub due : is_due new.tally.accepted old.coalesce ≡ true
 
 module _ {Opening State Job Said : Type 0} (rules : Rules Opening State Job Said) (speech : Speech Opening State Job Said) where
   -- where a builder stands, or stops, with this in the report

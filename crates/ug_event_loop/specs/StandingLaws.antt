@@ -12,13 +12,14 @@ use Rattle.ug_event_loop.specs.declared.stop.Stop.{Stop}
 use Rattle.ug_event_loop.specs.Standing.{said_by, BuilderView, IsSameBuilder, BuilderStands, BuilderStops, TakesLines, StopsWithin}
 
 pub same_itself : {Opening Job Said : Type 0} (b : BuilderView Opening Job Said) → IsSameBuilder b b
-same_itself b = record { pass = (refl, refl, refl); names = refl; grammar = refl }
+same_itself b = record { pass = (refl, refl, refl); names = refl; grammar = refl; coalesce = refl }
 
 pub same_further : {Opening Job Said : Type 0} (a b c : BuilderView Opening Job Said) → IsSameBuilder a b → IsSameBuilder b c → IsSameBuilder a c
 same_further a b c p q = record {
   pass = (q.pass.0 ∙ p.pass.0, q.pass.1 ∙ p.pass.1, q.pass.2 ∙ p.pass.2);
   names = q.names ∙ p.names;
   grammar = q.grammar ∙ p.grammar;
+  coalesce = q.coalesce ∙ p.coalesce;
 }
 
 -- what lines say, and then more of them

@@ -1,5 +1,5 @@
 -- What a builder does on a board in its turns.
-use Rattle.std.specs.Prelude.{◌≡◌, ℕ, true, List, [], ◌++◌, Option, Some, None}
+use Rattle.std.specs.Prelude.{◌≡◌, ℕ, Bool, true, false, List, [], ◌++◌, Option, Some, None}
 use Rattle.ug_types.specs.declared.mark.Mark.{Mark}
 use Rattle.ug_board.specs.Entry.{Entry}
 use Rattle.ug_board.specs.Rules.{Rules}
@@ -71,3 +71,8 @@ module _ {Opening State Job Said : Type 0} (rules : Rules Opening State Job Said
   abbrev pub IsEndedAt : Option Opening → List (Entry Job Said) → Type 0
   IsEndedAt None seen = Unit {0}
   IsEndedAt (Some opening) seen = (speech.drained (replay rules opening seen) ≡ true) × (speech.closed (replay rules opening seen) ≡ true)
+
+  -- The work is ended, unless the board is spent: no job may be done any more.
+  abbrev pub IsClosedAt : Bool → Option Opening → List (Entry Job Said) → Type 0
+  IsClosedAt spent None seen = Unit {0}
+  IsClosedAt spent (Some opening) seen = spent ≡ false → speech.closed (replay rules opening seen) ≡ true

@@ -1,11 +1,11 @@
 //! A file of events read beside a crew at work.
 
-ghost use Rattle.std.specs.Prelude.{◌≡◌, ◌≤◌, [], IfSome};
+ghost use Rattle.std.specs.Prelude.{◌≡◌, ◌≤◌, [], true, false, IfSome};
 ghost use Rattle.std.specs.Vec.{vec_len, vec_capacity};
 ghost use denote.Param.Send.{IsSend, IsSync};
 ghost use Rattle.ug_events.specs.Events.{IsEvent};
 ghost use Rattle.ug_events.specs.Views.{event_of};
-ghost use Rattle.ug_sender.specs.Posts.{AreHere, post_of, posts};
+ghost use Rattle.ug_sender.specs.Posts.{AreHere, post_of, posts, posts_of};
 ghost use Rattle.ug_event_loop.specs.Reading.{first_of, IsRead};
 
 use crate::reading::Reading;
@@ -46,12 +46,12 @@ pub fn read_beside<R: Threads + Wait + Sync, W: Wire, S: Speaker, E: Source, K: 
     steps: &mut Steps<L>,
 ) -> Sequence<Lane<W, S>>
     requires here { reading.old.builder.pass.turnstile ≡ turnstile.now.id }
-    requires crew { AreHere turnstile.now.id crew }
+    requires crew { AreHere turnstile.now.id (posts_of crew) }
     requires form { IfSome reading.old.first (λ event. IsEvent (event_of event)) }
     ensures ended { IsRead S.Machine.rules S.speech (first_of reading.old.first) reading.old.builder reading.new.builder
         (record { left = E.left source.old; reads_failed = E.faults source.old; held = K.held report.old; writes_failed = K.faults report.old; steps = steps.old })
         (record { left = E.left source.new; reads_failed = E.faults source.new; held = K.held report.new; writes_failed = K.faults report.new; steps = steps.new }) reading.new.end }
-    ensures posts { posts result.items ≡ crew }
+    ensures posts { posts result.items ≡ posts_of crew }
     ensures files { E.files source.new ≡ E.files source.old }
     ensures picks { E.picks source.new ≡ E.picks source.old }
     ensures made { E.made source.new ≡ E.made source.old }
@@ -102,9 +102,9 @@ fn beside<
     lent: Lent<'t, 'a, 'b, 'c, S, E, K, L>,
 ) -> (Sequence<Lane<W, S>>, Lent<'t, 'a, 'b, 'c, S, E, K, L>)
     requires here { lent.reading.now.builder.pass.turnstile ≡ turnstile.now.id }
-    requires crew { AreHere turnstile.now.id crew }
+    requires crew { AreHere turnstile.now.id (posts_of crew) }
     requires form { IfSome lent.reading.now.first (λ event. IsEvent (event_of event)) }
-    ensures posts { posts result.0.items ≡ crew }
+    ensures posts { posts result.0.items ≡ posts_of crew }
     ensures reading { result.1.reading.ghost_name ≡ lent.entry.reading.ghost_name }
     ensures source { result.1.source.ghost_name ≡ lent.entry.source.ghost_name }
     ensures report { result.1.report.ghost_name ≡ lent.entry.report.ghost_name }
@@ -128,12 +128,12 @@ fn beside<
         |scope| -> (Sequence<Lane<W, S>>, Lent<S, E, K, L>)
             requires sends { IsSend W.row × IsSend S.row × IsSend S.Job.row × IsSend S.Said.row × IsSync R.row }
             requires here { lent.reading.now.builder.pass.turnstile ≡ turnstile.now.id }
-            requires crew { AreHere turnstile.now.id workers.items }
+            requires crew { AreHere turnstile.now.id (posts_of workers.items) }
             requires form { IfSome lent.reading.now.first (λ event. IsEvent (event_of event)) }
             requires count { count ≤ vec_len workers }
             requires none { room.items ≡ [] }
             requires room { vec_len workers ≤ vec_capacity room }
-            ensures posts { posts result.0.items ≡ workers.items }
+            ensures posts { posts result.0.items ≡ posts_of workers.items }
             ensures reading { result.1.reading.ghost_name ≡ lent.entry.reading.ghost_name }
             ensures source { result.1.source.ghost_name ≡ lent.entry.source.ghost_name }
             ensures report { result.1.report.ghost_name ≡ lent.entry.report.ghost_name }
@@ -191,7 +191,9 @@ fn beside<
 
 /// How many workers start: all where they are to work apart, and else none.
 fn starting<W: Wire, S: Speaker>(workers: &Vec<Worker<W, S>>, apart: bool) -> usize
-    ensures { result ≤ vec_len workers.now }
+    ensures within { result ≤ vec_len workers.now }
+    ensures all { apart ≡ true → result ≡ vec_len workers.now }
+    ensures none { apart ≡ false → result ≡ 0 }
 {
     if apart { workers.len() } else { 0 }
 }

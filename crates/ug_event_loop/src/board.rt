@@ -33,6 +33,7 @@ pub(crate) fn do_job<S: Speaker, L: Ledger>(
     ensures legal { OnOk result (S.Machine.rules.legal job (state_of S.Machine.rules board.old) ≡ true) }
     ensures said { IfOk result (λ said. said ≡ S.Machine.rules.reply job (state_of S.Machine.rules board.old)) }
     ensures history { OnOk result (board.new.history ≡ board.old.history ++ job_entry S.Machine.rules 0 job (state_of S.Machine.rules board.old) ∷ []) }
+    ensures stays_spent { board.old.spent ≡ true → board.new.spent ≡ true }
     ensures adds { Adds (λ entry. entry.pass) 0 board.old.history board.new.history }
     ensures unchanged { OnErr result (board.new.history ≡ board.old.history) }
     ensures unspent { OnOk result (board.new.spent ≡ false) }
@@ -147,6 +148,7 @@ pub(crate) fn offer<S: Speaker, R: Wait, L: Ledger>(
 ) -> Result<Came<S::Said>, NoMemory>
     requires form { IsEvent (event_of event) }
     ensures opening { board.new.opening ≡ board.old.opening }
+    ensures stays_spent { board.old.spent ≡ true → board.new.spent ≡ true }
     ensures adds { Adds (λ entry. entry.pass) 0 board.old.history board.new.history }
     ensures answers { IfOk result (λ came. Answers S.Machine.rules S.speech board.old.opening (Ok (Says (event_of event))) (answer_of S.speech.marks came) board.old.history board.new.history) }
     ensures stopped { OnErr result (GoesOn S.Machine.rules S.speech board.old.history board.new.history) }
@@ -168,6 +170,7 @@ pub(crate) fn mark<S: Speaker, R: Wait, L: Ledger>(
     steps: &mut Steps<L>,
 ) -> Result<Option<Came<S::Said>>, NoMemory>
     ensures opening { board.new.opening ≡ board.old.opening }
+    ensures stays_spent { board.old.spent ≡ true → board.new.spent ≡ true }
     ensures adds { Adds (λ entry. entry.pass) 0 board.old.history board.new.history }
     ensures answers { IfOk result (λ marked. IfSome marked (λ came. Answers S.Machine.rules S.speech board.old.opening (Ok SaysSync) (answer_of S.speech.marks came) board.old.history board.new.history)) }
     ensures waits { IfOk result (λ marked. IfNone marked (GoesOn S.Machine.rules S.speech board.old.history board.new.history)) }
@@ -190,6 +193,7 @@ pub(crate) fn mark<S: Speaker, R: Wait, L: Ledger>(
 /// Ends the work on the board.
 fn close<S: Speaker, L: Ledger>(board: &mut Board<S>, steps: &mut Steps<L>) -> Result<(), NoMemory>
     ensures opening { board.new.opening ≡ board.old.opening }
+    ensures stays_spent { board.old.spent ≡ true → board.new.spent ≡ true }
     ensures adds { Adds (λ entry. entry.pass) 0 board.old.history board.new.history }
     ensures history { GoesOn S.Machine.rules S.speech board.old.history board.new.history }
     ensures drained { OnOk result (S.speech.drained (state_of S.Machine.rules board.old) ≡ true → S.speech.drained (state_of S.Machine.rules board.new) ≡ true) }
@@ -211,6 +215,7 @@ pub(crate) fn conclude<S: Speaker, R: Wait, L: Ledger>(
     steps: &mut Steps<L>,
 ) -> Result<bool, NoMemory>
     ensures opening { board.new.opening ≡ board.old.opening }
+    ensures stays_spent { board.old.spent ≡ true → board.new.spent ≡ true }
     ensures adds { Adds (λ entry. entry.pass) 0 board.old.history board.new.history }
     ensures history { GoesOn S.Machine.rules S.speech board.old.history board.new.history }
     ensures drained { IfOk result (λ told. told ≡ true → S.speech.drained (state_of S.Machine.rules board.new) ≡ true) }
@@ -233,6 +238,7 @@ pub(crate) fn conclude<S: Speaker, R: Wait, L: Ledger>(
 /// Ends the work on the board at once: unless the board is spent, it is closed then.
 pub(crate) fn break_off<S: Speaker, L: Ledger>(board: &mut Board<S>, steps: &mut Steps<L>)
     ensures opening { board.new.opening ≡ board.old.opening }
+    ensures stays_spent { board.old.spent ≡ true → board.new.spent ≡ true }
     ensures adds { Adds (λ entry. entry.pass) 0 board.old.history board.new.history }
     ensures history { GoesOn S.Machine.rules S.speech board.old.history board.new.history }
     ensures closed { board.new.spent ≡ false → S.speech.closed (state_of S.Machine.rules board.new) ≡ true }

@@ -8,10 +8,10 @@ ghost use Rattle.ug_pieces.specs.Reporting.{AppendsFront};
 ghost use Rattle.ug_events.specs.Events.{IsEvent, Says, SaysSync};
 ghost use Rattle.ug_events.specs.Views.{event_of};
 ghost use Rattle.ug_report.specs.Report.{answer_texts};
-ghost use Rattle.ug_sender.specs.Posts.{AreHere};
-ghost use Rattle.ug_event_loop.specs.Turns.{GoesOn, AnswersAt, IsLegalAt, IsEndedAt, answer_of};
+ghost use Rattle.ug_sender.specs.Posts.{AreHere, AllRest, posts_of};
+ghost use Rattle.ug_event_loop.specs.Turns.{GoesOn, AnswersAt, IsLegalAt, IsEndedAt, IsClosedAt, answer_of};
 ghost use Rattle.ug_event_loop.specs.Counts.{least_at, most_at, RisesBy, RisesWithin};
-ghost use Rattle.ug_event_loop.specs.Standing.{said_by, IsSameBuilder, BuilderStands, TakesLines, StopsWithin};
+ghost use Rattle.ug_event_loop.specs.Standing.{said_by, is_due, IsPacedBy, IsPumpedBetween, IsSameBuilder, BuilderStands, TakesLines, StopsWithin};
 
 use crate::came::Came;
 use crate::grammar::{Grammar, read};
@@ -33,7 +33,7 @@ use ug_turnstile::{Pass, Turnstile};
 use ug_types::{NameList, NoMemory, Steps};
 
 /// A builder. Contracts see its pass, which has number 0 and no turn, the names of the peers, the verbs that it knows,
-/// and how many lines it took.
+/// after how many accepted events the lanes that work here are pumped, and how many lines it took.
 #[derive(Drop)]
 pub struct Builder<S: Speaker> {
     alloc: Global,
@@ -51,13 +51,14 @@ impl<S: Speaker> Model for Builder<S> {
 
     ghost Value = { BuilderView S.Opening S.Job S.Said };
 
-    ghost view = { λ b. record { pass = b.pass; names = b.names.items; grammar = b.grammar; tally = b.tally } };
+    ghost view = { λ b. record { pass = b.pass; names = b.names.items; grammar = b.grammar; coalesce = b.coalesce; tally = b.tally } };
 
     ghost invariant = { λ b. (b.pass.holds ≡ false) × (b.pass.number ≡ 0) };
 }
 
 impl<S: Speaker> Builder<S> {
-    /// A builder that has taken no lines. It pumps the lanes that work here after so many accepted events.
+    /// A builder that has taken no lines. It pumps the lanes that work here after so many accepted events, which is the
+    /// number of its world.
     pub fn new(
         alloc: Global,
         pass: Pass<Board<S>>,
@@ -67,7 +68,8 @@ impl<S: Speaker> Builder<S> {
     ) -> Self
         requires free { pass.holds ≡ false }
         requires number { pass.number ≡ 0 }
-        ensures { result ≡ record { pass = pass; names = names.items; grammar = grammar; tally = record { lines = 0; accepted = 0; refused = 0 } } }
+        requires coalesce { IsPacedBy S.speech pass.root coalesce }
+        ensures { result ≡ record { pass = pass; names = names.items; grammar = grammar; coalesce = coalesce; tally = record { lines = 0; accepted = 0; refused = 0 } } }
     {
         Builder {
             alloc,
@@ -119,10 +121,10 @@ impl<S: Speaker> Builder<S> {
         steps: &mut Steps<L>,
     ) -> Result<Came<S::Said>, NoMemory>
         requires here { self.old.pass.turnstile ≡ turnstile.now.id }
-        requires crew { AreHere turnstile.now.id crew.old }
+        requires crew { AreHere turnstile.now.id (posts_of crew.old) }
         ensures same { IsSameBuilder self.old self.new }
         ensures tally { self.new.tally ≡ self.old.tally }
-        ensures posts { crew.new ≡ crew.old }
+        ensures posts { posts_of crew.new ≡ posts_of crew.old }
         ensures answers { IfOk result (λ came. AnswersAt S.Machine.rules S.speech self.new.pass.root (Ok SaysSync) (answer_of S.speech.marks came) self.old.pass.seen self.new.pass.seen) }
         ensures stopped { OnErr result (GoesOn S.Machine.rules S.speech self.old.pass.seen self.new.pass.seen) }
         ensures legal { IsLegalAt S.Machine.rules S.speech self.new.pass.root self.new.pass.seen }
@@ -150,10 +152,10 @@ impl<S: Speaker> Builder<S> {
         line: &[u8],
     ) -> Result<Came<S::Said>, NoMemory>
         requires here { self.old.pass.turnstile ≡ turnstile.now.id }
-        requires crew { AreHere turnstile.now.id crew.old }
+        requires crew { AreHere turnstile.now.id (posts_of crew.old) }
         ensures same { IsSameBuilder self.old self.new }
         ensures tally { self.new.tally ≡ self.old.tally }
-        ensures posts { crew.new ≡ crew.old }
+        ensures posts { posts_of crew.new ≡ posts_of crew.old }
         ensures answers { IfOk result (λ came. AnswersAt S.Machine.rules S.speech self.new.pass.root (said_by self.old.grammar line.now) (answer_of S.speech.marks came) self.old.pass.seen self.new.pass.seen) }
         ensures stopped { OnErr result (GoesOn S.Machine.rules S.speech self.old.pass.seen self.new.pass.seen) }
         ensures legal { IsLegalAt S.Machine.rules S.speech self.old.pass.root self.old.pass.seen → IsLegalAt S.Machine.rules S.speech self.new.pass.root self.new.pass.seen }
@@ -210,7 +212,7 @@ impl<S: Speaker> Builder<S> {
     }
 
     /// Takes a line, and tells the report what it came to. After each so many accepted events the lanes that work here are
-    /// pumped.
+    /// pumped, until nothing is sent for now.
     pub(crate) fn take<R: Wait, W: Wire, L: Ledger, K: Sink>(
         &mut self,
         rt: &R,
@@ -221,9 +223,10 @@ impl<S: Speaker> Builder<S> {
         report: &mut K,
     ) -> Result<(), Stop>
         requires here { self.old.pass.turnstile ≡ turnstile.now.id }
-        requires crew { AreHere turnstile.now.id crew.old }
+        requires crew { AreHere turnstile.now.id (posts_of crew.old) }
         ensures same { IsSameBuilder self.old self.new }
-        ensures posts { crew.new ≡ crew.old }
+        ensures posts { posts_of crew.new ≡ posts_of crew.old }
+        ensures pumped { OnOk result (IsPumpedBetween self.old self.new → AllRest S.Machine.rules crew.new) }
         ensures taken { OnOk result (TakesLines S.Machine.rules S.speech self.old (K.held report.old) self.new (K.held report.new) (line.now ∷ [])) }
         ensures stopped { IfErr result (λ stop. StopsWithin S.Machine.rules S.speech stop self.old (K.held report.old) self.new (K.held report.new) (line.now ∷ [])) }
         ensures rose { IsErrOf result Stop.Report → Rose (K.faults report.old) (K.faults report.new) }
@@ -259,10 +262,11 @@ impl<S: Speaker> Builder<S> {
         event: Event,
     ) -> Result<(), NoMemory>
         requires here { self.old.pass.turnstile ≡ turnstile.now.id }
-        requires crew { AreHere turnstile.now.id crew.old }
+        requires crew { AreHere turnstile.now.id (posts_of crew.old) }
         requires form { IsEvent (event_of event) }
         ensures same { IsSameBuilder self.old self.new }
-        ensures posts { crew.new ≡ crew.old }
+        ensures posts { posts_of crew.new ≡ posts_of crew.old }
+        ensures rest { OnOk result (AllRest S.Machine.rules crew.new) }
         ensures taken { OnOk result ((held : Option (List ℕ)) → BuilderStands S.Machine.rules S.speech self.old [] [] held held → BuilderStands S.Machine.rules S.speech self.new (Ok (Says (event_of event)) ∷ []) [] held held) }
         ensures stopped { OnErr result ((held : Option (List ℕ)) → BuilderStands S.Machine.rules S.speech self.old [] [] held held → BuilderStands S.Machine.rules S.speech self.new [] [] held held) }
         ensures steps_least { RisesBy steps.old steps.new (least_at S.Machine.rules self.old.pass.root self.old.pass.seen) (least_at S.Machine.rules self.old.pass.root self.new.pass.seen) }
@@ -285,10 +289,10 @@ impl<S: Speaker> Builder<S> {
         steps: &mut Steps<L>,
     ) -> Result<(), NoMemory>
         requires here { self.old.pass.turnstile ≡ turnstile.now.id }
-        requires crew { AreHere turnstile.now.id crew.old }
+        requires crew { AreHere turnstile.now.id (posts_of crew.old) }
         ensures same { IsSameBuilder self.old self.new }
         ensures tally { self.new.tally ≡ self.old.tally }
-        ensures posts { crew.new ≡ crew.old }
+        ensures posts { posts_of crew.new ≡ posts_of crew.old }
         ensures history { GoesOn S.Machine.rules S.speech self.old.pass.seen self.new.pass.seen }
         ensures ended { OnOk result (IsEndedAt S.Machine.rules S.speech self.new.pass.root self.new.pass.seen) }
         ensures legal { IsLegalAt S.Machine.rules S.speech self.new.pass.root self.new.pass.seen }
@@ -306,7 +310,7 @@ impl<S: Speaker> Builder<S> {
         unreachable!()
     }
 
-    /// Ends the work on the board at once.
+    /// Ends the work on the board at once, unless it is spent.
     pub(crate) fn break_off<R: Wait, L: Ledger>(
         &mut self,
         rt: &R,
@@ -317,6 +321,7 @@ impl<S: Speaker> Builder<S> {
         ensures same { IsSameBuilder self.old self.new }
         ensures tally { self.new.tally ≡ self.old.tally }
         ensures history { GoesOn S.Machine.rules S.speech self.old.pass.seen self.new.pass.seen }
+        ensures closed { IsClosedAt S.Machine.rules S.speech self.new.pass.spent self.new.pass.root self.new.pass.seen }
         ensures legal { IsLegalAt S.Machine.rules S.speech self.new.pass.root self.new.pass.seen }
         ensures steps_least { RisesBy steps.old steps.new (least_at S.Machine.rules self.old.pass.root self.old.pass.seen) (least_at S.Machine.rules self.old.pass.root self.new.pass.seen) }
     {
@@ -326,7 +331,9 @@ impl<S: Speaker> Builder<S> {
 }
 
 /// Whether so many events are a multiple of that number.
-fn is_multiple(accepted: u64, coalesce: u32) -> bool {
+fn is_multiple(accepted: u64, coalesce: u32) -> bool
+    ensures { result ≡ is_due accepted coalesce }
+{
     accepted % u64::from(coalesce.max(1)) == 0
 }
 
@@ -337,8 +344,10 @@ fn pump_where<R: Wait, W: Wire, S: Speaker>(
     crew: &mut Crew<W, S>,
     is_due: bool,
 )
-    requires crew { AreHere turnstile.now.id crew.old }
-    ensures posts { crew.new ≡ crew.old }
+    requires crew { AreHere turnstile.now.id (posts_of crew.old) }
+    ensures posts { posts_of crew.new ≡ posts_of crew.old }
+    ensures due { is_due ≡ true → AllRest S.Machine.rules crew.new }
+    ensures left { is_due ≡ false → crew.new ≡ crew.old }
 {
     if is_due {
         turnstile.news().ring();
@@ -354,8 +363,9 @@ fn wait_for<R: Wait, W: Wire, S: Speaker>(
     crew: &mut Crew<W, S>,
     rings: u64,
 )
-    requires crew { AreHere turnstile.now.id crew.old }
-    ensures posts { crew.new ≡ crew.old }
+    requires crew { AreHere turnstile.now.id (posts_of crew.old) }
+    ensures posts { posts_of crew.new ≡ posts_of crew.old }
+    ensures rest { AllRest S.Machine.rules crew.new }
 {
     turnstile.news().ring();
     if !crew.pump_here(rt, turnstile) {

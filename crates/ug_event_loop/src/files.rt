@@ -4,7 +4,7 @@ ghost use Rattle.std.specs.Prelude.{◌≡◌, ◌<◌, ◌≤◌, true, length,
 ghost use Rattle.ug_edge.specs.Told.{Rose, IsEnded};
 ghost use Rattle.ug_pieces.specs.Pieces.{HasRead, IsHalt};
 ghost use Rattle.ug_pieces.specs.LineSteps.{HasTakenLines, HasStoppedWithin};
-ghost use Rattle.ug_sender.specs.Posts.{AreHere};
+ghost use Rattle.ug_sender.specs.Posts.{AreHere, posts_of};
 ghost use Rattle.ug_event_loop.specs.Counts.{least_at, most_at, RisesBy, RisesWithin};
 ghost use Rattle.ug_event_loop.specs.Standing.{IsSameBuilder, TakesLines, StopsWithin};
 ghost use Rattle.ug_event_loop.specs.Files.{lines_read, IsPastLimits};
@@ -49,9 +49,9 @@ fn read_ended<R: Wait, W: Wire, S: Speaker, L: Ledger, E: Source, K: Sink>(
     begun: &mut Begun,
 ) -> Result<(), Halt<LineStop<Stop>>>
     requires here { builder.old.pass.turnstile ≡ turnstile.now.id }
-    requires crew { AreHere turnstile.now.id crew.old }
+    requires crew { AreHere turnstile.now.id (posts_of crew.old) }
     ensures same { IsSameBuilder builder.old builder.new }
-    ensures posts { crew.new ≡ crew.old }
+    ensures posts { posts_of crew.new ≡ posts_of crew.old }
     ensures ok { OnOk result (HasRead (E.left source.old) (E.left source.new) (λ read. IsEnded (E.left source.new) × (length read ≤ limit)
         × HasTakenLines (TakesLines S.Machine.rules S.speech builder.old (K.held report.old) builder.new (K.held report.new))
         begun.old.kept begun.old.most begun.old.rest.items begun.new.rest.items begun.old.count begun.new.count begun.new.kept begun.new.most read)) }
@@ -111,9 +111,9 @@ pub(crate) fn read_events<R: Wait, W: Wire, S: Speaker, L: Ledger, E: Source, K:
     report: &mut K,
 ) -> Result<(), LineHalt<Stop>>
     requires here { builder.old.pass.turnstile ≡ turnstile.now.id }
-    requires crew { AreHere turnstile.now.id crew.old }
+    requires crew { AreHere turnstile.now.id (posts_of crew.old) }
     ensures same { IsSameBuilder builder.old builder.new }
-    ensures posts { crew.new ≡ crew.old }
+    ensures posts { posts_of crew.new ≡ posts_of crew.old }
     ensures ok { OnOk result (HasRead (E.left source.old) (E.left source.new) (λ read.
         IsEnded (E.left source.new) × (IsPastLimits read → ⊥)
         × TakesLines S.Machine.rules S.speech builder.old (K.held report.old) builder.new (K.held report.new) (lines_read true read))) }

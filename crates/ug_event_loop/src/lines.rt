@@ -4,7 +4,7 @@ ghost use Rattle.std.specs.Prelude.{◌≡◌, ◌≤◌, ◌<◌, ◌+◌, ◌+
 ghost use Rattle.ug_edge.specs.Told.{Rose};
 ghost use Rattle.ug_pieces.specs.Lines.{where_some};
 ghost use Rattle.ug_pieces.specs.LineSteps.{HasTakenLines, HasStoppedWithin, HasStoppedAt};
-ghost use Rattle.ug_sender.specs.Posts.{AreHere};
+ghost use Rattle.ug_sender.specs.Posts.{AreHere, posts_of};
 ghost use Rattle.ug_event_loop.specs.Counts.{least_at, most_at, RisesBy, RisesWithin};
 ghost use Rattle.ug_event_loop.specs.Standing.{IsSameBuilder, TakesLines, StopsWithin};
 
@@ -34,9 +34,9 @@ fn take_ended<R: Wait, W: Wire, S: Speaker, L: Ledger, K: Sink>(
     line: &[u8],
 ) -> Result<(), LineStop<Stop>>
     requires here { builder.old.pass.turnstile ≡ turnstile.now.id }
-    requires crew { AreHere turnstile.now.id crew.old }
+    requires crew { AreHere turnstile.now.id (posts_of crew.old) }
     ensures same { IsSameBuilder builder.old builder.new }
-    ensures posts { crew.new ≡ crew.old }
+    ensures posts { posts_of crew.new ≡ posts_of crew.old }
     ensures taken { OnOk result (TakesLines S.Machine.rules S.speech builder.old (K.held report.old) builder.new (K.held report.new) (take begun.old.kept (begun.old.rest.items ++ line.now) ∷ [])) }
     ensures rest { OnOk result (begun.new.rest.items ≡ []) }
     ensures count { OnOk result (begun.new.count ≡ begun.old.count + 1) }
@@ -85,9 +85,9 @@ pub(crate) fn take_piece<R: Wait, W: Wire, S: Speaker, L: Ledger, K: Sink>(
     piece: &[u8],
 ) -> Result<(), LineStop<Stop>>
     requires here { builder.old.pass.turnstile ≡ turnstile.now.id }
-    requires crew { AreHere turnstile.now.id crew.old }
+    requires crew { AreHere turnstile.now.id (posts_of crew.old) }
     ensures same { IsSameBuilder builder.old builder.new }
-    ensures posts { crew.new ≡ crew.old }
+    ensures posts { posts_of crew.new ≡ posts_of crew.old }
     ensures taken { OnOk result (HasTakenLines (TakesLines S.Machine.rules S.speech builder.old (K.held report.old) builder.new (K.held report.new))
         begun.old.kept begun.old.most begun.old.rest.items begun.new.rest.items begun.old.count begun.new.count begun.new.kept begun.new.most piece.now) }
     ensures stopped { IfErr result (λ stop. HasStoppedWithin stop (TakesLines S.Machine.rules S.speech builder.old (K.held report.old) builder.new (K.held report.new))
@@ -123,9 +123,9 @@ pub(crate) fn take_last<R: Wait, W: Wire, S: Speaker, L: Ledger, K: Sink>(
     begun: &Begun,
 ) -> Result<(), LineStop<Stop>>
     requires here { builder.old.pass.turnstile ≡ turnstile.now.id }
-    requires crew { AreHere turnstile.now.id crew.old }
+    requires crew { AreHere turnstile.now.id (posts_of crew.old) }
     ensures same { IsSameBuilder builder.old builder.new }
-    ensures posts { crew.new ≡ crew.old }
+    ensures posts { posts_of crew.new ≡ posts_of crew.old }
     ensures taken { OnOk result (TakesLines S.Machine.rules S.speech builder.old (K.held report.old) builder.new (K.held report.new) (where_some begun.now.rest.items)) }
     ensures stopped { IfErr result (λ stop. HasStoppedAt stop ⊥ ⊥ (λ why. StopsWithin S.Machine.rules S.speech why builder.old (K.held report.old) builder.new (K.held report.new) (where_some begun.now.rest.items))) }
     ensures rose { IsErrOf result (LineStop.Stopped Stop.Report) → Rose (K.faults report.old) (K.faults report.new) }

@@ -5,7 +5,7 @@ ghost use Rattle.ug_edge.specs.Told.{IsEnded};
 ghost use Rattle.ug_pieces.specs.Pieces.{HasRead};
 ghost use Rattle.ug_events.specs.Events.{IsEvent};
 ghost use Rattle.ug_events.specs.Views.{event_of};
-ghost use Rattle.ug_sender.specs.Posts.{AreHere};
+ghost use Rattle.ug_sender.specs.Posts.{AreHere, posts_of};
 ghost use Rattle.ug_event_loop.specs.Counts.{least_at, most_at, RisesBy, RisesWithin};
 ghost use Rattle.ug_event_loop.specs.Standing.{said_by, IsSameBuilder, BuilderStands};
 ghost use Rattle.ug_event_loop.specs.Files.{lines_read, IsPastLimits};
@@ -62,12 +62,12 @@ impl<S: Speaker> Reading<S> {
         steps: &mut Steps<L>,
     )
         requires here { self.old.builder.pass.turnstile ≡ turnstile.now.id }
-        requires crew { AreHere turnstile.now.id crew.old }
+        requires crew { AreHere turnstile.now.id (posts_of crew.old) }
         requires form { IfSome self.old.first (λ event. IsEvent (event_of event)) }
         ensures ended { IsRead S.Machine.rules S.speech (first_of self.old.first) self.old.builder self.new.builder
             (record { left = E.left source.old; reads_failed = E.faults source.old; held = K.held report.old; writes_failed = K.faults report.old; steps = steps.old })
             (record { left = E.left source.new; reads_failed = E.faults source.new; held = K.held report.new; writes_failed = K.faults report.new; steps = steps.new }) self.new.end }
-        ensures posts { crew.new ≡ crew.old }
+        ensures posts { posts_of crew.new ≡ posts_of crew.old }
         ensures files { E.files source.new ≡ E.files source.old }
         ensures picks { E.picks source.new ≡ E.picks source.old }
         ensures made { E.made source.new ≡ E.made source.old }
@@ -115,12 +115,12 @@ fn run<R: Wait, W: Wire, S: Speaker, L: Ledger, E: Source, K: Sink>(
     report: &mut K,
 ) -> End
     requires here { builder.old.pass.turnstile ≡ turnstile.now.id }
-    requires crew { AreHere turnstile.now.id crew.old }
+    requires crew { AreHere turnstile.now.id (posts_of crew.old) }
     requires form { IfSome first (λ event. IsEvent (event_of event)) }
     ensures ended { HasEnded S.Machine.rules S.speech (first_of first) builder.old builder.new
         (record { left = E.left source.old; reads_failed = E.faults source.old; held = K.held report.old; writes_failed = K.faults report.old; steps = steps.old })
         (record { left = E.left source.new; reads_failed = E.faults source.new; held = K.held report.new; writes_failed = K.faults report.new; steps = steps.new }) result }
-    ensures posts { crew.new ≡ crew.old }
+    ensures posts { posts_of crew.new ≡ posts_of crew.old }
     ensures files { E.files source.new ≡ E.files source.old }
     ensures picks { E.picks source.new ≡ E.picks source.old }
     ensures made { E.made source.new ≡ E.made source.old }
@@ -156,10 +156,10 @@ fn take_all<R: Wait, W: Wire, S: Speaker, L: Ledger, E: Source, K: Sink>(
     report: &mut K,
 ) -> Result<(), End>
     requires here { builder.old.pass.turnstile ≡ turnstile.now.id }
-    requires crew { AreHere turnstile.now.id crew.old }
+    requires crew { AreHere turnstile.now.id (posts_of crew.old) }
     requires form { IfSome first (λ event. IsEvent (event_of event)) }
     ensures same { IsSameBuilder builder.old builder.new }
-    ensures posts { crew.new ≡ crew.old }
+    ensures posts { posts_of crew.new ≡ posts_of crew.old }
     ensures taken { OnOk result (BuilderStands S.Machine.rules S.speech builder.old [] [] (K.held report.old) (K.held report.old) → HasRead (E.left source.old) (E.left source.new) (λ read.
         IsEnded (E.left source.new) × (IsPastLimits read → ⊥)
         × BuilderStands S.Machine.rules S.speech builder.new (first_of first) (map (said_by builder.old.grammar) (lines_read true read)) (K.held report.old) (K.held report.new))) }
@@ -197,10 +197,10 @@ fn admit_first<R: Wait, W: Wire, S: Speaker, L: Ledger>(
     steps: &mut Steps<L>,
 ) -> Result<(), NoMemory>
     requires here { builder.old.pass.turnstile ≡ turnstile.now.id }
-    requires crew { AreHere turnstile.now.id crew.old }
+    requires crew { AreHere turnstile.now.id (posts_of crew.old) }
     requires form { IfSome first (λ event. IsEvent (event_of event)) }
     ensures same { IsSameBuilder builder.old builder.new }
-    ensures posts { crew.new ≡ crew.old }
+    ensures posts { posts_of crew.new ≡ posts_of crew.old }
     ensures taken { OnOk result ((held : Option (List ℕ)) → BuilderStands S.Machine.rules S.speech builder.old [] [] held held → BuilderStands S.Machine.rules S.speech builder.new (first_of first) [] held held) }
     ensures stopped { OnErr result ((held : Option (List ℕ)) → BuilderStands S.Machine.rules S.speech builder.old [] [] held held → BuilderStands S.Machine.rules S.speech builder.new [] [] held held) }
     ensures steps_least { RisesBy steps.old steps.new (least_at S.Machine.rules builder.old.pass.root builder.old.pass.seen) (least_at S.Machine.rules builder.old.pass.root builder.new.pass.seen) }

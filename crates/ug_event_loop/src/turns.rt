@@ -4,7 +4,7 @@ ghost use Rattle.std.specs.Prelude.{◌≡◌, true, false, Ok, OnOk, OnErr, IfO
 ghost use Rattle.ug_turnstile.specs.Passes.{IsSamePass};
 ghost use Rattle.ug_events.specs.Events.{IsEvent, Says, SaysSync};
 ghost use Rattle.ug_events.specs.Views.{event_of};
-ghost use Rattle.ug_event_loop.specs.Turns.{GoesOn, AnswersAt, IsLegalAt, IsEndedAt, answer_of};
+ghost use Rattle.ug_event_loop.specs.Turns.{GoesOn, AnswersAt, IsLegalAt, IsEndedAt, IsClosedAt, answer_of};
 ghost use Rattle.ug_event_loop.specs.Counts.{least_at, most_at, RisesBy, RisesWithin};
 
 use crate::board::{break_off, conclude, mark, offer};
@@ -94,7 +94,7 @@ pub(crate) fn conclude_in_turn<S: Speaker, R: Wait, L: Ledger>(
     concluded
 }
 
-/// Ends the work on the board at once.
+/// Ends the work on the board at once, unless it is spent.
 pub(crate) fn break_off_in_turn<S: Speaker, R: Wait, L: Ledger>(
     rt: &R,
     turnstile: &Turnstile<Board<S>>,
@@ -107,6 +107,7 @@ pub(crate) fn break_off_in_turn<S: Speaker, R: Wait, L: Ledger>(
     ensures same { IsSamePass pass.old pass.new }
     ensures free { pass.new.holds ≡ false }
     ensures history { GoesOn S.Machine.rules S.speech pass.old.seen pass.new.seen }
+    ensures closed { IsClosedAt S.Machine.rules S.speech pass.new.spent pass.new.root pass.new.seen }
     ensures legal { IsLegalAt S.Machine.rules S.speech pass.new.root pass.new.seen }
     ensures steps_least { RisesBy steps.old steps.new (least_at S.Machine.rules pass.old.root pass.old.seen) (least_at S.Machine.rules pass.old.root pass.new.seen) }
 {

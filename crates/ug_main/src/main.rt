@@ -1,8 +1,9 @@
 //! The program: a run over the files of the system.
 #![tactic(auto)]
 
-ghost use Rattle.std.specs.Prelude.{◌≡◌, ◌<◌, ◌↔◌, IfErr, true, false, map, [], Some};
+ghost use Rattle.std.specs.Prelude.{◌≡◌, ◌<◌, ◌↔◌, drop, IfOk, IfErr, true, false, map, [], Some};
 ghost use Rattle.std.specs.String.{string_bytes};
+ghost use Rattle.std.specs.Vec.Iter.{into_iter_items};
 ghost use Rattle.ug_edge.specs.Told.{Rose, IsEnded, file_told, Missing};
 ghost use Rattle.ug_report.specs.Report.{names_in};
 ghost use Rattle.ug_config.specs.One.{one_world};
@@ -79,7 +80,7 @@ fn hold_standard_streams<R: Files>(rt: &R) -> io::Result<Held<R::File>> {
 fn words(rt: &HostRuntime) -> Result<Vec<String>, Status>
     ensures { IfErr result (λ status. is_fixed status ≡ true) }
 {
-    let mut args = match env::args(rt) {
+    let args = match env::args(rt) {
         Ok(args) => args,
         Err(e) => {
             return Err(if e.kind() == ErrorKind::OutOfMemory {
@@ -89,8 +90,17 @@ fn words(rt: &HostRuntime) -> Result<Vec<String>, Status>
             });
         }
     };
+    all_but_first(rt.alloc(), args)
+}
+
+/// All arguments but the first, which is the program's own name.
+fn all_but_first(alloc: Global, args: env::Args) -> Result<Vec<String>, Status>
+    ensures words { IfOk result (λ words. words.items ≡ drop 1 (into_iter_items args)) }
+    ensures fixed { IfErr result (λ status. is_fixed status ≡ true) }
+{
+    let mut args = args;
     let _name = args.next();
-    let mut words = Vec::new(rt.alloc());
+    let mut words = Vec::new(alloc);
     for word in args {
         match words.push(word) {
             Ok(()) => {}

@@ -1,5 +1,5 @@
 -- What a turnstile asks at its close, and what it answers.
-use Rattle.std.proofs.Common.{◌≡◌, ℕ, zero, suc, ◌+◌, ◌<◌, ◌≤◌, false, List, [], ◌∷◌, ◌++◌, length, map, get_or, All, Any, Option, arith, refl, sym, ◌∙◌, ap, subst}
+use Rattle.std.proofs.Common.{◌≡◌, ℕ, zero, suc, ◌+◌, ◌<◌, ◌≤◌, false, List, [], ◌∷◌, ◌++◌, length, map, get_or, All, Any, Option, Some, arith, refl, sym, ◌∙◌, ap, subst}
 use Rattle.std.proofs.lemmas.List.Elements.{All-cons, All-head, All-tail, All-push}
 use Rattle.std.proofs.lemmas.List.Quantifiers.{Any-push}
 use Rattle.atomic_table.specs.Seated.{TableId}
@@ -7,7 +7,7 @@ use Rattle.ug_board.specs.Entry.{Entry}
 use Rattle.ug_board.specs.Rules.{Rules}
 use Rattle.ug_board.specs.History.{IsLegal}
 use Rattle.ug_history_rules.specs.Deeds.{Each}
-use Rattle.ug_turnstile.specs.Passes.{Held, Agrees}
+use Rattle.ug_turnstile.specs.Passes.{Held, Agrees, IsToldBy}
 use Rattle.ug_sender.specs.Lanes.{LaneView}
 use Rattle.ug_run.specs.Lanes.{AreAtPosts, AreKept}
 use Rattle.ug_run.specs.Boards.{IsHistoryOf}
@@ -99,3 +99,32 @@ history_of {W} {Opening} {State} {Job} {Said} rules id builder lanes opening kep
       owned = each_of_all (λ (entry : Entry Job Said). Any (λ (q : Held (Entry Job Said) Opening). q.number ≡ entry.pass) passes) (λ (entry : Entry Job Said). entry.pass ≤ length lanes)
           (λ entry some. owned_few (length lanes) entry.pass passes (subst (λ (ps : List (Held (Entry Job Said) Opening)). All (λ (q : Held (Entry Job Said) Opening). q.number ≤ length lanes) ps) (sym passes_is) few) some) kept owned;
     })
+
+all_of_each : {A : Type 0} (P Q : A → Type 0) → ((a : A) → P a → Q a) → (xs : List A) → Each P xs → All Q xs
+all_of_each P Q gives [] h = λ k d lt. absurd (omega arith)
+all_of_each P Q gives (x ∷ xs) h = All-cons Q x xs (gives x h.0) (all_of_each P Q gives xs h.1)
+
+all_lanes : {W Opening Job Said : Type 0} (P : Held (Entry Job Said) Opening → Type 0) (lanes : List (LaneView W Opening Job Said)) → Each (λ (lane : LaneView W Opening Job Said). P lane.pass) lanes
+    → All P (map (λ (lane : LaneView W Opening Job Said). lane.pass) lanes)
+all_lanes P [] h = λ k d lt. absurd (omega arith)
+all_lanes P (lane ∷ lanes) h = All-cons P lane.pass _ h.0 (all_lanes P lanes h.1)
+
+-- What a builder and lanes tell, their passes tell.
+pub told_by :
+    {W Opening State Job Said : Type 0} (rules : Rules Opening State Job Said) (id : TableId) (builder : Held (Entry Job Said) Opening) (lanes : List (LaneView W Opening Job Said))
+    (opening : Opening) (history : List (Entry Job Said)) (passes : List (Held (Entry Job Said) Opening))
+    → AreAtPosts id builder.root 0 lanes → builder.number ≡ 0
+    → passes ≡ map (λ (lane : LaneView W Opening Job Said). lane.pass) lanes ++ builder ∷ [] → builder.root ≡ Some opening → IsHistoryOf rules builder lanes history
+    → IsToldBy (λ (entry : Entry Job Said). entry.pass) opening history passes
+told_by {W} {Opening} {State} {Job} {Said} rules id builder lanes opening history passes at first passes_is root_is hist =
+    let same : hist.root ≡ opening = let found : Some hist.root ≡ Some opening = sym hist.known ∙ root_is in cc in
+    let fits : Opening → Held (Entry Job Said) Opening → Type 0 = λ r. Agrees (λ (entry : Entry Job Said). entry.pass) r history in
+    let whole : List (Held (Entry Job Said) Opening) = map (λ (lane : LaneView W Opening Job Said). lane.pass) lanes ++ builder ∷ [] in
+    let owns : List (Held (Entry Job Said) Opening) → Entry Job Said → Type 0 = λ ps entry. Any (λ (q : Held (Entry Job Said) Opening). q.number ≡ entry.pass) ps in
+    (
+      subst (λ (ps : List (Held (Entry Job Said) Opening)). All (fits opening) ps) (sym passes_is)
+          (subst (λ (r : Opening). All (fits r) whole) same
+          (All-push (fits hist.root) (map (λ (lane : LaneView W Opening Job Said). lane.pass) lanes) builder (all_lanes (fits hist.root) lanes hist.lanes_agree) hist.builder_agrees)),
+      subst (λ (ps : List (Held (Entry Job Said) Opening)). All (owns ps) history) (sym passes_is)
+          (all_of_each (λ (entry : Entry Job Said). entry.pass ≤ length lanes) (owns whole) (λ entry few. passes_whole id builder.root lanes builder at first entry.pass (omega arith)) history hist.owned),
+    )

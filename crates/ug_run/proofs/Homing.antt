@@ -26,7 +26,7 @@ use Rattle.ug_event_loop.specs.declared.grammar.Grammar.{Grammar}
 use Rattle.ug_event_loop.specs.declared.tally.Tally.{Tally}
 use Rattle.ug_event_loop.specs.declared.reading.End.{End}
 use Rattle.ug_event_loop.specs.declared.reading.End.TheVariants as ends
-use Rattle.ug_event_loop.specs.Standing.{BuilderView, IsSameBuilder, BuilderStands}
+use Rattle.ug_event_loop.specs.Standing.{BuilderView, IsPacedBy, IsSameBuilder, BuilderStands}
 use Rattle.ug_event_loop.specs.FreshLaws.{fresh-stands}
 use Rattle.ug_event_loop.specs.Reading.{Outside, first_of, EndsAt, HasEnded, IsRead}
 use Rattle.ug_run.specs.Lanes.{AreAtPosts, AreKept, fresh_lanes}
@@ -177,9 +177,9 @@ module _ {Opening State Job Said : Type 0} (rules : Rules Opening State Job Said
   read-ended first old new o o' e end is h = subst (λ (x : Option End). IsRead rules speech first old new o o' x) is h
 
   -- a builder as it is made, over the pass of a run that begins
-  pub start-stands : (old : BuilderView Opening Job Said) (b0 : Held (Entry Job Said) Opening) (root : Opening) (names : List (List ℕ)) (grammar : Grammar) (held : Option (List ℕ))
-      → old ≡ record { pass = b0; names = names; grammar = grammar; tally = record { lines = 0; accepted = 0; refused = 0 } } → b0.root ≡ Some root → b0.seen ≡ [] → BuilderStands rules speech old [] [] held held
-  start-stands old b0 root names grammar held is root_is seen_is =
+  pub start-stands : (old : BuilderView Opening Job Said) (b0 : Held (Entry Job Said) Opening) (root : Opening) (names : List (List ℕ)) (grammar : Grammar) (every : ℕ) (held : Option (List ℕ))
+      → old ≡ record { pass = b0; names = names; grammar = grammar; coalesce = every; tally = record { lines = 0; accepted = 0; refused = 0 } } → b0.root ≡ Some root → b0.seen ≡ [] → BuilderStands rules speech old [] [] held held
+  start-stands old b0 root names grammar every held is root_is seen_is =
       fresh-stands rules speech old root held (ap (λ (b : BuilderView Opening Job Said). b.pass.root) is ∙ root_is) (ap (λ (b : BuilderView Opening Job Said). b.pass.seen) is ∙ seen_is) (ap (λ (b : BuilderView Opening Job Said). b.tally) is)
 
   module _ (first : List (Reads Saying)) (old new : BuilderView Opening Job Said) (o o' : Outside) (read : List ℕ) where
@@ -234,7 +234,7 @@ module _ {W Opening State Job Said : Type 0} (rules : Rules Opening State Job Sa
     (sessions : W → Option (List (List ℕ))) (begun faults : W → ℕ) (made_for : W → WireName) where
   -- a builder that is done, over the history that came home
   module _ (w : World) (gate : Gate) (b0 : Held (Entry Job Said) Opening) (passes : List (Held (Entry Job Said) Opening)) (wires : List W) (is : IsBegun speech w gate b0 passes)
-      (names : List (List ℕ)) (grammar : Grammar) (old new : BuilderView Opening Job Said) (old_is : old ≡ record { pass = b0; names = names; grammar = grammar; tally = record { lines = 0; accepted = 0; refused = 0 } })
+      (names : List (List ℕ)) (grammar : Grammar) (every : ℕ) (old new : BuilderView Opening Job Said) (old_is : old ≡ record { pass = b0; names = names; grammar = grammar; coalesce = every; tally = record { lines = 0; accepted = 0; refused = 0 } })
       (first : List (Reads Saying)) (o o' : Outside) (end : End) (ended : HasEnded rules speech first old new o o' end)
       (lanes : List (LaneView W Opening Job Said)) (pass : Held (Entry Job Said) Opening) (pass_is : pass ≡ new.pass) (history : List (Entry Job Said)) (hist : IsHistoryOf rules pass lanes history) where
     root_begun : old.pass.root ≡ Some is.root
@@ -265,8 +265,8 @@ module _ {W Opening State Job Said : Type 0} (rules : Rules Opening State Job Sa
   pub came-home :
       (w : World) → IsOpening w → (gate : Gate) (b0 : Held (Entry Job Said) Opening) (passes : List (Held (Entry Job Said) Opening)) (wires : List W) (is : IsBegun speech w gate b0 passes)
       → length passes ≡ length wires → length w.peers ≡ length wires
-      → (first : List (Reads Saying)) → Each IsSound first → (names : List (List ℕ)) → names ≡ names_in w → (grammar : Grammar)
-      → (old new : BuilderView Opening Job Said) → old ≡ record { pass = b0; names = names; grammar = grammar; tally = record { lines = 0; accepted = 0; refused = 0 } }
+      → (first : List (Reads Saying)) → Each IsSound first → (names : List (List ℕ)) → names ≡ names_in w → (grammar : Grammar) (every : ℕ)
+      → (old new : BuilderView Opening Job Said) → old ≡ record { pass = b0; names = names; grammar = grammar; coalesce = every; tally = record { lines = 0; accepted = 0; refused = 0 } }
       → (o o' : Outside) (end : End) → HasEnded rules speech first old new o o' end
       → (lanes : List (LaneView W Opening Job Said)) → posts lanes ≡ posts (fresh_lanes made_for 0 wires passes)
       → (pass : Held (Entry Job Said) Opening) → pass ≡ new.pass → (history : List (Entry Job Said)) → IsHistoryOf rules pass lanes history → AreKept rules sessions begun faults lanes
@@ -277,19 +277,19 @@ module _ {W Opening State Job Said : Type 0} (rules : Rules Opening State Job Sa
       → IsFinished names' (losses_from 0 (all_losses 0 peers history')) tally.accepted tally.refused o'.held held F end unnoted status
       → (back : List W) → back ≡ map (λ (lane : LaneView W Opening Job Said). lane.wire) lanes
       → IsRun rules speech w grammar first (file_told files name) status (map (told_one sessions faults) back) history is_picked o'.left o.held held G
-  came-home w opens gate b0 passes wires is many all first sound names names_is grammar old new old_is o o' end ended lanes same pass pass_is history hist kept unnoted unnoted_is files name picked is_picked stays
+  came-home w opens gate b0 passes wires is many all first sound names names_is grammar every old new old_is o o' end ended lanes same pass pass_is history hist kept unnoted unnoted_is files name picked is_picked stays
       peers peers_is names' names'_is tally tally_is history' history'_is held F G f status finished back back_is =
       let root_old : b0.root ≡ Some is.root = root-is made_for speech w gate b0 passes wires is in
       let root_new : new.pass.root ≡ Some is.root = ended.same.pass.2 ∙ (ap (λ (b : BuilderView Opening Job Said). b.pass.root) old_is ∙ root_old) in
       let at = back-at made_for speech w gate b0 passes wires is lanes same in
-      let root_same = root-same w gate b0 passes wires is names grammar old new old_is first o o' end ended lanes pass pass_is history hist in
+      let root_same = root-same w gate b0 passes wires is names grammar every old new old_is first o o' end ended lanes pass pass_is history hist in
       let count : length (map (toldl sessions faults) lanes) ≡ length lanes = length-map lanes (toldl sessions faults) in
       let lanes_many' : length lanes ≡ length wires = same-many lanes (fresh_lanes made_for 0 wires passes) same ∙ lanes_many made_for 0 wires passes many in
       let wires_all : length (map (toldl sessions faults) lanes) ≡ length w.peers = count ∙ (lanes_many' ∙ sym all) in
-      let stands = start-stands rules speech old b0 is.root names grammar o.held old_is root_old (ap (λ (p : Held (Entry Job Said) Opening). p.seen) is.head) in
+      let stands = start-stands rules speech old b0 is.root names grammar every o.held old_is root_old (ap (λ (p : Held (Entry Job Said) Opening). p.seen) is.head) in
       let done = ended.ended stands in
       let agree = subst (λ (r : Opening). Each (λ (lane : LaneView W Opening Job Said). agrees_at r history lane.pass) lanes) root_same hist.lanes_agree in
-      let behind_new = behind-home w gate b0 passes wires is names grammar old new old_is first o o' end ended lanes pass pass_is history hist in
+      let behind_new = behind-home w gate b0 passes wires is names grammar every old new old_is first o o' end ended lanes pass pass_is history hist in
       let fine = subst (λ (h : List (Entry Job Said)). IsFinished new.names (losses_from 0 (all_losses 0 peers h)) new.tally.accepted new.tally.refused o'.held held G end unnoted status) history'_is
       (subst (λ (t : Tally). IsFinished new.names (losses_from 0 (all_losses 0 peers history')) t.accepted t.refused o'.held held G end unnoted status) tally_is
       (subst (λ (ns : List (List ℕ)). IsFinished ns (losses_from 0 (all_losses 0 peers history')) tally.accepted tally.refused o'.held held G end unnoted status) names'_is
@@ -305,3 +305,9 @@ module _ {W Opening State Job Said : Type 0} (rules : Rules Opening State Job Sa
       peers (peers_is ∙ sym wires_all) old (ap (λ (b : BuilderView Opening Job Said). b.grammar) old_is) o.reads_failed o'.reads_failed o.writes_failed o'.writes_failed o.steps o'.steps end status done.so fine in
       subst (λ (ts : List WireTold). IsRun rules speech w grammar first (file_told files name) status ts history is_picked o'.left o.held held G)
       (sym (ap (λ (ws : List W). map (told_one sessions faults) ws) back_is ∙ told_wires sessions faults lanes)) run
+
+-- A builder over the pass of a run that begins has the pace of the run's world.
+pub paced : {Opening State Job Said : Type 0} (speech : Speech Opening State Job Said) (w : World) (gate : Gate) (b0 : Held (Entry Job Said) Opening) (passes : List (Held (Entry Job Said) Opening)) (every : ℕ)
+    → IsBegun speech w gate b0 passes → every ≡ w.local.coalesce → IsPacedBy speech b0.root every
+paced {Opening} {State} {Job} {Said} speech w gate b0 passes every is same =
+    subst (λ (r : Option Opening). IsPacedBy speech r every) (sym (ap (λ (p : Held (Entry Job Said) Opening). p.root) is.head)) (same ∙ ap (λ (v : World). v.local.coalesce) (sym is.first))

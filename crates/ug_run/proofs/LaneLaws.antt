@@ -6,6 +6,7 @@ use Rattle.ug_edge.specs.Told.{WireName}
 use Rattle.ug_board.specs.Entry.{Entry}
 use Rattle.ug_turnstile.specs.Passes.{Held}
 use Rattle.ug_sender.specs.Lanes.{LaneView, fresh_lane}
+use Rattle.ug_sender.specs.Posts.{Post, post_of, posts, posts_of, worker_here}
 use Rattle.ug_run.specs.Lanes.{ArePassesFrom, AreFreshFrom, AreAtPosts, fresh_lanes}
 
 module _ {E R : Type 0} where
@@ -96,3 +97,8 @@ module _ {W Opening Job Said : Type 0} where
       ∙ (sym (ap (λ (ws : List W). lanes ++ fresh_lanes made_for (length lanes) ws passes) wires_is
       ∙ ap (λ (ps : List (Held (Entry Job Said) Opening)). lanes ++ fresh_lanes made_for (length lanes) (wire ∷ wires') ps) passes_is)
       ∙ whole))))
+
+-- The posts of lanes that all work here.
+pub posts_all_here : {W Opening Job Said : Type 0} (lanes : List (LaneView W Opening Job Said)) → posts_of (map worker_here lanes) ≡ posts lanes
+posts_all_here [] = refl
+posts_all_here (lane ∷ lanes) = ap (λ (ps : List (Post _)). post_of lane ∷ ps) (posts_all_here lanes)

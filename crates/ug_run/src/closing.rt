@@ -1,7 +1,8 @@
 //! The end of the work on a board.
 
-ghost use Rattle.std.specs.Prelude.{◌≡◌, ◌+◌, ◌≤◌, [], length, map, false};
+ghost use Rattle.std.specs.Prelude.{◌≡◌, ◌+◌, ◌≤◌, List, [], length, map, false};
 ghost use Rattle.std.specs.List.{list_any};
+ghost use Rattle.ug_board.specs.Entry.{Entry};
 ghost use Rattle.ug_run.specs.Lanes.{AreKept, AreAtPosts};
 ghost use Rattle.ug_run.specs.Boards.{IsHistoryOf};
 
@@ -21,8 +22,8 @@ pub struct Closed<W: Wire, S: Speaker> {
     pub unnoted: bool,
 }
 
-/// Closes a board whose lanes and whose builder are back. The two lists, which are empty, have room for what comes back.
-/// It takes no memory.
+/// Closes a board whose lanes and whose builder are back. Their passes tell one history alone, and that comes back. The two
+/// lists, which are empty, have room for what comes back. It takes no memory.
 pub fn close<W: Wire, S: Speaker>(
     turnstile: Turnstile<Board<S>>,
     builder: Pass<Board<S>>,
@@ -40,6 +41,7 @@ pub fn close<W: Wire, S: Speaker>(
     requires wires_room { length lanes.items ≤ wires.spare }
     requires passes_room { length lanes.items + 1 ≤ passes.spare }
     ensures history { IsHistoryOf S.Machine.rules builder lanes.items result.history.items }
+    ensures only { (other : List (Entry S.Job S.Said)) → IsHistoryOf S.Machine.rules builder lanes.items other → other ≡ result.history.items }
     ensures wires { result.wires.items ≡ map (λ lane. lane.wire) lanes.items }
     ensures made_for { map W.made_for result.wires.items ≡ map (λ lane. lane.made_for) lanes.items }
     ensures unnoted { result.unnoted ≡ list_any (λ lane. lane.unnoted) lanes.items }

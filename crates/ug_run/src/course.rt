@@ -189,7 +189,7 @@ fn run_begun<S: Speaker, R: Threads + Wait + Sync, E: Site, K: Sink, L: Ledger>(
     report: &mut K,
     steps: &mut Steps<L>,
 ) -> Done<E::Wire, S>
-    requires begun { (w : World) × IsBegun S.speech w begun.turnstile begun.builder begun.passes.items × (length w.peers ≡ length start.wires.items) }
+    requires begun { (w : World) × IsBegun S.speech w begun.turnstile begun.builder begun.passes.items × (length w.peers ≡ length start.wires.items) × (start.coalesce ≡ w.local.coalesce) }
     requires waiting { ArePassesFrom 1 begun.passes.items }
     requires alike { length begun.passes.items ≡ length start.wires.items }
     requires room { length start.wires.items ≤ begun.room }

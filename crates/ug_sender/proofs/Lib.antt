@@ -1,3 +1,4 @@
+pub mod Crews
 pub mod Outcomes
 pub mod Pieces
 pub mod Rounds

@@ -1,9 +1,9 @@
 -- A lane as contracts see it, and what it keeps.
-use Rattle.std.specs.Prelude.{◌≡◌, ℕ, Bool, true, false, List, [], Option, Some, None}
+use Rattle.std.specs.Prelude.{◌≡◌, ℕ, ◌⊎◌, Bool, true, false, List, [], Option, Some, None}
 use Rattle.ug_edge.specs.Told.{WireName}
 use Rattle.ug_board.specs.Entry.{Entry}
 use Rattle.ug_board.specs.declared.steps.LaneStep.TheVariants.{Next}
-use Rattle.ug_board.specs.declared.steps.LaneSaid.TheVariants.{Idle}
+use Rattle.ug_board.specs.declared.steps.LaneSaid.TheVariants.{Idle, Stop}
 use Rattle.ug_board.specs.History.{replay}
 use Rattle.ug_board.specs.Rules.{Rules}
 use Rattle.ug_history_rules.specs.Deeds.{Deed, deeds, of_pass, to_peer, Each}
@@ -64,3 +64,16 @@ module _ {Opening State Job Said : Type 0} (rules : Rules Opening State Job Said
   abbrev pub IdlesAt : Option Opening → ℕ → List (Entry Job Said) → Type 0
   IdlesAt None peer seen = ⊥
   IdlesAt (Some root) peer seen = rules.lane_reply (Next peer) (replay rules root seen) ≡ Idle
+
+  -- There is nothing more to send to the peer.
+  abbrev pub StopsAt : Option Opening → ℕ → List (Entry Job Said) → Type 0
+  StopsAt None peer seen = ⊥
+  StopsAt (Some root) peer seen = rules.lane_reply (Next peer) (replay rules root seen) ≡ Stop
+
+  -- Nothing more is sent to the peer, as far as the pass has seen: the history says so, or the board is spent.
+  abbrev pub IsOver : ℕ → Held (Entry Job Said) Opening → Type 0
+  IsOver peer pass = (pass.spent ≡ true) ⊎ StopsAt pass.root peer pass.seen
+
+  -- Nothing is sent to the peer for now, or nothing more.
+  abbrev pub IsAtRest : ℕ → Held (Entry Job Said) Opening → Type 0
+  IsAtRest peer pass = ((pass.spent ≡ false) × IdlesAt pass.root peer pass.seen) ⊎ IsOver peer pass

@@ -1,8 +1,12 @@
 -- Posts: where the lanes of a run stand, whatever they have sent.
-use Rattle.std.specs.Prelude.{◌≡◌, ℕ, List, [], ◌∷◌, All, Option, map}
+use Rattle.std.specs.Prelude.{◌≡◌, ℕ, List, [], ◌∷◌, All, Option, Some, None, map}
 use Rattle.atomic_table.specs.Seated.{TableId}
 use Rattle.ug_edge.specs.Told.{WireName}
-use Rattle.ug_sender.specs.Lanes.{LaneView, IsSamePost}
+use Rattle.ug_board.specs.Entry.{Entry}
+use Rattle.ug_board.specs.Rules.{Rules}
+use Rattle.ug_history_rules.specs.Deeds.{Deed}
+use Rattle.ug_turnstile.specs.Passes.{Held}
+use Rattle.ug_sender.specs.Lanes.{LaneView, IsSamePost, IsAtRest, pass_deeds}
 
 -- A post: the turnstile and the number of a lane's pass, the root of the history, the peer that the lane sends to, and for
 -- whom its wire was made.
@@ -31,3 +35,37 @@ AreSamePosts [] [] = Unit {0}
 AreSamePosts [] (new ∷ news) = ⊥
 AreSamePosts (old ∷ olds) [] = ⊥
 AreSamePosts (old ∷ olds) (new ∷ news) = IsSamePost old new × AreSamePosts olds news
+
+-- A worker: its post, and the pass of its lane where that works here.
+pub record WorkerView (Opening Job Said : Type 0) : Type 0 where
+  pub post : Post Opening
+  pub here : Option (Held (Entry Job Said) Opening)
+
+-- a lane that works here, and one that works in a thread of its own
+abbrev pub worker_here : {W Opening Job Said : Type 0} → LaneView W Opening Job Said → WorkerView Opening Job Said
+worker_here lane = record { post = post_of lane; here = Some lane.pass }
+
+abbrev pub worker_apart : {W Opening Job Said : Type 0} → LaneView W Opening Job Said → WorkerView Opening Job Said
+worker_apart lane = record { post = post_of lane; here = None }
+
+-- the posts of workers, in order
+abbrev pub posts_of : {Opening Job Said : Type 0} → List (WorkerView Opening Job Said) → List (Post Opening)
+posts_of {Opening} {Job} {Said} workers = map (λ (worker : WorkerView Opening Job Said). worker.post) workers
+
+module _ {Opening State Job Said : Type 0} (rules : Rules Opening State Job Said) where
+  -- Where a lane works here, nothing is sent to its peer for now, or nothing more.
+  abbrev pub RestsHere : ℕ → Option (Held (Entry Job Said) Opening) → Type 0
+  RestsHere peer None = Unit {0}
+  RestsHere peer (Some pass) = IsAtRest rules peer pass
+
+  abbrev pub Rests : WorkerView Opening Job Said → Type 0
+  Rests worker = RestsHere worker.post.peer worker.here
+
+  -- Each lane of a crew that works here rests.
+  abbrev pub AllRest : List (WorkerView Opening Job Said) → Type 0
+  AllRest workers = All Rests workers
+
+  -- what a lane was handed that works here
+  abbrev pub here_deeds : Option (Held (Entry Job Said) Opening) → List (Deed (List ℕ))
+  here_deeds None = []
+  here_deeds (Some pass) = pass_deeds rules pass

@@ -1,11 +1,11 @@
 //! Steps of a lane on the board, each in a turn of its own.
 
-ghost use Rattle.std.specs.Prelude.{◌≡◌, ◌≤◌, length, true, false, Some};
-ghost use Rattle.ug_board.specs.declared.steps.LaneSaid.TheVariants.{Idle};
+ghost use Rattle.std.specs.Prelude.{◌≡◌, ◌≤◌, ◌⊎◌, length, true, false, Some};
+ghost use Rattle.ug_board.specs.declared.steps.LaneSaid.TheVariants.{Idle, Stop};
 ghost use Rattle.ug_board.specs.Rules.{buffer_size};
 ghost use Rattle.ug_board.specs.History.{state_of};
 ghost use Rattle.ug_turnstile.specs.Passes.{Adds, IsSamePass, StartsWith};
-ghost use Rattle.ug_sender.specs.Lanes.{AreOfPeer, IsOfPeer, IdlesAt, deeds_at, pass_deeds};
+ghost use Rattle.ug_sender.specs.Lanes.{AreOfPeer, IsOfPeer, IdlesAt, StopsAt, IsOver, deeds_at, pass_deeds};
 ghost use Rattle.ug_sender.specs.Tellings.{TellsNext, TellsLoss};
 
 use std::sync::Wait;
@@ -27,6 +27,9 @@ pub(crate) fn next_on<M: Machine>(
     ensures own { AreOfPeer peer number board.new.history }
     ensures told { TellsNext result buf.new (deeds_at M.rules (Some board.old.opening) number board.old.history) (deeds_at M.rules (Some board.new.opening) number board.new.history) }
     ensures idle { result ≡ Idle → IdlesAt M.rules (Some board.new.opening) peer board.new.history }
+    ensures over { result ≡ Stop → (board.new.spent ≡ true) ⊎ StopsAt M.rules (Some board.new.opening) peer board.new.history }
+    ensures unspent { result ≡ Idle → board.new.spent ≡ false }
+    ensures spent { board.new.spent ≡ board.old.spent }
 {
     board.lane(number, LaneStep::Next { peer }, buf)
 }
@@ -55,6 +58,7 @@ fn lose_on<M: Machine>(
     ensures opening { board.new.opening ≡ board.old.opening }
     ensures adds { Adds (λ entry. entry.pass) number board.old.history board.new.history }
     ensures own { AreOfPeer peer number board.new.history }
+    ensures spent { board.new.spent ≡ board.old.spent }
     ensures told { TellsLoss result session (deeds_at M.rules (Some board.old.opening) number board.old.history) (deeds_at M.rules (Some board.new.opening) number board.new.history) }
 {
     let is_noted = may_lose_on(board, peer, session);
@@ -80,6 +84,8 @@ pub(crate) fn ask_next<M: Machine, R: Wait>(
     ensures seen { StartsWith pass.new.seen pass.old.seen }
     ensures told { TellsNext result buf.new (pass_deeds M.rules pass.old) (pass_deeds M.rules pass.new) }
     ensures idle { result ≡ Idle → IdlesAt M.rules pass.new.root peer pass.new.seen }
+    ensures over { result ≡ Stop → IsOver M.rules peer pass.new }
+    ensures unspent { result ≡ Idle → pass.new.spent ≡ false }
 {
     let number = pass.number();
     let mut turn = turnstile.take(rt, pass);

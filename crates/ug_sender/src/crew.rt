@@ -1,8 +1,9 @@
 //! The workers of a run.
 
-ghost use Rattle.std.specs.Prelude.{◌≡◌, ◌≤◌, [], length, IfOk, IfErr};
+ghost use Rattle.std.specs.Prelude.{◌≡◌, ◌≤◌, [], length, map, false, is_some, All, IfSome, IfOk, IfErr};
 ghost use Rattle.std.specs.Vec.{vec_len, vec_capacity};
-ghost use Rattle.ug_sender.specs.Posts.{AreHere, posts};
+ghost use Rattle.ug_sender.specs.Lanes.{IsOver};
+ghost use Rattle.ug_sender.specs.Posts.{AreHere, AllRest, posts, posts_of, worker_here, here_deeds};
 
 use crate::lane::Lane;
 use crate::worker::Worker;
@@ -15,7 +16,8 @@ use ug_edge::Wire;
 use ug_turnstile::Turnstile;
 use ug_types::Sequence;
 
-/// The workers of a run, in the order of their lanes. Contracts see the posts of the lanes, which stay as they are.
+/// The workers of a run, in the order of their lanes. Contracts see these: the posts of their lanes, which stay as they are,
+/// and the passes of those that work here.
 #[derive(Drop)]
 pub struct Crew<W: Wire, M: Machine> {
     workers: Vec<Worker<W, M>>,
@@ -25,9 +27,9 @@ pub struct Crew<W: Wire, M: Machine> {
 impl<W: Wire, M: Machine> Model for Crew<W, M> {
     ghost use Rattle.std.specs.Prelude.{◌≡◌, ◌≤◌, [], List};
     ghost use Rattle.std.specs.Vec.{vec_len, vec_capacity};
-    ghost use Rattle.ug_sender.specs.Posts.{Post};
+    ghost use Rattle.ug_sender.specs.Posts.{WorkerView};
 
-    ghost Value = { List (Post M.Opening) };
+    ghost Value = { List (WorkerView M.Opening M.Job M.Said) };
 
     ghost view = { λ c. c.workers.items };
 
@@ -40,7 +42,7 @@ impl<W: Wire, M: Machine> Crew<W, M> {
         alloc: Global,
         lanes: Sequence<Lane<W, M>>,
     ) -> Result<Crew<W, M>, Sequence<Lane<W, M>>>
-        ensures ok { IfOk result (λ crew. crew ≡ posts lanes.items) }
+        ensures ok { IfOk result (λ crew. crew ≡ map worker_here lanes.items) }
         ensures returned { IfErr result (λ back. back.items ≡ lanes.items) }
     {
         let count = lanes.len();
@@ -82,11 +84,14 @@ impl<W: Wire, M: Machine> Crew<W, M> {
         self.workers.len()
     }
 
-    /// Pumps each lane that works here, in order, until there is nothing to send, and answers whether one of them did
+    /// Pumps each lane that works here, in order, until there is nothing to send for now, and answers whether one of them did
     /// anything. Lanes in threads are left alone.
     pub fn pump_here<R: Wait>(&mut self, rt: &R, turnstile: &Turnstile<Board<M>>) -> bool
-        requires here { AreHere turnstile.now.id self.old }
-        ensures posts { self.new ≡ self.old }
+        requires here { AreHere turnstile.now.id (posts_of self.old) }
+        ensures posts { posts_of self.new ≡ posts_of self.old }
+        ensures places { map (λ worker. is_some worker.here) self.new ≡ map (λ worker. is_some worker.here) self.old }
+        ensures rest { AllRest M.rules self.new }
+        ensures still { result ≡ false → map (λ worker. here_deeds M.rules worker.here) self.new ≡ map (λ worker. here_deeds M.rules worker.here) self.old }
     {
         let mut has_done = false;
         for place in 0..self.workers.len() {
@@ -99,8 +104,10 @@ impl<W: Wire, M: Machine> Crew<W, M> {
 
     /// Pumps each lane that works here, in order, until there is nothing more to send.
     pub fn pump_to_end<R: Wait>(&mut self, rt: &R, turnstile: &Turnstile<Board<M>>)
-        requires here { AreHere turnstile.now.id self.old }
-        ensures posts { self.new ≡ self.old }
+        requires here { AreHere turnstile.now.id (posts_of self.old) }
+        ensures posts { posts_of self.new ≡ posts_of self.old }
+        ensures places { map (λ worker. is_some worker.here) self.new ≡ map (λ worker. is_some worker.here) self.old }
+        ensures over { All (λ worker. IfSome worker.here (λ pass. IsOver M.rules worker.post.peer pass)) self.new }
     {
         for place in 0..self.workers.len() {
             self.workers[place].pump_to_end(rt, turnstile);
@@ -109,7 +116,7 @@ impl<W: Wire, M: Machine> Crew<W, M> {
 
     /// The lanes in their order, once the threads are done. It takes no memory.
     pub fn join<R: Threads>(self, rt: &R) -> Sequence<Lane<W, M>>
-        ensures { posts result.items ≡ self }
+        ensures { posts result.items ≡ posts_of self }
     {
         let Crew { workers, room } = self;
         gather(rt, workers, room)
@@ -123,7 +130,7 @@ fn enlist<W: Wire, M: Machine>(
 ) -> Vec<Worker<W, M>>
     requires none { workers.items ≡ [] }
     requires room { length lanes.items ≤ vec_capacity workers }
-    ensures { result.items ≡ posts lanes.items }
+    ensures { result.items ≡ map worker_here lanes.items }
 {
     for lane in lanes.into_vec() {
         workers.push_reserved(Worker::here(lane));
@@ -139,7 +146,7 @@ fn gather<R: Threads, W: Wire, M: Machine>(
 ) -> Sequence<Lane<W, M>>
     requires none { lanes.items ≡ [] }
     requires room { vec_len workers ≤ vec_capacity lanes }
-    ensures { posts result.items ≡ workers.items }
+    ensures { posts result.items ≡ posts_of workers.items }
 {
     for worker in workers {
         lanes.push_reserved(worker.join(rt));

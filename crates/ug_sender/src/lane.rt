@@ -6,7 +6,7 @@ ghost use Rattle.ug_edge.specs.Told.{Rose, IsFresh};
 ghost use Rattle.ug_turnstile.specs.Passes.{StartsWith, mine};
 ghost use Rattle.ug_sender.specs.declared.pumped.Pumped.TheVariants.{Sent as DidSend, Idle as WasIdle, Lost as WasLost, Stopped as WasStopped};
 ghost use Rattle.ug_sender.specs.Courses.{fate_of, is_unnoted};
-ghost use Rattle.ug_sender.specs.Lanes.{fresh_lane, IdlesAt, IsSamePost, KeepsLane, shown};
+ghost use Rattle.ug_sender.specs.Lanes.{fresh_lane, IdlesAt, IsOver, IsSamePost, KeepsLane, shown};
 ghost use Rattle.ug_sender.specs.Rounds.{TellsRound, fate_after, open_after, outcome};
 ghost use Rattle.ug_sender.specs.Tellings.{TellsPump, IsSameWire};
 
@@ -128,6 +128,8 @@ impl<W: Wire, M: Machine> Lane<W, M> {
         ensures unharmed { (result ≡ WasLost → ⊥) → W.faults self.new.wire ≡ W.faults self.old.wire }
         ensures faults { W.faults self.old.wire ≤ W.faults self.new.wire }
         ensures idle { result ≡ WasIdle → IdlesAt M.rules self.new.pass.root self.new.peer self.new.pass.seen }
+        ensures over { result ≡ WasStopped → IsOver M.rules self.new.peer self.new.pass }
+        ensures unspent { result ≡ WasIdle → self.new.pass.spent ≡ false }
         ensures still { (result ≡ WasIdle) ⊎ (result ≡ WasStopped) → IsSameWire (W.sessions self.old.wire) (W.begun self.old.wire) (W.sessions self.new.wire) (W.begun self.new.wire) }
         ensures closed { result ≡ DidSend → self.old.latest ≡ None → IsSameWire (W.sessions self.old.wire) (W.begun self.old.wire) (W.sessions self.new.wire) (W.begun self.new.wire) }
     {
@@ -194,6 +196,8 @@ impl<W: Wire, M: Machine> Lane<W, M> {
         ensures unharmed { (result.end ≡ WasLost → ⊥) → W.faults self.new.wire ≡ W.faults self.old.wire }
         ensures faults { W.faults self.old.wire ≤ W.faults self.new.wire }
         ensures idle { result.end ≡ WasIdle → IdlesAt M.rules self.new.pass.root self.new.peer self.new.pass.seen }
+        ensures over { result.end ≡ WasStopped → IsOver M.rules self.new.peer self.new.pass }
+        ensures unspent { result.end ≡ WasIdle → self.new.pass.spent ≡ false }
         ensures still { result.packets ≡ 0 → (result.end ≡ WasIdle) ⊎ (result.end ≡ WasStopped) → IsSameWire (W.sessions self.old.wire) (W.begun self.old.wire) (W.sessions self.new.wire) (W.begun self.new.wire) }
     {
         let buf = self.buf.as_mut_slice();
@@ -231,6 +235,7 @@ impl<W: Wire, M: Machine> Lane<W, M> {
         requires here { self.pass.turnstile ≡ turnstile.now.id }
         ensures same { IsSamePost self result }
         ensures seen { StartsWith result.pass.seen self.pass.seen }
+        ensures over { IsOver M.rules result.peer result.pass }
         ensures faults { W.faults self.wire ≤ W.faults result.wire }
     {
         let mut lane = self;

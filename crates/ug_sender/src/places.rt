@@ -2,18 +2,17 @@
 
 ghost use Rattle.std.specs.Prelude.{◌≡◌, ◌+◌, ◌<◌, Some, remove, slice_get};
 ghost use Rattle.std.specs.Vec.{vec_len, vec_capacity};
-ghost use Rattle.ug_sender.specs.Posts.{AreHere};
+ghost use Rattle.ug_sender.specs.Posts.{AreHere, posts_of};
 
 use crate::worker::Worker;
 use ug_board::Machine;
 use ug_edge::Wire;
 
 /// Takes out the worker at a place. There is then room for it.
-#[tactic(auto, using(crate::proofs::Seats::here_at))]
 pub fn take_out<W: Wire, M: Machine>(workers: &mut Vec<Worker<W, M>>, place: usize) -> Worker<W, M>
     requires within { place < vec_len workers.old }
     ensures worker { slice_get workers.old.items place ≡ Some result }
-    ensures here { (id : _) → AreHere id workers.old.items → result.turnstile ≡ id }
+    ensures here { (id : _) → AreHere id (posts_of workers.old.items) → result.post.turnstile ≡ id }
     ensures left { workers.new.items ≡ remove workers.old.items place }
     ensures len { vec_len workers.new + 1 ≡ vec_len workers.old }
     ensures room { vec_len workers.new < vec_capacity workers.new }
@@ -22,7 +21,6 @@ pub fn take_out<W: Wire, M: Machine>(workers: &mut Vec<Worker<W, M>>, place: usi
 }
 
 /// Puts a worker of the post that was taken out into its place, for which there is room. The posts are then as before.
-#[tactic(auto, using(crate::proofs::Seats::put_back))]
 pub fn put_in<W: Wire, M: Machine>(
     workers: &mut Vec<Worker<W, M>>,
     place: usize,
@@ -30,7 +28,7 @@ pub fn put_in<W: Wire, M: Machine>(
 )
     requires within { place < vec_len workers.old + 1 }
     requires room { vec_len workers.old < vec_capacity workers.old }
-    ensures posts { (all : _) → workers.old.items ≡ remove all place → slice_get all place ≡ Some worker → workers.new.items ≡ all }
+    ensures posts { (all : _) (out : _) → workers.old.items ≡ remove all place → slice_get all place ≡ Some out → worker.post ≡ out.post → posts_of workers.new.items ≡ posts_of all }
     ensures len { vec_len workers.new ≡ vec_len workers.old + 1 }
 {
     let Ok(()) = workers.insert(place, worker) else {

@@ -1,7 +1,7 @@
 //! What a worker does with its lane.
 
-ghost use Rattle.std.specs.Prelude.{◌≡◌};
-ghost use Rattle.ug_sender.specs.Lanes.{IsSamePost};
+ghost use Rattle.std.specs.Prelude.{◌≡◌, false};
+ghost use Rattle.ug_sender.specs.Lanes.{IsSamePost, IsAtRest, IsOver, pass_deeds};
 ghost use Rattle.ug_sender.specs.Posts.{post_of};
 
 use crate::lane::Lane;
@@ -21,6 +21,8 @@ pub(crate) fn pump_out<R: Wait, W: Wire, M: Machine>(
 ) -> bool
     requires here { lane.old.pass.turnstile ≡ turnstile.now.id }
     ensures same { IsSamePost lane.old lane.new }
+    ensures rests { IsAtRest M.rules lane.new.peer lane.new.pass }
+    ensures still { result ≡ false → pass_deeds M.rules lane.new.pass ≡ pass_deeds M.rules lane.old.pass }
 {
     let mut has_done = false;
     for _ in rt.forever() {
@@ -41,6 +43,7 @@ pub(crate) fn pump_to_end<R: Wait, W: Wire, M: Machine>(
 )
     requires here { lane.old.pass.turnstile ≡ turnstile.now.id }
     ensures same { IsSamePost lane.old lane.new }
+    ensures over { IsOver M.rules lane.new.peer lane.new.pass }
 {
     for _ in rt.forever() {
         match lane.pump_round(rt, turnstile).end {
@@ -78,6 +81,7 @@ fn work_by_bell<R: Wait, W: Wire, M: Machine>(
 ) -> Lane<W, M>
     requires here { lane.pass.turnstile ≡ turnstile.now.id }
     ensures post { post_of result ≡ post_of lane }
+    ensures over { IsOver M.rules result.peer result.pass }
 {
     let mut lane = lane;
     for _ in rt.forever() {

@@ -1,11 +1,11 @@
 //! What a lane takes in one turn: packets, as long as there are some and there is room for them.
 
-ghost use Rattle.std.specs.Prelude.{◌≡◌, ◌+◌, ◌≤◌, length, true, false, Some, None};
+ghost use Rattle.std.specs.Prelude.{◌≡◌, ◌+◌, ◌≤◌, ◌⊎◌, length, true, false, Some, None};
 ghost use Rattle.ug_board.specs.Rules.{buffer_size};
 ghost use Rattle.ug_turnstile.specs.Passes.{Adds, IsSamePass, StartsWith};
-ghost use Rattle.ug_sender.specs.declared.turn.Ending.TheVariants.{Idle};
+ghost use Rattle.ug_sender.specs.declared.turn.Ending.TheVariants.{Idle, Stop};
 ghost use Rattle.ug_sender.specs.declared.turn.Next.TheVariants.{Last};
-ghost use Rattle.ug_sender.specs.Lanes.{AreOfPeer, IsOfPeer, IdlesAt, deeds_at, pass_deeds};
+ghost use Rattle.ug_sender.specs.Lanes.{AreOfPeer, IsOfPeer, IdlesAt, StopsAt, IsOver, deeds_at, pass_deeds};
 ghost use Rattle.ug_sender.specs.Rounds.{TellsStep, TellsTurn};
 
 use crate::asking::next_on;
@@ -69,6 +69,9 @@ fn step_on<M: Machine>(
     ensures own { AreOfPeer peer number board.new.history }
     ensures told { TellsStep latest filled result buf.old buf.new (deeds_at M.rules (Some board.old.opening) number board.old.history) (deeds_at M.rules (Some board.new.opening) number board.new.history) }
     ensures idle { result ≡ Last Idle → IdlesAt M.rules (Some board.new.opening) peer board.new.history }
+    ensures over { result ≡ Last Stop → (board.new.spent ≡ true) ⊎ StopsAt M.rules (Some board.new.opening) peer board.new.history }
+    ensures unspent { result ≡ Last Idle → board.new.spent ≡ false }
+    ensures spent { board.new.spent ≡ board.old.spent }
 {
     let (_, room) = buf.split_at_mut(filled);
     match next_on(board, number, peer, room) {
@@ -100,6 +103,9 @@ fn turn_on<M: Machine>(
     ensures own { AreOfPeer peer number board.new.history }
     ensures told { TellsTurn latest result buf.new (deeds_at M.rules (Some board.old.opening) number board.old.history) (deeds_at M.rules (Some board.new.opening) number board.new.history) }
     ensures idle { result.ending ≡ Idle → IdlesAt M.rules (Some board.new.opening) peer board.new.history }
+    ensures over { result.ending ≡ Stop → (board.new.spent ≡ true) ⊎ StopsAt M.rules (Some board.new.opening) peer board.new.history }
+    ensures unspent { result.ending ≡ Idle → board.new.spent ≡ false }
+    ensures spent { board.new.spent ≡ board.old.spent }
 {
     let mut filled = 0;
     for packets in 0..PACKETS_OF_A_TURN {
@@ -146,6 +152,8 @@ pub(crate) fn take_turn<M: Machine, R: Wait>(
     ensures seen { StartsWith pass.new.seen pass.old.seen }
     ensures told { TellsTurn latest result buf.new (pass_deeds M.rules pass.old) (pass_deeds M.rules pass.new) }
     ensures idle { result.ending ≡ Idle → IdlesAt M.rules pass.new.root peer pass.new.seen }
+    ensures over { result.ending ≡ Stop → IsOver M.rules peer pass.new }
+    ensures unspent { result.ending ≡ Idle → pass.new.spent ≡ false }
 {
     let number = pass.number();
     let mut turn = turnstile.take(rt, pass);

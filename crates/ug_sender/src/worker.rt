@@ -1,7 +1,8 @@
 //! A worker: a lane that works in a thread of its own, or here.
 
-ghost use Rattle.std.specs.Prelude.{◌≡◌, IfOk, IfErr};
-ghost use Rattle.ug_sender.specs.Posts.{post_of};
+ghost use Rattle.std.specs.Prelude.{◌≡◌, false, IfOk, IfErr, IfSome, is_some};
+ghost use Rattle.ug_sender.specs.Lanes.{IsOver};
+ghost use Rattle.ug_sender.specs.Posts.{post_of, worker_here, worker_apart, Rests, here_deeds};
 
 use crate::lane::Lane;
 use crate::serve::{pump_out, pump_to_end};
@@ -41,26 +42,26 @@ enum Place<L, H> {
 
 pub type Child<W, M> = PromisedHandle<Lane<W, M>, SamePost<W, M>>;
 
-/// A lane that works in a thread of its own, or here. Contracts see its post.
+/// A lane that works in a thread of its own, or here. Contracts see its post, and the pass of a lane that works here.
 #[derive(Drop)]
 pub struct Worker<W: Wire, M: Machine> {
     place: Place<Lane<W, M>, Child<W, M>>,
 }
 
 impl<W: Wire, M: Machine> Model for Worker<W, M> {
-    ghost use Rattle.ug_sender.specs.Posts.{Post, post_of};
+    ghost use Rattle.ug_sender.specs.Posts.{WorkerView, worker_here, worker_apart};
 
-    ghost Value = { Post M.Opening };
+    ghost Value = { WorkerView M.Opening M.Job M.Said };
 
     ghost use Rattle.ug_sender.specs.Places.{at_place};
 
-    ghost view = { λ w. at_place (λ lane. post_of lane) (λ child. post_of child.promise.0.value) w.place };
+    ghost view = { λ w. at_place (λ lane. worker_here lane) (λ child. worker_apart child.promise.0.value) w.place };
 }
 
 impl<W: Wire, M: Machine> Worker<W, M> {
     /// A lane that works here.
     pub fn here(lane: Lane<W, M>) -> Self
-        ensures { result ≡ post_of lane }
+        ensures { result ≡ worker_here lane }
     {
         Worker {
             place: Place::Here(lane),
@@ -69,17 +70,20 @@ impl<W: Wire, M: Machine> Worker<W, M> {
 
     /// A lane that works in this thread.
     pub fn apart(child: Child<W, M>) -> Self
-        ensures { result ≡ post_of child.promise.0.value }
+        ensures { result ≡ worker_apart child.promise.0.value }
     {
         Worker {
             place: Place::Apart(child),
         }
     }
 
-    /// Pumps a lane that works here until there is nothing to send, and answers whether it did anything.
+    /// Pumps a lane that works here until there is nothing to send, for now or for ever, and answers whether it did anything.
     pub fn pump_out<R: Wait>(&mut self, rt: &R, turnstile: &Turnstile<Board<M>>) -> bool
-        requires here { self.old.turnstile ≡ turnstile.now.id }
-        ensures post { self.new ≡ self.old }
+        requires here { self.old.post.turnstile ≡ turnstile.now.id }
+        ensures post { self.new.post ≡ self.old.post }
+        ensures place { is_some self.new.here ≡ is_some self.old.here }
+        ensures rests { Rests M.rules self.new }
+        ensures still { result ≡ false → here_deeds M.rules self.new.here ≡ here_deeds M.rules self.old.here }
     {
         match &mut self.place {
             Place::Here(lane) => pump_out(rt, turnstile, lane),
@@ -89,8 +93,10 @@ impl<W: Wire, M: Machine> Worker<W, M> {
 
     /// Pumps a lane that works here until there is nothing more to send.
     pub fn pump_to_end<R: Wait>(&mut self, rt: &R, turnstile: &Turnstile<Board<M>>)
-        requires here { self.old.turnstile ≡ turnstile.now.id }
-        ensures post { self.new ≡ self.old }
+        requires here { self.old.post.turnstile ≡ turnstile.now.id }
+        ensures post { self.new.post ≡ self.old.post }
+        ensures place { is_some self.new.here ≡ is_some self.old.here }
+        ensures over { IfSome self.new.here (λ pass. IsOver M.rules self.new.post.peer pass) }
     {
         match &mut self.place {
             Place::Here(lane) => pump_to_end(rt, turnstile, lane),
@@ -100,7 +106,7 @@ impl<W: Wire, M: Machine> Worker<W, M> {
 
     /// The lane where it works here, and else the worker.
     pub fn into_here(self) -> Result<Lane<W, M>, Self>
-        ensures here { IfOk result (λ lane. post_of lane ≡ self) }
+        ensures here { IfOk result (λ lane. worker_here lane ≡ self) }
         ensures apart { IfErr result (λ worker. worker ≡ self) }
     {
         match self.place {
@@ -111,7 +117,7 @@ impl<W: Wire, M: Machine> Worker<W, M> {
 
     /// The lane, once its thread is done.
     pub fn join<R: Threads>(self, rt: &R) -> Lane<W, M>
-        ensures { post_of result ≡ self }
+        ensures { post_of result ≡ self.post }
     {
         match self.place {
             Place::Here(lane) => lane,

@@ -20,8 +20,12 @@ module _ {E R : Type 0} where
   seen_of [] = []
   seen_of (p ∷ ps) = p.seen
 
+  abbrev pub spent_of : List (Part E R) → Bool
+  spent_of [] = false
+  spent_of (p ∷ ps) = p.spent
+
   abbrev pub held : {S : Type 0} → ℕ → Seat (Option S) (View E R) → Held E R
-  held number seat = record { turnstile = seat.table_id; number = number; holds = seat.me.0.holds; root = root_of seat.me.0.parts; seen = seen_of seat.me.0.parts }
+  held number seat = record { turnstile = seat.table_id; number = number; holds = seat.me.0.holds; root = root_of seat.me.0.parts; seen = seen_of seat.me.0.parts; spent = spent_of seat.me.0.parts }
 
   -- the seat has one part, of this number, and has the slot in hand exactly where it holds the turn
   abbrev pub IsOnePass : {S : Type 0} → ℕ → Seat (Option S) (View E R) → Type 0

@@ -1,8 +1,9 @@
 //! What a state that passes between threads tells of its history.
 
-ghost use Rattle.std.specs.Prelude.{◌≡◌, ℕ, List};
+ghost use Rattle.std.specs.Prelude.{◌≡◌, ℕ, Bool, List};
 
-/// A state with a history. To contracts it has a root, which it began with, and the entries since then, in order.
+/// A state with a history. To contracts it has a root, which it began with, and the entries since then, in order, and it
+/// may be spent, which it then stays.
 pub trait Logged {
     /// One step of the history.
     type Entry;
@@ -12,6 +13,8 @@ pub trait Logged {
     ghost root: { Self → Self.Root };
 
     ghost entries: { Self → List Self.Entry };
+
+    ghost spent: { Self → Bool };
 
     ghost owner: { Self.Entry → ℕ };
 

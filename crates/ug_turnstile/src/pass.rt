@@ -9,7 +9,8 @@ use std::marker::Model;
 use ug_types::Sequence;
 
 /// The right to take turns under a number. Contracts see the turnstile that it was made with, the number, whether it
-/// holds the turn, the root of the state, and `seen`, the entries that it has seen; its own among them are `mine`.
+/// holds the turn, the root of the state, `seen`, the entries that it has seen, and whether the state that it saw last was
+/// spent; its own among the entries are `mine`.
 #[derive(Drop)]
 pub struct PassOf<S, E, R> {
     pub(crate) number: u32,

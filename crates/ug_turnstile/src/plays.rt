@@ -22,7 +22,7 @@ pub struct OneTurn<S> {
 }
 
 impl<S: Logged> TableRule<Option<S>, View<S::Entry, S::Root>, Opening<S>> for OneTurn<S> {
-    ghost holds = { λ key. Kept S.owner S.root S.entries (S.root key.state.value) key.count };
+    ghost holds = { λ key. Kept S.owner S.root S.entries S.spent (S.root key.state.value) key.count };
 
     ghost first = { λ key. opened (S.root key.state.value) key.count };
 }
@@ -33,7 +33,7 @@ pub(crate) struct Claim<S> {
 }
 
 impl<S: Logged> Play<Option<S>, View<S::Entry, S::Root>> for Claim<S> {
-    ghost then = { claimed S.owner S.root S.entries };
+    ghost then = { claimed S.owner S.root S.entries S.spent };
 }
 
 /// The release of the turn.
@@ -42,7 +42,7 @@ pub(crate) struct Release<S> {
 }
 
 impl<S: Logged> Play<Option<S>, View<S::Entry, S::Root>> for Release<S> {
-    ghost then = { released S.owner S.root S.entries };
+    ghost then = { released S.owner S.root S.entries S.spent };
 }
 
 /// A new seat, which knows nothing.

@@ -1,8 +1,8 @@
 //! One turn between threads, and the state that goes with it.
 
-ghost use Rattle.std.specs.Prelude.{◌≡◌, ℕ, ◌<◌, ◌≤◌, ◌++◌, true, false, [], Some, IsSome, All, Any, IfSome, IfNone, IfOk, IfErr, map};
+ghost use Rattle.std.specs.Prelude.{◌≡◌, ℕ, ◌<◌, ◌≤◌, ◌++◌, true, false, List, [], Some, IsSome, All, Any, IfSome, IfNone, IfOk, IfErr, map};
 ghost use Rattle.std.specs.List.{range_with_len};
-ghost use Rattle.ug_turnstile.specs.Passes.{mine, fresh_pass, Adds, IsSamePass, Agrees, Takes};
+ghost use Rattle.ug_turnstile.specs.Passes.{mine, fresh_pass, Adds, IsSamePass, Agrees, IsToldBy, Takes};
 ghost use Rattle.ug_turnstile.specs.Rule.{view, opened, pass_of};
 
 use crate::bell::Bell;
@@ -73,7 +73,8 @@ impl<S: Logged> Turnstile<S> {
     }
 
     /// Waits for the turn, and takes it. The state has the pass's root, and its entries, which are now all that the pass
-    /// has seen, begin with those that it had seen; of its own there are just those that it knew.
+    /// has seen, begin with those that it had seen; of its own there are just those that it knew. A state that it saw spent
+    /// is so still.
     pub fn take<R: Wait>(&self, rt: &R, pass: &mut Pass<S>) -> Turn<S>
         requires here { pass.old.turnstile ≡ self.now.id }
         requires free { pass.old.holds ≡ false }
@@ -81,6 +82,8 @@ impl<S: Logged> Turnstile<S> {
         ensures holds { pass.new.holds ≡ true }
         ensures seen { pass.new.seen ≡ S.entries result }
         ensures agrees { Agrees S.owner (S.root result) (S.entries result) pass.old }
+        ensures spent { pass.new.spent ≡ S.spent result }
+        ensures stays_spent { pass.old.spent ≡ true → S.spent result ≡ true }
         ensures mine { mine S.owner pass.new ≡ mine S.owner pass.old }
     {
         let backoff = Backoff::new();
@@ -99,9 +102,11 @@ impl<S: Logged> Turnstile<S> {
         requires holds { pass.old.holds ≡ true }
         requires root { pass.old.root ≡ Some (S.root turn) }
         requires adds { Adds S.owner pass.old.number pass.old.seen (S.entries turn) }
+        requires stays_spent { pass.old.spent ≡ true → S.spent turn ≡ true }
         ensures same { IsSamePass pass.old pass.new }
         ensures free { pass.new.holds ≡ false }
         ensures seen { pass.new.seen ≡ S.entries turn }
+        ensures spent { pass.new.spent ≡ S.spent turn }
         ensures mine { (added : _) → S.entries turn ≡ pass.old.seen ++ added → mine S.owner pass.new ≡ mine S.owner pass.old ++ added }
     {
         let Turn { state } = turn;
@@ -129,13 +134,16 @@ impl<S: Logged> Turnstile<S> {
         }
     }
 
-    /// The state, once every pass is back. It is as each pass says, and each entry is of one of these passes.
+    /// The state, once every pass is back. It is as each pass says, and each entry is of one of these passes: no other entries
+    /// are told so.
     pub fn close(self, passes: PassList<S>) -> S
         requires here { All (λ p. p.turnstile ≡ self.id) passes.items }
         requires free { All (λ p. p.holds ≡ false) passes.items }
         requires whole { (number : ℕ) → number < self.count → Any (λ p. p.number ≡ number) passes.items }
         ensures agrees { All (Agrees S.owner (S.root result) (S.entries result)) passes.items }
+        ensures spent { All (λ p. p.spent ≡ true → S.spent result ≡ true) passes.items }
         ensures owned { All (λ e. Any (λ p. p.number ≡ S.owner e) passes.items) (S.entries result) }
+        ensures only { (other : List S.Entry) → IsToldBy S.owner (S.root result) other passes.items → other ≡ S.entries result }
     {
         let Turnstile { table, .. } = self;
         let base = gather(&table.shared, passes);
@@ -151,7 +159,7 @@ impl<S: Logged> Turnstile<S> {
     fn claim(&self, pass: &mut Pass<S>) -> Option<Turn<S>>
         requires here { pass.old.turnstile ≡ self.now.id }
         requires free { pass.old.holds ≡ false }
-        ensures some { IfSome result (λ turn. Takes S.owner (S.root turn) (S.entries turn) pass.old pass.new) }
+        ensures some { IfSome result (λ turn. Takes S.owner (S.root turn) (S.entries turn) (S.spent turn) pass.old pass.new) }
         ensures none { IfNone result (pass.new ≡ pass.old) }
     {
         let word = pass.number as u64 + 1;
@@ -172,9 +180,11 @@ impl<S: Logged> Turnstile<S> {
         requires holds { pass.old.holds ≡ true }
         requires root { pass.old.root ≡ Some (S.root state) }
         requires adds { Adds S.owner pass.old.number pass.old.seen (S.entries state) }
+        requires stays_spent { pass.old.spent ≡ true → S.spent state ≡ true }
         ensures same { IsSamePass pass.old pass.new }
         ensures free { pass.new.holds ≡ false }
         ensures seen { pass.new.seen ≡ S.entries state }
+        ensures spent { pass.new.spent ≡ S.spent state }
     {
         let emptied = self.table.shared.exchange(&mut pass.seat, 0, Some(state));
         let None = emptied else { unreachable!() };

@@ -2,11 +2,12 @@
 
 use std::collections::LinkedList;
 
-/// What one pass knows: the root of the state, and the entries that it has seen.
+/// What one pass knows: the root of the state, the entries that it has seen, and whether the state was spent then.
 pub struct Part<E, R> {
     pub number: u32,
     pub root: R,
     pub seen: LinkedList<E>,
+    pub spent: bool,
 }
 
 /// The parts of all passes that lie in one seat, and whether the seat holds the turn.

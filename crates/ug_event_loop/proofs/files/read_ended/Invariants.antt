@@ -4,6 +4,7 @@ use Rattle.ug_pieces.specs.Pieces.{HasRead}
 use Rattle.ug_pieces.specs.LineSteps.{HasTakenLines}
 use Rattle.ug_event_loop.specs.Counts.{least_at, most_at, RisesBy, RisesWithin}
 use Rattle.ug_event_loop.specs.Standing.{IsSameBuilder, TakesLines}
+use Rattle.ug_sender.specs.Posts.{posts_of}
 use Rattle.ug_event_loop.proofs.files.read_ended.Given as goal
 
 abbrev pub invariant-loop-count : goal.invariant-loop-count
@@ -14,7 +15,7 @@ invariant-loop-count g l = record {
   within : l.total ≤ l.limit;
   room : vec_len l.buffer ≡ 65536;
   same : IsSameBuilder l.fn.builder l.builder;
-  posts : l.crew ≡ l.fn.crew;
+  posts : posts_of l.crew ≡ posts_of l.fn.crew;
   writes : g.K.Sink.faults l.fn.report ≤ g.K.Sink.faults l.report;
   least : RisesBy l.fn.steps l.steps (least_at g.S.Machine.rules l.fn.builder.pass.root l.fn.builder.pass.seen) (least_at g.S.Machine.rules l.fn.builder.pass.root l.builder.pass.seen);
   most : RisesWithin l.fn.steps l.steps (most_at g.S.Machine.rules l.fn.builder.pass.root l.fn.builder.pass.seen) (most_at g.S.Machine.rules l.fn.builder.pass.root l.builder.pass.seen);

@@ -6,6 +6,7 @@ use Rattle.ug_event_loop.specs.Reading.{first_of}
 use Rattle.ug_event_loop.proofs.Turning.{goes_further}
 use Rattle.ug_event_loop.proofs.Counting.{least-further, most-further}
 use Rattle.ug_event_loop.proofs.Builders.{builder-still}
+use Rattle.ug_event_loop.proofs.Passes.{ended-closed}
 use Rattle.ug_event_loop.proofs.Readings.{has-read, starved-last, ends-still}
 use Rattle.ug_event_loop.proofs.reading.run.Goals as goal
 
@@ -22,6 +23,7 @@ returns-in-Ok-conclude-clause-ended g c = record {
         c.in-Ok-conclude.ensures.ended,
       ))
       (c.in-Ok.ensures.taken stands);
+  closed = ended-closed g.S.Machine.rules g.S.Speaker.speech c.conclude.new.self.pass.spent c.conclude.new.self.pass.root c.conclude.new.self.pass.seen c.in-Ok-conclude.ensures.ended;
   unharmed = λ other. c.in-Ok.ensures.unharmed (λ is. cc);
   reads = c.take_all.ensures.faults;
   writes = c.take_all.ensures.writes;
@@ -46,6 +48,7 @@ returns-in-Err-conclude-clause-ended g c =
           (record { left = g.E.Source.left c.take_all.new.source; reads_failed = g.E.Source.faults c.take_all.new.source; held = g.K.Sink.held c.take_all.new.report; writes_failed = g.K.Sink.faults c.take_all.new.report; steps = c.break_off.new.steps })
           read same goes c.break_off.ensures.legal so.0 so.2)
           (c.in-Ok.ensures.taken stands);
+      closed = c.break_off.ensures.closed;
       unharmed = λ other. c.in-Ok.ensures.unharmed (λ is. cc);
       reads = c.take_all.ensures.faults;
       writes = c.take_all.ensures.writes;
@@ -68,6 +71,7 @@ returns-in-Err-clause-ended g c =
           (record { left = g.E.Source.left c.take_all.new.source; reads_failed = g.E.Source.faults c.take_all.new.source; held = g.K.Sink.held c.take_all.new.report; writes_failed = g.K.Sink.faults c.take_all.new.report; steps = c.take_all.new.steps }) c.break_off-in-Err.new.steps
           c.in-Err.end read (λ is. c.in-Err.ensures.incomplete (ap Err is)) c.break_off-in-Err.ensures.same c.break_off-in-Err.ensures.tally c.break_off-in-Err.ensures.history c.break_off-in-Err.ensures.legal so)
           (c.in-Err.ensures.halted stands);
+      closed = c.break_off-in-Err.ensures.closed;
       unharmed = λ other. c.in-Err.ensures.unharmed (λ is. other cc);
       reads = c.take_all.ensures.faults;
       writes = c.take_all.ensures.writes;

@@ -1,6 +1,7 @@
 use Rattle.std.proofs.Common.{◌≡◌, false, ◌+◌, ◌<◌, [], ◌∷◌, ◌++◌, length, map, All, Any, sym, ◌∙◌, ap, subst, arith}
 use Rattle.std.proofs.lemmas.List.Elements.{All-push}
-use Rattle.ug_run.proofs.Histories.{passes_here, passes_free, passes_whole, history_of}
+use Rattle.ug_turnstile.specs.Passes.{Agrees}
+use Rattle.ug_run.proofs.Histories.{passes_here, passes_free, passes_whole, last_of_all, history_of, told_by}
 use Rattle.ug_run.proofs.closing.close.Goals as goal
 
 pub close-requires-clause-here : goal.close-requires-clause-here
@@ -30,3 +31,12 @@ returns-clause-history g c =
     let whole = c.put.ensures.items ∙ ap (λ ps. ps ++ c.args.builder ∷ []) c.part-unnoted.ensures.passes in
     history_of g.S.Machine.rules c.args.turnstile.id c.args.builder c.args.lanes.items c.close.result.opening c.close.result.history c.into_history-history.result.items c.put.new.list.items
     c.requires.posts c.requires.number whole c.into_history-history.ensures.history c.into_history-history.ensures.legal c.close.ensures.agrees c.close.ensures.owned
+
+pub returns-clause-only : goal.returns-clause-only
+returns-clause-only g c other hist =
+    let whole = c.put.ensures.items ∙ ap (λ ps. ps ++ c.args.builder ∷ []) c.part-unnoted.ensures.passes in
+    let agrees = subst (λ ps. All (Agrees (λ entry. entry.pass) c.close.result.opening c.close.result.history) ps) whole c.close.ensures.agrees in
+    let root = (last_of_all (Agrees (λ entry. entry.pass) c.close.result.opening c.close.result.history) (map (λ lane. lane.pass) c.args.lanes.items) c.args.builder agrees).0 in
+    c.close.ensures.only other
+    (told_by g.S.Machine.rules c.args.turnstile.id c.args.builder c.args.lanes.items c.close.result.opening other c.put.new.list.items c.requires.posts c.requires.number whole root hist)
+    ∙ sym c.into_history-history.ensures.history

@@ -7,7 +7,7 @@ use Rattle.ug_event_loop.specs.declared.reading.End.TheVariants as ends
 use Rattle.ug_run.specs.Lanes.{AreAtPosts, fresh_lanes}
 use Rattle.ug_run.proofs.LaneLaws.{lanes_many, lanes_for}
 use Rattle.ug_report.specs.Statuses.{row_of}
-use Rattle.ug_run.proofs.Homing.{same-many, same-for, fresh-at, back-at, here-at, root-is, first-sound, finished-read, finished-unread, finished-report, finished-made, finished-whole, read-same, read-faults, read-ended, start-stands, read-rose, report-rose, whole-ended, rose-sooner, came-home, counted-home}
+use Rattle.ug_run.proofs.Homing.{same-many, same-for, fresh-at, back-at, here-at, root-is, first-sound, finished-read, finished-unread, finished-report, finished-made, finished-whole, read-same, read-faults, read-ended, start-stands, read-rose, report-rose, whole-ended, rose-sooner, came-home, counted-home, paced}
 use Rattle.ug_run.proofs.course.run_begun.Goals as goal
 
 pub read_lines-lanes-requires-clause-lanes : goal.read_lines-lanes-requires-clause-lanes
@@ -68,7 +68,7 @@ returns-clause-done g c = λ w events opens is names_is peers_is alike picked st
     let ended = read-ended g.S.Machine.rules g.S.Speaker.speech (first_of c.args.start.first) old new o o' c.read_lines-lanes.new.reading.end c.in-Some.end c.in-Some.is c.read_lines-lanes.ensures.ended in
     came-home g.S.Machine.rules g.S.Speaker.speech machine.lawful speaker.speaks g.E.Wire.Wire.sessions g.E.Wire.Wire.begun g.E.Wire.Wire.faults g.E.Wire.Wire.made_for w opens
     c.args.begun.turnstile c.args.begun.builder c.args.begun.passes.items c.args.start.wires.items is c.requires.alike alike
-    (first_of c.args.start.first) (first-sound c.args.start.first c.requires.form) c.args.start.names.items names_is c.args.start.grammar
+    (first_of c.args.start.first) (first-sound c.args.start.first c.requires.form) c.args.start.names.items names_is c.args.start.grammar c.args.start.coalesce
     old new c.new.ensures o o' c.in-Some.end ended
     c.read_lines-lanes.result.items (c.read_lines-lanes.ensures.posts ∙ ap posts c.man-lanes.ensures) c.into_parts-pass.result.0 c.into_parts-pass.ensures.pass
     c.close-history.result.history.items c.close-history.ensures.history c.close-history.ensures.kept c.close-history.result.unnoted c.close-history.ensures.unnoted
@@ -101,7 +101,7 @@ returns-clause-read g c = λ is.
     let ended = read-ended g.S.Machine.rules g.S.Speaker.speech (first_of c.args.start.first) old new o o' c.read_lines-lanes.new.reading.end c.in-Some.end c.in-Some.is c.read_lines-lanes.ensures.ended in
     let start = c.requires.begun.1 in
     let root = root-is g.E.Wire.Wire.made_for g.S.Speaker.speech c.requires.begun.0 begun.turnstile begun.builder begun.passes.items c.args.start.wires.items start in
-    let done = ended.ended (start-stands g.S.Machine.rules g.S.Speaker.speech old begun.builder start.root c.args.start.names.items c.args.start.grammar o.held c.new.ensures root (ap (λ p. p.seen) start.head)) in
+    let done = ended.ended (start-stands g.S.Machine.rules g.S.Speaker.speech old begun.builder start.root c.args.start.names.items c.args.start.grammar c.args.start.coalesce o.held c.new.ensures root (ap (λ p. p.seen) start.head)) in
     finished-read _ _ _ _ _ _ _ _ c.in-Some.end c.close-history.result.unnoted c.finish-status.result c.finish-status.ensures.finished
     (read-rose g.S.Machine.rules g.S.Speaker.speech (first_of c.args.start.first) old new o o' done.read c.in-Some.end done.so) is
 
@@ -122,7 +122,7 @@ returns-clause-report g c = λ is.
     let ended = read-ended g.S.Machine.rules g.S.Speaker.speech (first_of c.args.start.first) old new o o' c.read_lines-lanes.new.reading.end c.in-Some.end c.in-Some.is c.read_lines-lanes.ensures.ended in
     let start = c.requires.begun.1 in
     let root = root-is g.E.Wire.Wire.made_for g.S.Speaker.speech c.requires.begun.0 begun.turnstile begun.builder begun.passes.items c.args.start.wires.items start in
-    let done = ended.ended (start-stands g.S.Machine.rules g.S.Speaker.speech old begun.builder start.root c.args.start.names.items c.args.start.grammar o.held c.new.ensures root (ap (λ p. p.seen) start.head)) in
+    let done = ended.ended (start-stands g.S.Machine.rules g.S.Speaker.speech old begun.builder start.root c.args.start.names.items c.args.start.grammar c.args.start.coalesce o.held c.new.ensures root (ap (λ p. p.seen) start.head)) in
     finished-report _ _ _ _ _ _ _ _ c.in-Some.end c.close-history.result.unnoted c.finish-status.result c.finish-status.ensures.finished
     (λ e. rose-sooner _ _ _ (report-rose g.S.Machine.rules g.S.Speaker.speech (first_of c.args.start.first) old new o o' done.read c.in-Some.end done.so e) c.finish-status.ensures.faults)
     (λ rose. Rose-later _ _ _ ended.writes c.finish-status.ensures.faults rose) is
@@ -140,7 +140,7 @@ returns-clause-ended g c = λ is.
     let ended = read-ended g.S.Machine.rules g.S.Speaker.speech (first_of c.args.start.first) old new o o' c.read_lines-lanes.new.reading.end c.in-Some.end c.in-Some.is c.read_lines-lanes.ensures.ended in
     let start = c.requires.begun.1 in
     let root = root-is g.E.Wire.Wire.made_for g.S.Speaker.speech c.requires.begun.0 begun.turnstile begun.builder begun.passes.items c.args.start.wires.items start in
-    let done = ended.ended (start-stands g.S.Machine.rules g.S.Speaker.speech old begun.builder start.root c.args.start.names.items c.args.start.grammar o.held c.new.ensures root (ap (λ p. p.seen) start.head)) in
+    let done = ended.ended (start-stands g.S.Machine.rules g.S.Speaker.speech old begun.builder start.root c.args.start.names.items c.args.start.grammar c.args.start.coalesce o.held c.new.ensures root (ap (λ p. p.seen) start.head)) in
     finished-whole _ _ _ _ _ _ _ _ c.in-Some.end c.close-history.result.unnoted c.finish-status.result c.finish-status.ensures.finished
     (whole-ended g.S.Machine.rules g.S.Speaker.speech (first_of c.args.start.first) old new o o' done.read c.in-Some.end done.so) is
 
@@ -157,7 +157,11 @@ returns-clause-counted g c = λ w is.
     let ended = read-ended g.S.Machine.rules g.S.Speaker.speech (first_of c.args.start.first) old new o o' c.read_lines-lanes.new.reading.end c.in-Some.end c.in-Some.is c.read_lines-lanes.ensures.ended in
     counted-home g.S.Machine.rules g.S.Speaker.speech (g.met.S.Machine g.world.𝓛 g.world.𝓜 g.world.𝓡 ((λ s x. x), (λ x. x), (λ x. x), λ x. x)).lawful
     (g.met.S.Speaker g.world.𝓛 g.world.𝓜 g.world.𝓡 ((λ s x. x), (λ x. x), (λ x. x), λ x. x)).speaks g.E.Wire.Wire.sessions g.E.Wire.Wire.begun g.E.Wire.Wire.faults g.E.Wire.Wire.made_for
-    w c.args.begun.turnstile c.args.begun.builder c.args.begun.passes.items c.args.start.wires.items is c.args.start.names.items c.args.start.grammar old new c.new.ensures
+    w c.args.begun.turnstile c.args.begun.builder c.args.begun.passes.items c.args.start.wires.items is c.args.start.names.items c.args.start.grammar c.args.start.coalesce old new c.new.ensures
     (first_of c.args.start.first) o o' c.in-Some.end ended c.read_lines-lanes.result.items c.into_parts-pass.result.0 c.into_parts-pass.ensures.pass
     c.close-history.result.history.items c.close-history.ensures.history (row_of c.finish-status.result).completed
     (λ done. finished-whole _ _ _ _ _ _ _ (c.in-Some.end ≡ ends.Complete) c.in-Some.end c.close-history.result.unnoted c.finish-status.result c.finish-status.ensures.finished (λ is'. is') done)
+
+pub new-requires-clause-coalesce : goal.new-requires-clause-coalesce
+new-requires-clause-coalesce g c κs within =
+    paced g.S.Speaker.speech c.requires.begun.0 c.args.begun.turnstile c.args.begun.builder c.args.begun.passes.items c.args.start.coalesce c.requires.begun.1 c.requires.begun.3

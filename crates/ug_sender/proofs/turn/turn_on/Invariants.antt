@@ -8,6 +8,7 @@ use Rattle.ug_sender.proofs.turn.turn_on.Given as goal
 abbrev pub invariant-loop-packets : goal.invariant-loop-packets
 invariant-loop-packets g l =
     (l.packets ≤ 8192) × (l.filled ≤ length l.buf) × (l.board.opening ≡ l.fn.board.opening)
+    × (l.board.spent ≡ l.fn.board.spent)
     × Adds (λ entry. entry.pass) l.number l.fn.board.history l.board.history
     × AreOfPeer l.peer l.number l.board.history
     × HasTaken l.latest l.packets l.filled l.buf (deeds_at g.M.Machine.rules (Some l.fn.board.opening) l.number l.fn.board.history)

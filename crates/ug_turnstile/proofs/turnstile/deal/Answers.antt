@@ -12,7 +12,7 @@ split_seat-seat-requires g c =
     let me = c.loop-number.invariant.2 ∙ ap (λ ps. (view false ps, [])) (fresh_next g.row.S-Entry.Denot root i c.args.n c.loop-number-test.true) in (
       c.loop-number.invariant.1,
       c.requires.words,
-      rw me (splits g.S.Logged.owner g.S.Logged.root g.S.Logged.entries root c.args.shared.now.key.count (part i root []) (fresh_parts root (i + 1) (c.args.n - (i + 1))) c.loop-number.base.id (fresh_apart g.row.S-Entry.Denot root i (i + 1) (c.args.n - (i + 1)) (omega arith))),
+      rw me (splits g.S.Logged.owner g.S.Logged.root g.S.Logged.entries g.S.Logged.spent root c.args.shared.now.key.count (part i root [] false) (fresh_parts root (i + 1) (c.args.n - (i + 1))) c.loop-number.base.id (fresh_apart g.row.S-Entry.Denot root i (i + 1) (c.args.n - (i + 1)) (omega arith))),
     )
 
 pub invariant_of-push : goal.invariant_of-push
@@ -21,7 +21,7 @@ invariant_of-push g c =
     let i = c.loop-number.number in
     let me = c.loop-number.invariant.2 ∙ ap (λ ps. (view false ps, [])) (fresh_next g.row.S-Entry.Denot root i c.args.n c.loop-number-test.true) in
     let new = c.split_seat-seat.ensures.4 ∙ ap (λ m. (view false (first_part m.0.parts), [])) me in
-    (part i root [], refl, rw new refl)
+    (part i root [] false, refl, rw new refl)
 
 pub loop-number-preserved : goal.loop-number-preserved
 loop-number-preserved g c =

@@ -8,7 +8,7 @@ use Rattle.ug_turnstile.proofs.turnstile.gather.Goals as goal
 pub load_new_seat-base-requires : goal.load_new_seat-base-requires
 load_new_seat-base-requires g c = (
   c.requires.words,
-  λ s kept slots small. (view false [], arrives g.S.Logged.owner g.S.Logged.root g.S.Logged.entries (g.S.Logged.root c.args.shared.now.key.state.value) c.args.shared.now.key.count s kept, refl),
+  λ s kept slots small. (view false [], arrives g.S.Logged.owner g.S.Logged.root g.S.Logged.entries g.S.Logged.spent (g.S.Logged.root c.args.shared.now.key.state.value) c.args.shared.now.key.count s kept, refl),
 )
 
 pub join_seat-requires : goal.join_seat-requires
@@ -24,7 +24,7 @@ join_seat-requires g c =
       here,
       ap (λ m. m.1) me,
       c.requires.words,
-      rw (c.loop-pass.invariant.1, me) (joins g.S.Logged.owner g.S.Logged.root g.S.Logged.entries (g.S.Logged.root c.args.shared.now.key.state.value) c.args.shared.now.key.count c.loop-pass.base.me.0.parts (p ∷ []) c.loop-pass.base.id c.pass.inside.seat.id),
+      rw (c.loop-pass.invariant.1, me) (joins g.S.Logged.owner g.S.Logged.root g.S.Logged.entries g.S.Logged.spent (g.S.Logged.root c.args.shared.now.key.state.value) c.args.shared.now.key.count c.loop-pass.base.me.0.parts (p ∷ []) c.loop-pass.base.id c.pass.inside.seat.id),
     )
 
 pub loop-pass-preserved : goal.loop-pass-preserved

@@ -28,6 +28,6 @@ returns-clause-taken g c =
     let laws = g.met.S.Speaker g.world.𝓛 g.world.𝓜 g.world.𝓡 ((λ s x. x), (λ x. x), (λ x. x), λ x. x) in
     builder-takes g.S.Machine.rules g.S.Speaker.speech laws.speaks.steps c.args.self.now c.come.new.self (g.K.Sink.held c.args.report.now) c.args.line.now c.in-Ok.came c.come.ensures.same
     c.in-Ok.ensures.answers c.come.ensures.legal
-    c.come.new.self.names c.self.inside.tally c.in-Some.tally (record { pass = c.self.inside.pass; names = c.self.inside.names.items; grammar = c.self.inside.grammar; tally = c.in-Some.tally }) (g.K.Sink.held c.tell.new.report) c.come.ensures.same.names (ap (λ b. b.tally) c.self.view_is ∙ c.come.ensures.tally)
+    c.come.new.self.names c.self.inside.tally c.in-Some.tally (record { pass = c.self.inside.pass; names = c.self.inside.names.items; grammar = c.self.inside.grammar; coalesce = c.self.inside.coalesce; tally = c.in-Some.tally }) (g.K.Sink.held c.tell.new.report) c.come.ensures.same.names (ap (λ b. b.tally) c.self.view_is ∙ c.come.ensures.tally)
     c.in-Some.ensures.lines (ap (λ b. b.pass) c.self.view_is) (ap (λ b. b.names) c.self.view_is ∙ c.come.ensures.same.names)
     c.in-Ok-tell.ensures.ok refl c.in-Some.ensures.accepted c.in-Some.ensures.refused

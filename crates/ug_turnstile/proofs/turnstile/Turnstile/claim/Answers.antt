@@ -14,7 +14,7 @@ compare_exchange-found-requires g c =
     let words = c.self.invariant.0 in (
       ap (λ h. h.turnstile) c.pass.view_is ∙ (c.requires.here ∙ sym (ap (λ t. t.id) c.self.view_is)),
       omega arith,
-      rw (me, c.self.invariant.1, ← inv.1) (claims g.S.Logged.owner g.S.Logged.root g.S.Logged.entries (g.S.Logged.root c.self.inside.table.shared.key.state.value) c.self.inside.table.shared.key.count p c.pass.inside.seat.id),
+      rw (me, c.self.invariant.1, ← inv.1) (claims g.S.Logged.owner g.S.Logged.root g.S.Logged.entries g.S.Logged.spent (g.S.Logged.root c.self.inside.table.shared.key.state.value) c.self.inside.table.shared.key.count p c.pass.inside.seat.id),
     )
 
 pub invariant_of-pass : goal.invariant_of-pass
@@ -44,6 +44,6 @@ invariant_of-pass-2 g c =
     let inv = c.pass.invariant in
     let p = inv.0 in
     let told = c.compare_exchange-found.ensures.2.0 c.if-found-ne0.false in
-    let me = told.1 ∙ ap (λ m. (view true (map (saw (g.S.Logged.entries told.0)) m.0.parts), (0, Some told.0) ∷ [])) inv.2 in
+    let me = told.1 ∙ ap (λ m. (view true (map (saw (g.S.Logged.entries told.0) (g.S.Logged.spent told.0)) m.0.parts), (0, Some told.0) ∷ [])) inv.2 in
     let after = c.exchange.ensures.3 ∙ ap (λ m. (m.0, (0, None) ∷ rest m.1)) me in
-    (saw (g.S.Logged.entries told.0) p, inv.1, rw after refl)
+    (saw (g.S.Logged.entries told.0) (g.S.Logged.spent told.0) p, inv.1, rw after refl)
