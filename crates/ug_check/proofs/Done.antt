@@ -12,9 +12,9 @@ use Rattle.ug_types.specs.declared.capabilities.Capabilities.{Capabilities}
 use Rattle.ug_update.specs.Readers.{ReaderState}
 use Rattle.ug_receiver.specs.Rows.{Rows}
 use Rattle.ug_types.specs.Orders.{key_cmp}
-use Rattle.ug_check.specs.Decoded.{row_texts, totals_text}
+use Rattle.ug_check.specs.Decoded.{row_texts, totals_text, LeavesRows}
 use Rattle.ug_check.specs.Checks.{IsDone}
-use Rattle.ug_check.specs.Checkers.{HasReadAll}
+use Rattle.ug_check.specs.Checkers.{HasReadAll, IsSettled}
 use Rattle.ug_check.proofs.Streams.{settled_stream}
 
 -- the derived order of keys is theirs
@@ -66,3 +66,17 @@ pub done : (left now : Option (List ℕ)) (session : Capabilities) (r : ReaderSt
     → r.session ≡ session → IsStrictlySortedBy key_ord.ghosts.cmp (keys_of t.rows) → HasReadAll left now r t messages eors
     → reported (row_texts t.rows ++ totals_text messages eors (length t.rows) (length r.left) ∷ []) → IsDone session left now reported
 done left now session r t messages eors reported same ascending h report = subst (λ (c : Capabilities). IsDone c left now reported) same (done_in left now r t messages eors reported ascending h report)
+
+-- a stream that is there whole
+pub rows_left : (session : Capabilities) (stream : List ℕ) (r : ReaderState) (t : Rows) (messages eors : ℕ) → r.session ≡ session → IsStrictlySortedBy key_ord.ghosts.cmp (keys_of t.rows)
+    → IsSettled r t messages eors stream → LeavesRows session stream (length t.rows)
+rows_left session stream r t messages eors same ascending h =
+    let k = h.checked in
+    subst (λ (c : Capabilities). LeavesRows c stream (length t.rows)) same (record {
+      texts = k.texts;
+      messages = k.given;
+      rest = r.left;
+      rows = t.rows;
+      decoded = record { read = settled_stream r t messages eors stream h; spelled = k.spelled; parts = k.parts; table = record { ascending = in_order (keys_of t.rows) ascending; each = k.rows } };
+      many = refl;
+    })

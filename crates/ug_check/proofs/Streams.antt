@@ -12,6 +12,21 @@ use Rattle.ug_check.specs.Checkers.{HasChecked, IsSettled, IsBehind, HasReadAll,
 use Rattle.ug_check.specs.declared.stop.Stop.{Stop}
 use Rattle.ug_check.specs.declared.stop.Stop.TheVariants as stops
 
+-- a checker before any byte
+pub fresh_checked : (session : Capabilities) (r : ReaderState) (t : Rows) (messages eors : ℕ) → r ≡ new_reader session → t ≡ no_rows → messages ≡ 0 → eors ≡ 0 → HasChecked r t messages eors []
+fresh_checked session r t messages eors reader table none zero =
+    subst (λ (x : ReaderState). HasChecked x t messages eors []) (sym reader) (subst (λ (x : Rows). HasChecked (new_reader session) x messages eors []) (sym table) (record {
+      given = [];
+      texts = [];
+      read = record { whole = []; are_spelled = refl; parts = refl; taken = refl };
+      spelled = tt;
+      parts = refl;
+      rows = λ key. refl;
+      stale = λ key. refl;
+      messages_are = none;
+      eors_are = zero;
+    }))
+
 pub begins : (left : Option (List ℕ)) (session : Capabilities) (r : ReaderState) (t : Rows) (messages eors : ℕ) → r ≡ new_reader session → t ≡ no_rows → messages ≡ 0 → eors ≡ 0 → IsBehind 0 left left r t messages eors
 begins left session r t messages eors reader table none zero =
     subst (λ (x : ReaderState). IsBehind 0 left left x t messages eors) (sym reader) (subst (λ (x : Rows). IsBehind 0 left left (new_reader session) x messages eors) (sym table) (record {

@@ -52,3 +52,12 @@ row_texts rows = map (λ (row : Key × Attributes). row_text row.0 row.1) rows
 -- the report on a stream of such a session, line by line
 abbrev pub check_lines : Family → List (List ℕ) → List Message → List ℕ → List (Key × Attributes) → List (List ℕ)
 check_lines family texts messages rest rows = row_texts rows ++ totals_text (length messages) (end_of_rib_texts family texts) (length rows) (length rest) ∷ []
+
+-- The stream is decoded, and the table that it leaves has so many rows.
+pub record LeavesRows (session : Capabilities) (stream : List ℕ) (count : ℕ) : Type 0 where
+  pub texts : List (List ℕ)
+  pub messages : List Message
+  pub rest : List ℕ
+  pub rows : List (Key × Attributes)
+  pub decoded : IsDecoded session stream texts messages rest rows
+  pub many : length rows ≡ count

@@ -3,9 +3,11 @@
 
 mod checker;
 mod checking;
+mod counting;
 mod report;
 mod stop;
 mod stream;
 
 pub use checking::check;
+pub use counting::count_rows;
 pub use stop::Stop;

@@ -2,7 +2,7 @@
 use Rattle.std.specs.Prelude.{ℕ, List, Option}
 use Rattle.std.specs.Borrow.{Bor}
 use Rattle.std.specs.Option.{option_map}
-use Rattle.ug_command_line.specs.Words.{SoFar, Command, One, Run, Check, Groups}
+use Rattle.ug_command_line.specs.Words.{SoFar, Command, One, Run, Check, Groups, SelfRun}
 use Rattle.ug_command_line.specs.declared.so_far.WordsSoFar.{WordsSoFar}
 use Rattle.ug_command_line.specs.declared.command.Command as commands
 use Rattle.ug_command_line.specs.declared.command.Command.TheVariants as command
@@ -28,6 +28,7 @@ seen (command.One c) = One (record { events = c.events.now; dir = c.dir.now })
 seen (command.Run c) = Run (record { config = c.config.now; events = c.events.now; dir = c.dir.now; apart = c.apart })
 seen (command.Check c) = Check (record { session = c.session; stream = c.stream.now })
 seen (command.Groups c) = Groups (record { config = c.config.now })
+seen (command.SelfRun c) = SelfRun (record { number = c.number })
 
 abbrev pub command_seen : Option commands.Command → Option Command
 command_seen c = option_map seen c

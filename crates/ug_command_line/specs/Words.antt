@@ -4,6 +4,7 @@ use Rattle.std.specs.Prelude.{ℕ, nat_lt, ◌==◌, Bool, true, false, not, ◌
 use Rattle.ug_types.specs.declared.capabilities.Capabilities.{Capabilities}
 use Rattle.ug_types.specs.declared.family.Family.TheVariants.{V4, V6}
 use Rattle.ug_types.specs.Bytes.{same_bytes}
+use Rattle.ug_text.specs.Numbers.{number}
 use Rattle.ug_command_line.specs.declared.verb.Verb.{Verb}
 use Rattle.ug_command_line.specs.declared.verb.Verb.TheVariants as verbs
 
@@ -14,6 +15,7 @@ verb_of word =
     else if same_bytes word (codes "run") then Some verbs.Run
     else if same_bytes word (codes "check") then Some verbs.Check
     else if same_bytes word (codes "groups") then Some verbs.Groups
+    else if same_bytes word (codes "selfrun") then Some verbs.SelfRun
     else None
 
 abbrev begins_with_dash : List ℕ → Bool
@@ -70,6 +72,7 @@ with_option verbs.One word s = None
 with_option verbs.Run word s = with_run_option word s
 with_option verbs.Check word s = with_check_option word s
 with_option verbs.Groups word s = None
+with_option verbs.SelfRun word s = None
 
 -- the value of `--workers`
 abbrev pub with_value : List ℕ → SoFar → Option SoFar
@@ -112,11 +115,16 @@ pub record CheckCommand : Type 0 where
 pub record GroupsCommand : Type 0 where
   pub config : List ℕ
 
+-- `selfrun NUMBER`
+pub record SelfRunCommand : Type 0 where
+  pub number : ℕ
+
 pub data Command : Type 0 where
   One : OneCommand → Command
   Run : RunCommand → Command
   Check : CheckCommand → Command
   Groups : GroupsCommand → Command
+  SelfRun : SelfRunCommand → Command
 
 abbrev pub one_by : Option (List ℕ) → Option (List ℕ) → Option (List ℕ) → Option Command
 one_by (Some events) (Some dir) None = Some (One (record { events = events; dir = dir }))
@@ -138,6 +146,18 @@ abbrev pub groups_by : Option (List ℕ) → Option (List ℕ) → Option (List 
 groups_by (Some config) None None = Some (Groups (record { config = config }))
 groups_by _ _ _ = None
 
+-- a number of 1 to 20 decimal digits, below 2^64
+abbrev pub number_of : List ℕ → Option ℕ
+number_of word = number 20 18446744073709551615 word
+
+abbrev pub selfrun_said : Option ℕ → Option Command
+selfrun_said None = None
+selfrun_said (Some number) = Some (SelfRun (record { number = number }))
+
+abbrev pub selfrun_by : Option (List ℕ) → Option (List ℕ) → Option (List ℕ) → Option Command
+selfrun_by (Some word) None None = selfrun_said (number_of word)
+selfrun_by _ _ _ = None
+
 -- the session that the options speak of
 abbrev pub session_said : SoFar → Capabilities
 session_said s = record { family = if s.ipv6 then V6 else V4; add_path = s.add_path; extended = s.extended }
@@ -148,6 +168,7 @@ said_by verbs.One s = one_by s.first s.second s.third
 said_by verbs.Run s = if s.wants_value then None else run_by (is_apart s.workers) s.first s.second s.third
 said_by verbs.Check s = check_by (session_said s) s.first s.second s.third
 said_by verbs.Groups s = groups_by s.first s.second s.third
+said_by verbs.SelfRun s = selfrun_by s.first s.second s.third
 
 abbrev pub command_by : List (List ℕ) → Verb → Option Command
 command_by words verb = option_and_then (said_by verb) (with_words verb words nothing_said)

@@ -3,9 +3,10 @@
 ghost use Rattle.std.specs.Prelude.{◌≡◌, map};
 ghost use Rattle.std.specs.String.{string_bytes};
 ghost use Rattle.std.specs.Option.{option_map};
-ghost use Rattle.ug_command_line.specs.Words.{command_of, said_by, one_by, run_by, check_by, groups_by, is_apart, with_words, nothing_said};
+ghost use Rattle.ug_command_line.specs.Words.{command_of, said_by, one_by, run_by, check_by, groups_by, selfrun_by, is_apart, with_words, nothing_said};
 ghost use Rattle.ug_command_line.specs.Views.{command_seen, so_far_seen, word_seen};
 
+use crate::number::number_of;
 use crate::so_far::WordsSoFar;
 use crate::verb::{Verb, verb_of};
 use ug_types::Capabilities;
@@ -40,6 +41,12 @@ pub struct GroupsWords<'a> {
     pub config: &'a str,
 }
 
+/// `selfrun NUMBER`: the number of the workload.
+#[derive(Drop)]
+pub struct SelfRunWords {
+    pub number: u64,
+}
+
 /// A command.
 #[derive(Drop)]
 pub enum Command<'a> {
@@ -47,6 +54,7 @@ pub enum Command<'a> {
     Run(RunWords<'a>),
     Check(CheckWords<'a>),
     Groups(GroupsWords<'a>),
+    SelfRun(SelfRunWords),
 }
 
 /// The command that the words are, the first of them its name; none where they are no command.
@@ -97,6 +105,7 @@ fn command_said(verb: Verb, said: WordsSoFar<'_>) -> Option<Command<'_>>
         }
         Verb::Check => check(said.session(), said.first, said.second, said.third),
         Verb::Groups => groups(said.first, said.second, said.third),
+        Verb::SelfRun => selfrun(said.first, said.second, said.third),
     }
 }
 
@@ -165,6 +174,22 @@ fn groups<'a>(
 {
     match (first, second, third) {
         (Some(config), None, None) => Some(Command::Groups(GroupsWords { config })),
+        _ => None,
+    }
+}
+
+fn selfrun<'a>(
+    first: Option<&'a str>,
+    second: Option<&'a str>,
+    third: Option<&'a str>,
+) -> Option<Command<'a>>
+    ensures { command_seen result ≡ selfrun_by (word_seen first.entry) (word_seen second.entry) (word_seen third.entry) }
+{
+    match (first, second, third) {
+        (Some(word), None, None) => {
+            let number = number_of(word)?;
+            Some(Command::SelfRun(SelfRunWords { number }))
+        }
         _ => None,
     }
 }

@@ -2,7 +2,10 @@
 #![tactic(auto)]
 
 mod command;
+mod number;
 mod so_far;
 mod verb;
 
-pub use command::{CheckWords, Command, GroupsWords, OneWords, RunWords, read_command};
+pub use command::{
+    CheckWords, Command, GroupsWords, OneWords, RunWords, SelfRunWords, read_command,
+};

@@ -85,7 +85,7 @@ impl<'a> WordsSoFar<'a> {
         ensures { option_map so_far_seen result ≡ with_option verb word.now (so_far_seen self.entry) }
     {
         match verb {
-            Verb::One | Verb::Groups => None,
+            Verb::One | Verb::Groups | Verb::SelfRun => None,
             Verb::Run => self.with_run_option(word),
             Verb::Check => self.with_check_option(word),
         }

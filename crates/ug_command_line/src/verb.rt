@@ -10,6 +10,7 @@ pub(crate) enum Verb {
     Run,
     Check,
     Groups,
+    SelfRun,
 }
 
 /// The command of that name.
@@ -27,6 +28,9 @@ pub(crate) fn verb_of(word: &str) -> Option<Verb>
     }
     if word == "groups" {
         return Some(Verb::Groups);
+    }
+    if word == "selfrun" {
+        return Some(Verb::SelfRun);
     }
     None
 }

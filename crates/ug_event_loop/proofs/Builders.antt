@@ -118,10 +118,10 @@ module _ {Opening State Job Said : Type 0} (rules : Rules Opening State Job Said
   pub builder-admits : (old new : BuilderView Opening Job Said) (pass : Held (Entry Job Said) Opening) (line : Reads Saying) (answer : Answer)
       → IsSamePass old.pass pass → AnswersAt rules speech pass.root line answer old.pass.seen pass.seen → IsLegalAt rules speech pass.root pass.seen
       → new.pass ≡ pass → new.names ≡ old.names → new.tally ≡ old.tally
-      → (held : Option (List ℕ)) → BuilderStands rules speech old [] [] held held → BuilderStands rules speech new (line ∷ []) [] held held
-  builder-admits old new pass line answer same answers legal pass_is names_is tally_is held stands =
-      stands_as new old.pass.root (line ∷ []) [] old.names pass.seen held held old.tally
+      → (first : List (Reads Saying)) (held : Option (List ℕ)) → BuilderStands rules speech old first [] held held → BuilderStands rules speech new (first ++ line ∷ []) [] held held
+  builder-admits old new pass line answer same answers legal pass_is names_is tally_is first held stands =
+      stands_as new old.pass.root (first ++ line ∷ []) [] old.names pass.seen held held old.tally
       (ap (λ (p : Held (Entry Job Said) Opening). p.root) pass_is ∙ same.2) names_is (ap (λ (p : Held (Entry Job Said) Opening). p.seen) pass_is) tally_is
-      (admits rules speech old.pass.root old.names old.pass.seen pass.seen held old.tally line answer
+      (admits rules speech old.pass.root old.names old.pass.seen pass.seen held old.tally line answer first
       (subst (λ (r : Option Opening). AnswersAt rules speech r line answer old.pass.seen pass.seen) same.2 answers)
       (subst (λ (r : Option Opening). IsLegalAt rules speech r pass.seen) same.2 legal) stands)

@@ -1,3 +1,4 @@
+pub mod Admitting
 pub mod Turning
 pub mod Counting
 pub mod Worlds

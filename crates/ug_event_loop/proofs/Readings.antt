@@ -18,7 +18,7 @@ use Rattle.ug_event_loop.specs.Turns.{GoesOn, IsLegalAt, IsClosedAt}
 use Rattle.ug_event_loop.specs.Counts.{least_at, RisesBy}
 use Rattle.ug_event_loop.specs.Standing.{said_by, BuilderView, IsSameBuilder, BuilderStands, BuilderStops, TakesLines, StopsWithin}
 use Rattle.ug_event_loop.specs.Files.{lines_read}
-use Rattle.ug_event_loop.specs.Reading.{Outside, OfLines, LinesHalted, StandsBehind, StopsBefore, EndsAt, HasEnded, end_of}
+use Rattle.ug_event_loop.specs.Reading.{Outside, OfLines, LinesHalted, StandsBehind, StopsBefore, EndsAt, HasEnded, StandsWithin, end_of}
 use Rattle.ug_event_loop.proofs.Builders.{builder-still, builder-stays-stopped, builder-starved}
 
 pub has-read : (left now : Option (List ℕ)) (P Q : List ℕ → Type 0) → ((read : List ℕ) → P read → Q read) → HasRead left now P → HasRead left now Q
@@ -88,7 +88,10 @@ module _ {Opening State Job Said : Type 0} (rules : Rules Opening State Job Said
   ends-still first old mid new o o' after ends.NoMemory read incomplete same tally goes legal (inl h) =
       inl (begun-so o'.left read _ _ (λ lines. builder-stays-stopped rules speech stops.NoMemory mid new same goes legal first (map (said_by old.grammar) lines) o.held o'.held) h)
   ends-still first old mid new o o' after ends.NoMemory read incomplete same tally goes legal (inr h) =
-      inr (record { none = h.none; stands = builder-still rules speech mid new same tally goes legal [] [] o.held o'.held h.stands })
+      inr (record {
+        none = h.none;
+        within = record { some = h.within.some; more = h.within.more; parts = h.within.parts; stands = builder-still rules speech mid new same tally goes legal h.within.some [] o.held o'.held h.within.stands };
+      })
   ends-still first old mid new o o' after ends.Report read incomplete same tally goes legal h =
       (begun-so o'.left read _ _ (λ lines. builder-stays-stopped rules speech stops.Report mid new same goes legal first (map (said_by old.grammar) lines) o.held o'.held) h.0, h.1)
 
@@ -99,7 +102,7 @@ module _ {Opening State Job Said : Type 0} (rules : Rules Opening State Job Said
   given-up first old new o before after same tally goes closed legal least = record {
     same = same;
     closed = closed;
-    ended = λ stands. read-nothing o.left _ (inr (record { none = refl; stands = builder-still rules speech old new same tally goes legal [] [] o.held o.held stands }));
+    ended = λ stands. read-nothing o.left _ (inr (record { none = refl; within = record { some = []; more = first; parts = refl; stands = builder-still rules speech old new same tally goes legal [] [] o.held o.held stands } }));
     unharmed = λ other. refl;
     reads = omega arith;
     writes = omega arith;

@@ -258,27 +258,37 @@ module _ {Opening State Job Said : Type 0} (rules : Rules Opening State Job Said
     takes-stopped stops.Report held' same front first lines before stands = takes-failed held' (front refl) first lines before stands
 
   -- an event before all lines
-  pub admits : (root : Option Opening) (names : List (List ℕ)) (seen seen' : List (Entry Job Said)) (held : Option (List ℕ)) (tally : Tally) (line : Reads Saying) (answer : Answer)
+  pub admits : (root : Option Opening) (names : List (List ℕ)) (seen seen' : List (Entry Job Said)) (held : Option (List ℕ)) (tally : Tally) (line : Reads Saying) (answer : Answer) (first : List (Reads Saying))
       → AnswersAt rules speech root line answer seen seen' → IsLegalAt rules speech root seen'
-      → Stands rules speech root [] [] names seen held held tally → Stands rules speech root (line ∷ []) [] names seen' held held tally
-  admits None names seen seen' held tally line answer answers legal stands = absurd stands
-  admits (Some opening) names seen seen' held tally line answer answers legal stands = λ lanes.
+      → Stands rules speech root first [] names seen held held tally → Stands rules speech root (first ++ line ∷ []) [] names seen' held held tally
+  admits None names seen seen' held tally line answer first answers legal stands = absurd stands
+  admits (Some opening) names seen seen' held tally line answer first answers legal stands = λ lanes.
       let was = stands (lanes-front seen (answers.quiet ++ answers.did) (subst (λ (es : List (Entry Job Said)). AreLanes es) answers.parts lanes)) in
-      admitted opening names seen seen' held tally line answer was answers legal
+      admitted opening names seen seen' held tally line answer first was answers legal
     where
-      none_of : {A : Type 0} (xs : List A) → length xs ≡ 0 → xs ≡ []
-      none_of [] is = refl
-      none_of (x ∷ xs) is = absurd cc
-
-      admitted : (opening : Opening) (names : List (List ℕ)) (seen seen' : List (Entry Job Said)) (held : Option (List ℕ)) (tally : Tally) (line : Reads Saying) (answer : Answer)
-          → StandsAt rules speech opening [] [] names seen held held tally → Answers rules speech opening line answer seen seen' → IsLegal rules opening seen' → StandsAt rules speech opening (line ∷ []) [] names seen' held held tally
-      admitted opening names seen seen' held tally line answer was answers legal =
-          let empty : was.taken.first_marks ++ was.marks ≡ [] =
-          none_of (was.taken.first_marks ++ was.marks) (story-marks rules speech opening [] [] (was.taken.first_marks ++ was.marks) seen was.taken.story) in
-          let story : IsStory rules speech opening [] [] [] seen = subst (λ (ms : List (List Mark)). IsStory rules speech opening [] [] ms seen) empty was.taken.story in
+      admitted : (opening : Opening) (names : List (List ℕ)) (seen seen' : List (Entry Job Said)) (held : Option (List ℕ)) (tally : Tally) (line : Reads Saying) (answer : Answer) (first : List (Reads Saying))
+          → StandsAt rules speech opening first [] names seen held held tally → Answers rules speech opening line answer seen seen' → IsLegal rules opening seen'
+          → StandsAt rules speech opening (first ++ line ∷ []) [] names seen' held held tally
+      admitted opening names seen seen' held tally line answer first was answers legal =
+          let none : was.marks ≡ [] = none_of was.marks (marks_aligned opening first [] was.marks seen was.taken) in
+          let story : IsStory rules speech opening [] first was.taken.first_marks seen =
+          subst (λ (ms : List (List Mark)). IsStory rules speech opening [] first ms seen) (ap (λ (ms : List (List Mark)). was.taken.first_marks ++ ms) none ∙ append-nil was.taken.first_marks)
+          (subst (λ (ls : List (Reads Saying)). IsStory rules speech opening [] ls (was.taken.first_marks ++ was.marks) seen) (append-nil first) was.taken.story) in
           record {
             marks = [];
-            taken = record { first_marks = marks_of answer ∷ []; aligned = refl; story = story_more opening [] [] seen seen' line answer story answers; legal = legal };
+            taken = record {
+              first_marks = was.taken.first_marks ++ marks_of answer ∷ [];
+              aligned = length-append was.taken.first_marks (marks_of answer ∷ []) ∙ (ap (λ (n : ℕ). n + 1) was.taken.aligned ∙ sym (length-append first (line ∷ [])));
+              story =
+                  subst (λ (ms : List (List Mark)). IsStory rules speech opening [] ((first ++ line ∷ []) ++ []) ms seen') (sym (append-nil (was.taken.first_marks ++ marks_of answer ∷ [])))
+                  (subst (λ (ls : List (Reads Saying)). IsStory rules speech opening [] ls (was.taken.first_marks ++ marks_of answer ∷ []) seen') (sym (append-nil (first ++ line ∷ [])))
+                  (story_more opening first was.taken.first_marks seen seen' line answer story answers));
+              legal = legal;
+            };
             reported = AppendsPiece-none held;
             tallied = record { lines = was.tallied.lines; accepted = was.tallied.accepted; refused = was.tallied.refused };
           }
+        where
+          none_of : {A : Type 0} (xs : List A) → length xs ≡ 0 → xs ≡ []
+          none_of [] is = refl
+          none_of (x ∷ xs) is = absurd cc

@@ -1,5 +1,5 @@
 -- What the reading of a file of events came to.
-use Rattle.std.specs.Prelude.{◌≡◌, ℕ, ◌≤◌, ◌⊎◌, Bool, true, false, List, [], ◌∷◌, map, Option, Some, None, Ok}
+use Rattle.std.specs.Prelude.{◌≡◌, ℕ, ◌≤◌, ◌⊎◌, Bool, true, false, List, [], ◌∷◌, ◌++◌, map, Option, Some, None, Ok}
 use Rattle.ug_edge.specs.Told.{Rose, IsEnded}
 use Rattle.ug_pieces.specs.Pieces.{HasRead}
 use Rattle.ug_pieces.specs.declared.line_halt.LineHalt.{LineHalt}
@@ -19,10 +19,13 @@ use Rattle.ug_event_loop.specs.Counts.{least_at, most_at, RisesBy, RisesWithin}
 use Rattle.ug_event_loop.specs.Standing.{said_by, BuilderView, IsSameBuilder, BuilderStands, BuilderStops, TakesLines, StopsWithin}
 use Rattle.ug_event_loop.specs.Files.{lines_read, IsPastLimits}
 
--- the line before all others: the first event, where there is one
-abbrev pub first_of : Option Event → List (Reads Saying)
-first_of None = []
-first_of (Some event) = Ok (Says (event_of event)) ∷ []
+-- the line that says an event
+abbrev pub said_of : Event → Reads Saying
+said_of event = Ok (Says (event_of event))
+
+-- the lines before all others: those of the first events
+abbrev pub first_of : List Event → List (Reads Saying)
+first_of events = map said_of events
 
 -- how reading ended, where lines were not all taken
 abbrev pub end_of : LineHalt Stop → End
@@ -56,6 +59,13 @@ module _ {Opening State Job Said : Type 0} (rules : Rules Opening State Job Said
   LinesHalted halts.TooMany old held new held' left read = IsPastLimits read × ((whole : Bool) → TakesLines rules speech old held new held' (lines_read whole read))
   LinesHalted (halts.Stopped stop) old held new held' left read = OfLines left read (StopsWithin rules speech stop old held new held')
 
+  -- Some of the first lines were taken, from the front, and none behind them.
+  pub record StandsWithin (first : List (Reads Saying)) (b : BuilderView Opening Job Said) (before held : Option (List ℕ)) : Type 0 where
+    pub some : List (Reads Saying)
+    pub more : List (Reads Saying)
+    pub parts : first ≡ some ++ more
+    pub stands : BuilderStands rules speech b some [] before held
+
   module _ (first : List (Reads Saying)) (old new : BuilderView Opening Job Said) (outside outside' : Outside) where
     -- The builder stands behind these lines of the file, with what the report holds now.
     abbrev pub StandsBehind : List (List ℕ) → Type 0
@@ -64,10 +74,10 @@ module _ {Opening State Job Said : Type 0} (rules : Rules Opening State Job Said
     abbrev pub StopsBefore : Stop → List (List ℕ) → Type 0
     StopsBefore stop lines = BuilderStops rules speech stop new first (map (said_by old.grammar) lines) outside.held outside'.held
 
-    -- Memory was wanting for the first event, and nothing was read.
+    -- Memory was wanting for one of the first lines, and nothing was read.
     pub record IsNotBegun (read : List ℕ) : Type 0 where
       pub none : read ≡ []
-      pub stands : BuilderStands rules speech new [] [] outside.held outside'.held
+      pub within : StandsWithin first new outside.held outside'.held
 
     -- What the bytes that were read came to, by how reading ended.
     abbrev pub EndsAt : End → List ℕ → Type 0

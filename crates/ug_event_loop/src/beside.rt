@@ -1,10 +1,10 @@
 //! A file of events read beside a crew at work.
 
-ghost use Rattle.std.specs.Prelude.{◌≡◌, ◌≤◌, [], true, false, IfSome};
+ghost use Rattle.std.specs.Prelude.{◌≡◌, ◌≤◌, [], map, true, false};
 ghost use Rattle.std.specs.Vec.{vec_len, vec_capacity};
 ghost use denote.Param.Send.{IsSend, IsSync};
-ghost use Rattle.ug_events.specs.Events.{IsEvent};
 ghost use Rattle.ug_events.specs.Views.{event_of};
+ghost use Rattle.ug_speaker.specs.Owes.{AreEvents};
 ghost use Rattle.ug_sender.specs.Posts.{AreHere, post_of, posts, posts_of};
 ghost use Rattle.ug_event_loop.specs.Reading.{first_of, IsRead};
 
@@ -47,8 +47,8 @@ pub fn read_beside<R: Threads + Wait + Sync, W: Wire, S: Speaker, E: Source, K: 
 ) -> Sequence<Lane<W, S>>
     requires here { reading.old.builder.pass.turnstile ≡ turnstile.now.id }
     requires crew { AreHere turnstile.now.id (posts_of crew) }
-    requires form { IfSome reading.old.first (λ event. IsEvent (event_of event)) }
-    ensures ended { IsRead S.Machine.rules S.speech (first_of reading.old.first) reading.old.builder reading.new.builder
+    requires form { AreEvents (map event_of reading.old.first.items) }
+    ensures ended { IsRead S.Machine.rules S.speech (first_of reading.old.first.items) reading.old.builder reading.new.builder
         (record { left = E.left source.old; reads_failed = E.faults source.old; held = K.held report.old; writes_failed = K.faults report.old; steps = steps.old })
         (record { left = E.left source.new; reads_failed = E.faults source.new; held = K.held report.new; writes_failed = K.faults report.new; steps = steps.new }) reading.new.end }
     ensures posts { posts result.items ≡ posts_of crew }
@@ -103,13 +103,13 @@ fn beside<
 ) -> (Sequence<Lane<W, S>>, Lent<'t, 'a, 'b, 'c, S, E, K, L>)
     requires here { lent.reading.now.builder.pass.turnstile ≡ turnstile.now.id }
     requires crew { AreHere turnstile.now.id (posts_of crew) }
-    requires form { IfSome lent.reading.now.first (λ event. IsEvent (event_of event)) }
+    requires form { AreEvents (map event_of lent.reading.now.first.items) }
     ensures posts { posts result.0.items ≡ posts_of crew }
     ensures reading { result.1.reading.ghost_name ≡ lent.entry.reading.ghost_name }
     ensures source { result.1.source.ghost_name ≡ lent.entry.source.ghost_name }
     ensures report { result.1.report.ghost_name ≡ lent.entry.report.ghost_name }
     ensures steps { result.1.steps.ghost_name ≡ lent.entry.steps.ghost_name }
-    ensures ended { IsRead S.Machine.rules S.speech (first_of lent.entry.reading.now.first) lent.entry.reading.now.builder result.1.reading.now.builder
+    ensures ended { IsRead S.Machine.rules S.speech (first_of lent.entry.reading.now.first.items) lent.entry.reading.now.builder result.1.reading.now.builder
         (record { left = E.left lent.entry.source.now; reads_failed = E.faults lent.entry.source.now; held = K.held lent.entry.report.now; writes_failed = K.faults lent.entry.report.now; steps = lent.entry.steps.now })
         (record { left = E.left result.1.source.now; reads_failed = E.faults result.1.source.now; held = K.held result.1.report.now; writes_failed = K.faults result.1.report.now; steps = result.1.steps.now })
         result.1.reading.now.end }
@@ -129,7 +129,7 @@ fn beside<
             requires sends { IsSend W.row × IsSend S.row × IsSend S.Job.row × IsSend S.Said.row × IsSync R.row }
             requires here { lent.reading.now.builder.pass.turnstile ≡ turnstile.now.id }
             requires crew { AreHere turnstile.now.id (posts_of workers.items) }
-            requires form { IfSome lent.reading.now.first (λ event. IsEvent (event_of event)) }
+            requires form { AreEvents (map event_of lent.reading.now.first.items) }
             requires count { count ≤ vec_len workers }
             requires none { room.items ≡ [] }
             requires room { vec_len workers ≤ vec_capacity room }
@@ -138,7 +138,7 @@ fn beside<
             ensures source { result.1.source.ghost_name ≡ lent.entry.source.ghost_name }
             ensures report { result.1.report.ghost_name ≡ lent.entry.report.ghost_name }
             ensures steps { result.1.steps.ghost_name ≡ lent.entry.steps.ghost_name }
-            ensures ended { IsRead S.Machine.rules S.speech (first_of lent.entry.reading.now.first) lent.entry.reading.now.builder result.1.reading.now.builder
+            ensures ended { IsRead S.Machine.rules S.speech (first_of lent.entry.reading.now.first.items) lent.entry.reading.now.builder result.1.reading.now.builder
                 (record { left = E.left lent.entry.source.now; reads_failed = E.faults lent.entry.source.now; held = K.held lent.entry.report.now; writes_failed = K.faults lent.entry.report.now; steps = lent.entry.steps.now })
                 (record { left = E.left result.1.source.now; reads_failed = E.faults result.1.source.now; held = K.held result.1.report.now; writes_failed = K.faults result.1.report.now; steps = result.1.steps.now })
                 result.1.reading.now.end }

@@ -1,11 +1,12 @@
 //! The builder: it takes lines of events in turns of its own, and reports on them.
 
-ghost use Rattle.std.specs.Prelude.{◌≡◌, ◌≤◌, ◌∷◌, ◌+◌, ℕ, [], List, Option, false, true, Ok, Some, None, OnOk, OnErr, IfOk, IfErr, IsErrOf};
+ghost use Rattle.std.specs.Prelude.{◌≡◌, ◌≤◌, ◌∷◌, ◌++◌, ◌+◌, ℕ, [], List, Option, false, true, Ok, Some, None, OnOk, OnErr, IfOk, IfErr, IsErrOf};
 ghost use Rattle.std.specs.List.{concat};
 ghost use Rattle.std.specs.String.{string_bytes};
 ghost use Rattle.ug_edge.specs.Told.{Rose, AppendsPiece};
 ghost use Rattle.ug_pieces.specs.Reporting.{AppendsFront};
-ghost use Rattle.ug_events.specs.Events.{IsEvent, Says, SaysSync};
+ghost use Rattle.ug_events.specs.Events.{Saying, IsEvent, Says, SaysSync};
+ghost use Rattle.ug_events.specs.Reads.{Reads};
 ghost use Rattle.ug_events.specs.Views.{event_of};
 ghost use Rattle.ug_report.specs.Report.{answer_texts};
 ghost use Rattle.ug_sender.specs.Posts.{AreHere, AllRest, posts_of};
@@ -267,8 +268,10 @@ impl<S: Speaker> Builder<S> {
         ensures same { IsSameBuilder self.old self.new }
         ensures posts { posts_of crew.new ≡ posts_of crew.old }
         ensures rest { OnOk result (AllRest S.Machine.rules crew.new) }
-        ensures taken { OnOk result ((held : Option (List ℕ)) → BuilderStands S.Machine.rules S.speech self.old [] [] held held → BuilderStands S.Machine.rules S.speech self.new (Ok (Says (event_of event)) ∷ []) [] held held) }
-        ensures stopped { OnErr result ((held : Option (List ℕ)) → BuilderStands S.Machine.rules S.speech self.old [] [] held held → BuilderStands S.Machine.rules S.speech self.new [] [] held held) }
+        ensures taken { OnOk result ((first : List (Reads Saying)) (held : Option (List ℕ)) → BuilderStands S.Machine.rules S.speech self.old first [] held held
+            → BuilderStands S.Machine.rules S.speech self.new (first ++ Ok (Says (event_of event)) ∷ []) [] held held) }
+        ensures stopped { OnErr result ((first : List (Reads Saying)) (held : Option (List ℕ)) → BuilderStands S.Machine.rules S.speech self.old first [] held held
+            → BuilderStands S.Machine.rules S.speech self.new first [] held held) }
         ensures steps_least { RisesBy steps.old steps.new (least_at S.Machine.rules self.old.pass.root self.old.pass.seen) (least_at S.Machine.rules self.old.pass.root self.new.pass.seen) }
         ensures steps_most { OnOk result (RisesWithin steps.old steps.new (most_at S.Machine.rules self.old.pass.root self.old.pass.seen) (most_at S.Machine.rules self.old.pass.root self.new.pass.seen)) }
     {

@@ -1,20 +1,21 @@
 //! The work of a builder beside the lanes, from the first line of a file to the end.
 
-ghost use Rattle.std.specs.Prelude.{◌≡◌, ◌≤◌, ℕ, List, [], Option, true, map, OnOk, OnErr, IfErr, IsErrOf, IfSome};
+ghost use Rattle.std.specs.Prelude.{◌≡◌, ◌≤◌, ℕ, List, [], Option, true, map, OnOk, OnErr, IfErr, IsErrOf};
 ghost use Rattle.ug_edge.specs.Told.{IsEnded};
 ghost use Rattle.ug_pieces.specs.Pieces.{HasRead};
-ghost use Rattle.ug_events.specs.Events.{IsEvent};
 ghost use Rattle.ug_events.specs.Views.{event_of};
+ghost use Rattle.ug_speaker.specs.Owes.{AreEvents};
 ghost use Rattle.ug_sender.specs.Posts.{AreHere, posts_of};
 ghost use Rattle.ug_event_loop.specs.Counts.{least_at, most_at, RisesBy, RisesWithin};
 ghost use Rattle.ug_event_loop.specs.Standing.{said_by, IsSameBuilder, BuilderStands};
 ghost use Rattle.ug_event_loop.specs.Files.{lines_read, IsPastLimits};
-ghost use Rattle.ug_event_loop.specs.Reading.{Outside, first_of, end_of, EndsAt, HasEnded, IsRead};
+ghost use Rattle.ug_event_loop.specs.Reading.{Outside, first_of, end_of, EndsAt, HasEnded, StandsWithin, IsRead};
 
 use crate::builder::Builder;
 use crate::files::read_events;
 use crate::stop::Stop;
 use std::alloc::Global;
+use std::mem;
 use std::sync::Wait;
 use std::sync::ledger::Ledger;
 use ug_board::Board;
@@ -41,17 +42,17 @@ pub enum End {
     TooLong,
 }
 
-/// A file of events to be read: by which builder, which event comes before its lines, and how it ended.
+/// A file of events to be read: by which builder, which events come before its lines, and how it ended.
 #[derive(Drop)]
 pub struct Reading<S: Speaker> {
     pub alloc: Global,
     pub builder: Builder<S>,
-    pub first: Option<Event>,
+    pub first: Vec<Event>,
     pub end: Option<End>,
 }
 
 impl<S: Speaker> Reading<S> {
-    /// Takes the first event and the lines of the file beside the crew, and then ends the work on the board.
+    /// Takes the first events and the lines of the file beside the crew, and then ends the work on the board.
     pub fn attend<R: Wait, W: Wire, E: Source, K: Sink, L: Ledger>(
         &mut self,
         rt: &R,
@@ -63,8 +64,8 @@ impl<S: Speaker> Reading<S> {
     )
         requires here { self.old.builder.pass.turnstile ≡ turnstile.now.id }
         requires crew { AreHere turnstile.now.id (posts_of crew.old) }
-        requires form { IfSome self.old.first (λ event. IsEvent (event_of event)) }
-        ensures ended { IsRead S.Machine.rules S.speech (first_of self.old.first) self.old.builder self.new.builder
+        requires form { AreEvents (map event_of self.old.first.items) }
+        ensures ended { IsRead S.Machine.rules S.speech (first_of self.old.first.items) self.old.builder self.new.builder
             (record { left = E.left source.old; reads_failed = E.faults source.old; held = K.held report.old; writes_failed = K.faults report.old; steps = steps.old })
             (record { left = E.left source.new; reads_failed = E.faults source.new; held = K.held report.new; writes_failed = K.faults report.new; steps = steps.new }) self.new.end }
         ensures posts { posts_of crew.new ≡ posts_of crew.old }
@@ -73,12 +74,13 @@ impl<S: Speaker> Reading<S> {
         ensures made { E.made source.new ≡ E.made source.old }
         ensures wire_faults { E.wire_faults source.new ≡ E.wire_faults source.old }
     {
+        let first = mem::replace(&mut self.first, Vec::new(self.alloc));
         let end = run(
             rt,
             self.alloc,
             turnstile,
             &mut self.builder,
-            self.first.take(),
+            first,
             crew,
             steps,
             source,
@@ -95,20 +97,20 @@ impl<S: Speaker> Reading<S> {
         steps: &mut Steps<L>,
     )
         requires here { self.old.builder.pass.turnstile ≡ turnstile.now.id }
-        ensures ended { (outside : Outside) → IsRead S.Machine.rules S.speech (first_of self.old.first) self.old.builder self.new.builder (record outside { steps = steps.old }) (record outside { steps = steps.new }) self.new.end }
+        ensures ended { (outside : Outside) → IsRead S.Machine.rules S.speech (first_of self.old.first.items) self.old.builder self.new.builder (record outside { steps = steps.old }) (record outside { steps = steps.new }) self.new.end }
     {
         self.builder.break_off(rt, turnstile, steps);
         self.end = Some(End::NoMemory);
     }
 }
 
-/// Takes the first event, then the lines of the file, and then ends the work on the board.
+/// Takes the first events, then the lines of the file, and then ends the work on the board.
 fn run<R: Wait, W: Wire, S: Speaker, L: Ledger, E: Source, K: Sink>(
     rt: &R,
     alloc: Global,
     turnstile: &Turnstile<Board<S>>,
     builder: &mut Builder<S>,
-    first: Option<Event>,
+    first: Vec<Event>,
     crew: &mut Crew<W, S>,
     steps: &mut Steps<L>,
     source: &mut E,
@@ -116,8 +118,8 @@ fn run<R: Wait, W: Wire, S: Speaker, L: Ledger, E: Source, K: Sink>(
 ) -> End
     requires here { builder.old.pass.turnstile ≡ turnstile.now.id }
     requires crew { AreHere turnstile.now.id (posts_of crew.old) }
-    requires form { IfSome first (λ event. IsEvent (event_of event)) }
-    ensures ended { HasEnded S.Machine.rules S.speech (first_of first) builder.old builder.new
+    requires form { AreEvents (map event_of first.items) }
+    ensures ended { HasEnded S.Machine.rules S.speech (first_of first.items) builder.old builder.new
         (record { left = E.left source.old; reads_failed = E.faults source.old; held = K.held report.old; writes_failed = K.faults report.old; steps = steps.old })
         (record { left = E.left source.new; reads_failed = E.faults source.new; held = K.held report.new; writes_failed = K.faults report.new; steps = steps.new }) result }
     ensures posts { posts_of crew.new ≡ posts_of crew.old }
@@ -143,13 +145,13 @@ fn run<R: Wait, W: Wire, S: Speaker, L: Ledger, E: Source, K: Sink>(
     }
 }
 
-/// Takes the first event, and then the lines of the file.
+/// Takes the first events, and then the lines of the file.
 fn take_all<R: Wait, W: Wire, S: Speaker, L: Ledger, E: Source, K: Sink>(
     rt: &R,
     alloc: Global,
     turnstile: &Turnstile<Board<S>>,
     builder: &mut Builder<S>,
-    first: Option<Event>,
+    first: Vec<Event>,
     crew: &mut Crew<W, S>,
     steps: &mut Steps<L>,
     source: &mut E,
@@ -157,14 +159,14 @@ fn take_all<R: Wait, W: Wire, S: Speaker, L: Ledger, E: Source, K: Sink>(
 ) -> Result<(), End>
     requires here { builder.old.pass.turnstile ≡ turnstile.now.id }
     requires crew { AreHere turnstile.now.id (posts_of crew.old) }
-    requires form { IfSome first (λ event. IsEvent (event_of event)) }
+    requires form { AreEvents (map event_of first.items) }
     ensures same { IsSameBuilder builder.old builder.new }
     ensures posts { posts_of crew.new ≡ posts_of crew.old }
     ensures taken { OnOk result (BuilderStands S.Machine.rules S.speech builder.old [] [] (K.held report.old) (K.held report.old) → HasRead (E.left source.old) (E.left source.new) (λ read.
         IsEnded (E.left source.new) × (IsPastLimits read → ⊥)
-        × BuilderStands S.Machine.rules S.speech builder.new (first_of first) (map (said_by builder.old.grammar) (lines_read true read)) (K.held report.old) (K.held report.new))) }
+        × BuilderStands S.Machine.rules S.speech builder.new (first_of first.items) (map (said_by builder.old.grammar) (lines_read true read)) (K.held report.old) (K.held report.new))) }
     ensures halted { IfErr result (λ end. BuilderStands S.Machine.rules S.speech builder.old [] [] (K.held report.old) (K.held report.old) → HasRead (E.left source.old) (E.left source.new)
-        (EndsAt S.Machine.rules S.speech (first_of first) builder.old builder.new
+        (EndsAt S.Machine.rules S.speech (first_of first.items) builder.old builder.new
         (record { left = E.left source.old; reads_failed = E.faults source.old; held = K.held report.old; writes_failed = K.faults report.old; steps = steps.old })
         (record { left = E.left source.new; reads_failed = E.faults source.new; held = K.held report.new; writes_failed = K.faults report.new; steps = steps.new }) end)) }
     ensures incomplete { IsErrOf result End.Complete → ⊥ }
@@ -178,7 +180,7 @@ fn take_all<R: Wait, W: Wire, S: Speaker, L: Ledger, E: Source, K: Sink>(
     ensures steps_least { RisesBy steps.old steps.new (least_at S.Machine.rules builder.old.pass.root builder.old.pass.seen) (least_at S.Machine.rules builder.old.pass.root builder.new.pass.seen) }
     ensures steps_most { OnOk result (RisesWithin steps.old steps.new (most_at S.Machine.rules builder.old.pass.root builder.old.pass.seen) (most_at S.Machine.rules builder.old.pass.root builder.new.pass.seen)) }
 {
-    let Ok(()) = admit_first(rt, turnstile, builder, first, crew, steps) else {
+    let Ok(()) = admit_all(rt, turnstile, builder, first, crew, steps) else {
         return Err(End::NoMemory);
     };
     match read_events(rt, alloc, turnstile, builder, crew, steps, source, report) {
@@ -187,29 +189,32 @@ fn take_all<R: Wait, W: Wire, S: Speaker, L: Ledger, E: Source, K: Sink>(
     }
 }
 
-/// Takes the first event, where there is one.
-fn admit_first<R: Wait, W: Wire, S: Speaker, L: Ledger>(
+/// Takes the first events, one after the other.
+fn admit_all<R: Wait, W: Wire, S: Speaker, L: Ledger>(
     rt: &R,
     turnstile: &Turnstile<Board<S>>,
     builder: &mut Builder<S>,
-    first: Option<Event>,
+    first: Vec<Event>,
     crew: &mut Crew<W, S>,
     steps: &mut Steps<L>,
 ) -> Result<(), NoMemory>
     requires here { builder.old.pass.turnstile ≡ turnstile.now.id }
     requires crew { AreHere turnstile.now.id (posts_of crew.old) }
-    requires form { IfSome first (λ event. IsEvent (event_of event)) }
+    requires form { AreEvents (map event_of first.items) }
     ensures same { IsSameBuilder builder.old builder.new }
     ensures posts { posts_of crew.new ≡ posts_of crew.old }
-    ensures taken { OnOk result ((held : Option (List ℕ)) → BuilderStands S.Machine.rules S.speech builder.old [] [] held held → BuilderStands S.Machine.rules S.speech builder.new (first_of first) [] held held) }
-    ensures stopped { OnErr result ((held : Option (List ℕ)) → BuilderStands S.Machine.rules S.speech builder.old [] [] held held → BuilderStands S.Machine.rules S.speech builder.new [] [] held held) }
+    ensures taken { OnOk result ((held : Option (List ℕ)) → BuilderStands S.Machine.rules S.speech builder.old [] [] held held → BuilderStands S.Machine.rules S.speech builder.new (first_of first.items) [] held held) }
+    ensures stopped { OnErr result ((held : Option (List ℕ)) → BuilderStands S.Machine.rules S.speech builder.old [] [] held held → StandsWithin S.Machine.rules S.speech (first_of first.items) builder.new held held) }
     ensures steps_least { RisesBy steps.old steps.new (least_at S.Machine.rules builder.old.pass.root builder.old.pass.seen) (least_at S.Machine.rules builder.old.pass.root builder.new.pass.seen) }
     ensures steps_most { OnOk result (RisesWithin steps.old steps.new (most_at S.Machine.rules builder.old.pass.root builder.old.pass.seen) (most_at S.Machine.rules builder.old.pass.root builder.new.pass.seen)) }
 {
-    match first {
-        Some(event) => builder.admit(rt, turnstile, crew, steps, event),
-        None => Ok(()),
+    for event in first {
+        match builder.admit(rt, turnstile, crew, steps, event) {
+            Ok(()) => {}
+            Err(NoMemory) => return Err(NoMemory),
+        }
     }
+    Ok(())
 }
 
 /// How reading ended, where lines were not all taken.

@@ -7,13 +7,14 @@ ghost use Rattle.std.specs.Vec.Iter.{into_iter_items};
 ghost use Rattle.ug_edge.specs.Told.{Rose, IsEnded, file_told, Missing};
 ghost use Rattle.ug_report.specs.Report.{names_in};
 ghost use Rattle.ug_config.specs.One.{one_world};
-ghost use Rattle.ug_command_line.specs.Words.{OneCommand, RunCommand, CheckCommand, GroupsCommand, One, Run, Check, Groups, command_of, is_command};
+ghost use Rattle.ug_command_line.specs.Words.{OneCommand, RunCommand, CheckCommand, GroupsCommand, SelfRunCommand, One, Run, Check, Groups, SelfRun, command_of, is_command};
 ghost use Rattle.ug_run.specs.Wires.{AreMadeFor};
 ghost use Rattle.ug_report.specs.Statuses.{row_of, is_fixed, status_text};
 ghost use Rattle.ug_commands.specs.Files.{AppendsThenStatus, PicksJust};
 ghost use Rattle.ug_commands.specs.Checked.{IsChecked};
 ghost use Rattle.ug_commands.specs.Listed.{IsListed};
-ghost use Rattle.ug_run.specs.Commands.{IsOne, IsRunOf};
+ghost use Rattle.ug_run.specs.Commands.{is_fed, IsOne, IsRunOf};
+ghost use Rattle.ug_run.specs.Drawn.{IsSelfRun};
 
 use std::alloc::Global;
 use std::io::{self, ErrorKind, Write};
@@ -135,6 +136,8 @@ fn run<L: Ledger, S: Speaker, R: Threads + Wait + Sync, E: Site, K: Sink>(
         IsChecked command (file_told (E.files site.old) command.stream) (E.picks site.new).is_open (E.left site.new) result.status (K.held report.old) (K.held report.new) (Rose (K.faults report.old) (K.faults report.new)) }
     ensures listed { (command : GroupsCommand) → command_of (map string_bytes words.now) ≡ Some (Groups command) →
         IsListed (file_told (E.files site.old) command.config) result.status (K.held report.old) (K.held report.new) (Rose (K.faults report.old) (K.faults report.new)) }
+    ensures drawn { (command : SelfRunCommand) → command_of (map string_bytes words.now) ≡ Some (SelfRun command) →
+        IsSelfRun S.Machine.rules S.speech command.number result.status result.history.items (K.held report.old) (K.held report.new) (Rose (K.faults report.old) (K.faults report.new)) }
     // A file that the site says is missing was read by nobody, and the status says so.
     ensures check_missing { (command : CheckCommand) → command_of (map string_bytes words.now) ≡ Some (Check command) →
         file_told (E.files site.old) command.stream ≡ Missing → (row_of result.status).may_be_unread ≡ true }
@@ -152,6 +155,8 @@ fn run<L: Ledger, S: Speaker, R: Threads + Wait + Sync, E: Site, K: Sink>(
     ensures groups_unmade { (command : GroupsCommand) → command_of (map string_bytes words.now) ≡ Some (Groups command) → E.made site.new ≡ E.made site.old }
     ensures check_idle { (command : CheckCommand) → command_of (map string_bytes words.now) ≡ Some (Check command) → (result.wires.items ≡ []) × (result.history.items ≡ []) }
     ensures groups_idle { (command : GroupsCommand) → command_of (map string_bytes words.now) ≡ Some (Groups command) → (result.wires.items ≡ []) × (result.history.items ≡ []) }
+    // `selfrun` leaves the site alone: nothing is read, and no wire is made.
+    ensures drawn_alone { (command : SelfRunCommand) → command_of (map string_bytes words.now) ≡ Some (SelfRun command) → (site.new ≡ site.old) × (result.wires.items ≡ []) }
     // Words that are no command.
     ensures usage { (result.status ≡ Status.Usage) ↔ (is_command (map string_bytes words.now) ≡ false) }
     ensures no_command { is_command (map string_bytes words.now) ≡ false →
@@ -166,7 +171,7 @@ fn run<L: Ledger, S: Speaker, R: Threads + Wait + Sync, E: Site, K: Sink>(
     ensures report { result.status ≡ Status.ReportFault → Rose (K.faults report.old) (K.faults report.new) }
     ensures site { result.status ≡ Status.SiteFault → Rose (E.wire_faults site.old) (E.wire_faults site.new) }
     ensures all_wired { (result.status ≡ Status.SiteFault → ⊥) → E.wire_faults site.new ≡ E.wire_faults site.old }
-    ensures ended { (row_of result.status).completed ≡ true → IsEnded (E.left site.new) }
+    ensures ended { is_fed (command_of (map string_bytes words.now)) ≡ true → (row_of result.status).completed ≡ true → IsEnded (E.left site.new) }
 {
     let mut steps = Steps::<L>::new(blank);
     serve::<S, R, E, K, L>(rt, alloc, words, site, report, &mut steps)

@@ -42,7 +42,7 @@ use Rattle.ug_run_rules.specs.Kept.{IsKept, IsWireOf, IsWireRight, AreCounted}
 use Rattle.ug_run_rules.proofs.Lists.{each-front, each-join}
 use Rattle.ug_run_rules.proofs.Keeps.{closed-kept, each_wire_so}
 use Rattle.ug_run.specs.Ends.{last_text, IsFirst, IsConcluded, CompletesBy, IsFinished}
-use Rattle.ug_run.specs.Promise.{lines_counted, IsLimited, texts, whole_text, HasReport, IsFirstLoss, IsDoneBy, Concludes, IsRun}
+use Rattle.ug_run.specs.Promise.{lines_counted, IsLimited, IsAhead, texts, whole_text, HasReport, IsFirstLoss, IsDoneBy, Concludes, IsRun}
 use Rattle.ug_run.proofs.Stories.{lines-sound, others-lanes, IsBehind, ended-all, story-all}
 
 -- ---- lines
@@ -187,7 +187,7 @@ module _ {Opening State Job Said : Type 0} (rules : Rules Opening State Job Said
       untaken : List (Reads Saying)
       counted : lines_counted status grammar read (rest_of left') ≡ lines ++ untaken
       all_taken : (row_of status).took_all ≡ true → untaken ≡ []
-      is_ahead : (ahead ≡ first) ⊎ ((status ≡ statuses.NoMemory) × (ahead ≡ []))
+      is_ahead : IsAhead status first ahead
       ahead_sound : Each IsSound ahead
       sound : Each IsSound lines
       noted : (row_of status).completed ≡ true → unnoted ≡ false
@@ -437,21 +437,22 @@ module _ {Opening State Job Said : Type 0} (rules : Rules Opening State Job Said
         tt,
       ))
 
-    -- memory was wanting for the first event, or before it
-    not_begun : StandsAt rules speech root [] [] b.names seen before mid b.tally → AppendsThenStatus mid held failed [] (status_text statuses.NoMemory) → IsRunAt statuses.NoMemory
-    not_begun stands line = run_is statuses.NoMemory [] [] stands.marks stands.taken (record {
+    -- memory was wanting for one of the first events, or before them
+    not_begun : (ahead more : List (Reads Saying)) → first ≡ ahead ++ more → StandsAt rules speech root ahead [] b.names seen before mid b.tally → AppendsThenStatus mid held failed [] (status_text statuses.NoMemory)
+        → IsRunAt statuses.NoMemory
+    not_begun ahead more parts stands line = run_is statuses.NoMemory ahead [] stands.marks stands.taken (record {
       whole = λ no. absurd cc;
       limits = tt;
       untaken = lines_counted statuses.NoMemory grammar read (rest_of left');
       counted = refl;
       all_taken = λ no. absurd cc;
-      is_ahead = inr (refl, refl);
-      ahead_sound = tt;
+      is_ahead = inr (refl, more, parts);
+      ahead_sound = each-front IsSound ahead more (subst (λ (ls : List (Reads Saying)). Each IsSound ls) parts first_sound);
       sound = tt;
       noted = λ no. absurd cc;
       over = λ no. absurd cc;
     }) (λ losses is. (
-      ends_starved b.names (last_world (speech.first root) []) [] stands.marks losses b.tally stands.tallied before mid held failed stands.reported
+      ends_starved b.names (last_world (speech.first root) ahead) [] stands.marks losses b.tally stands.tallied before mid held failed stands.reported
           (ConcludesWith (lines_counted statuses.NoMemory grammar read (rest_of left')) losses) line,
       tt,
     ))
@@ -485,7 +486,7 @@ module _ {Opening State Job Said : Type 0} (rules : Rules Opening State Job Said
           let whole = is_empty (rest_of left') && true in
           subst (λ (s : Status). IsRunAt s) (sym finished.0)
           (starved_within whole refl (stops_at stops.NoMemory first (said (lines_read whole read)) (h.2 whole (whole_when h.0 h.1))) finished.1)
-      comes_at ends.NoMemory status (inr h) finished = subst (λ (s : Status). IsRunAt s) (sym finished.0) (not_begun (stands_at [] [] h.stands) finished.1)
+      comes_at ends.NoMemory status (inr h) finished = subst (λ (s : Status). IsRunAt s) (sym finished.0) (not_begun h.within.some h.within.more h.within.parts (stands_at h.within.some [] h.within.stands) finished.1)
       comes_at ends.Report status h finished =
           let whole = is_empty (rest_of left') && true in
           subst (λ (s : Status). IsRunAt s) (sym finished.0)

@@ -17,7 +17,7 @@ use Rattle.ug_events.specs.Views.{event_of}
 use Rattle.ug_events.specs.declared.event.Event.{Event}
 use Rattle.ug_world.specs.World.{World}
 use Rattle.ug_speaker.specs.Speech.{Speech}
-use Rattle.ug_speaker.specs.Owes.{IsOpening, IsSpeaker}
+use Rattle.ug_speaker.specs.Owes.{AreEvents, IsOpening, IsSpeaker}
 use Rattle.ug_speaker.specs.Story.{IsSound}
 use Rattle.ug_report.specs.declared.endings.Loss.{Loss}
 use Rattle.ug_report.specs.Report.{names_in, losses_from, losses_status}
@@ -69,11 +69,11 @@ module _ {W Opening Job Said : Type 0} where
     pub root-is : b0.root ≡ Some is.root
     root-is = ap (λ (p : Held (Entry Job Said) Opening). p.root) is.head
 
--- ---- the first event
+-- ---- the first events
 
-pub first-sound : (first : Option Event) → IfSome first (λ event. IsEvent (event_of event)) → Each IsSound (first_of first)
-first-sound None form = tt
-first-sound (Some event) form = (form, tt)
+pub first-sound : (first : List Event) → AreEvents (map event_of first) → Each IsSound (first_of first)
+first-sound [] form = tt
+first-sound (event ∷ first) form = (form.0, first-sound first form.1)
 
 -- ---- a fault within a part of a run is one of the run
 

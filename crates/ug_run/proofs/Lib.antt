@@ -1,3 +1,4 @@
+pub mod Drawing
 mod LaneLaws
 mod Wired
 mod Histories

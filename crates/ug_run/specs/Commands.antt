@@ -1,7 +1,7 @@
--- What the commands with sessions promise: `one` and `run`.
+-- What the commands promise that speak with neighbours: `one` and `run`.
 use Rattle.std.specs.Prelude.{◌≡◌, ℕ, ◌⊎◌, Bool, true, false, List, [], ◌∷◌, Option, Some, None, Ok, Err, codes}
 use Rattle.ug_edge.specs.Told.{AppendsAll, FileTold, Missing, WireName, WiresMade}
-use Rattle.ug_command_line.specs.Words.{Command, RunCommand, One, Run, Check, Groups}
+use Rattle.ug_command_line.specs.Words.{Command, RunCommand, One, Run, Check, Groups, SelfRun}
 use Rattle.ug_board.specs.Entry.{Entry}
 use Rattle.ug_board.specs.Rules.{Rules}
 use Rattle.ug_events.specs.Events.{Saying, Says, ComesUp}
@@ -20,13 +20,23 @@ use Rattle.ug_report.specs.Report.{names_in}
 use Rattle.ug_run.specs.Wires.{AreMadeFor}
 use Rattle.ug_run.specs.Promise.{IsPromised, IsCountedFrom}
 
--- the commands that speak with neighbours
+-- the commands that speak with neighbours, if only with neighbours of their own
 abbrev pub has_sessions : Option Command → Bool
 has_sessions None = false
 has_sessions (Some (One command)) = true
 has_sessions (Some (Run command)) = true
 has_sessions (Some (Check command)) = false
 has_sessions (Some (Groups command)) = false
+has_sessions (Some (SelfRun command)) = true
+
+-- the commands that read a file of events or a stream
+abbrev pub is_fed : Option Command → Bool
+is_fed None = true
+is_fed (Some (One command)) = true
+is_fed (Some (Run command)) = true
+is_fed (Some (Check command)) = true
+is_fed (Some (Groups command)) = true
+is_fed (Some (SelfRun command)) = false
 
 -- the line before those of the file that `one` reads: its peer comes up
 abbrev pub up_p1 : List (Reads Saying)

@@ -6,3 +6,4 @@ pub mod Ends
 pub mod Setups
 pub mod Promise
 pub mod Commands
+pub mod Drawn

@@ -89,9 +89,9 @@ IsFirstLoss (statuses.Config number field) losses = Unit {0}
 IsFirstLoss statuses.SiteFault losses = Unit {0}
 IsFirstLoss (statuses.Malformed cause offset) losses = Unit {0}
 
--- The first lines were taken, but where memory was wanting for them.
+-- The first lines were taken; where memory was wanting for one of them, those before it.
 abbrev pub IsAhead : Status → List (Reads Saying) → List (Reads Saying) → Type 0
-IsAhead status first ahead = (ahead ≡ first) ⊎ ((status ≡ statuses.NoMemory) × (ahead ≡ []))
+IsAhead status first ahead = (ahead ≡ first) ⊎ ((status ≡ statuses.NoMemory) × (more : List (Reads Saying)) × (first ≡ ahead ++ more))
 
 -- ---- a run that ended before its first line
 

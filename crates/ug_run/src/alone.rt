@@ -16,8 +16,8 @@ use ug_commands::{check, end, groups};
 use ug_edge::{Sink, Site};
 use ug_report::Status;
 
-/// How a command without sessions ended, or that the words are no command; `None` where they are `one` or `run`, of which
-/// nothing was begun. No lane is there, and nobody is waited for: the call ends.
+/// How a command without sessions ended, or that the words are no command; `None` where they are `one`, `run` or `selfrun`,
+/// of which nothing was begun. No lane is there, and nobody is waited for: the call ends.
 pub fn answer_alone<E: Site, K: Sink>(
     alloc: Global,
     words: &[String],
@@ -54,6 +54,6 @@ pub fn answer_alone<E: Site, K: Sink>(
             Some(check(alloc, words.session, words.stream, site, report))
         }
         Some(Command::Groups(words)) => Some(groups(alloc, words.config, site, report)),
-        Some(Command::One(_)) | Some(Command::Run(_)) => None,
+        Some(Command::One(_)) | Some(Command::Run(_)) | Some(Command::SelfRun(_)) => None,
     }
 }

@@ -1,11 +1,10 @@
 //! A run over a world: its wires are made, the file of events is read beside the lanes, and everything comes back.
 
-ghost use Rattle.std.specs.Prelude.{◌≡◌, ◌+◌, ◌<◌, ◌≤◌, [], List, ℕ, map, take, length, true, Some, IfOk, IfErr, IfSome, OnOk, IsErrOf};
+ghost use Rattle.std.specs.Prelude.{◌≡◌, ◌+◌, ◌<◌, ◌≤◌, [], List, ℕ, map, take, length, true, Some, IfOk, IfErr, OnOk, IsErrOf};
 ghost use Rattle.ug_edge.specs.Told.{Rose, IsEnded, HasPicked, file_told};
-ghost use Rattle.ug_events.specs.Events.{IsEvent};
 ghost use Rattle.ug_events.specs.Views.{event_of};
 ghost use Rattle.ug_world.specs.World.{World};
-ghost use Rattle.ug_speaker.specs.Owes.{IsOpening};
+ghost use Rattle.ug_speaker.specs.Owes.{IsOpening, AreEvents};
 ghost use Rattle.ug_report.specs.Report.{names_in};
 ghost use Rattle.ug_sender.specs.Posts.{AreHere, posts};
 ghost use Rattle.ug_event_loop.specs.Reading.{first_of, IsRead};
@@ -59,13 +58,13 @@ impl<W: Wire, S: Speaker> Done<W, S> {
     }
 }
 
-/// What a run is over: a world, the verbs that its lines may have, the event before the first line, and whether each
+/// What a run is over: a world, the verbs that its lines may have, the events before the first line, and whether each
 /// lane works in a thread of its own.
 #[derive(Drop)]
 pub(crate) struct Plan {
     pub(crate) world: World,
     pub(crate) grammar: Grammar,
-    pub(crate) first: Option<Event>,
+    pub(crate) first: Vec<Event>,
     pub(crate) apart: bool,
 }
 
@@ -81,8 +80,8 @@ pub(crate) fn run_over<S: Speaker, R: Threads + Wait + Sync, E: Site, K: Sink, L
     steps: &mut Steps<L>,
 ) -> Done<E::Wire, S>
     requires opening { IsOpening plan.world }
-    requires form { IfSome plan.first (λ event. IsEvent (event_of event)) }
-    ensures promised { IsPromised S.Machine.rules S.speech plan.world plan.grammar (first_of plan.first) events.now (file_told (E.files site.old) events.now) (E.picks site.old).names (E.picks site.new).names result.status
+    requires form { AreEvents (map event_of plan.first.items) }
+    ensures promised { IsPromised S.Machine.rules S.speech plan.world plan.grammar (first_of plan.first.items) events.now (file_told (E.files site.old) events.now) (E.picks site.old).names (E.picks site.new).names result.status
         (map (λ wire. record { sessions = E.Wire.sessions wire; faults = E.Wire.faults wire }) result.wires.items) result.history.items
         (E.picks site.new).is_open (E.left site.new) (K.held report.old) (K.held report.new) (Rose (K.faults report.old) (K.faults report.new)) }
     ensures made { AreMadeFor (E.made site.old) (E.made site.new) dir.now (names_in plan.world) (map E.Wire.made_for result.wires.items) }
@@ -175,7 +174,7 @@ struct Start<W: Wire> {
     peers: u32,
     grammar: Grammar,
     coalesce: u32,
-    first: Option<Event>,
+    first: Vec<Event>,
     apart: bool,
 }
 
@@ -198,11 +197,11 @@ fn run_begun<S: Speaker, R: Threads + Wait + Sync, E: Site, K: Sink, L: Ledger>(
     requires wires_room { length start.wires.items ≤ begun.wires_home.spare }
     requires passes_room { length start.wires.items + 1 ≤ begun.passes_home.spare }
     requires fresh { AreNewWires E.Wire.sessions E.Wire.begun E.Wire.faults start.wires.items }
-    requires form { IfSome start.first (λ event. IsEvent (event_of event)) }
+    requires form { AreEvents (map event_of start.first.items) }
     ensures done { (w : World) (events : List ℕ) → IsOpening w → IsBegun S.speech w begun.turnstile begun.builder begun.passes.items
         → start.names.items ≡ names_in w → start.peers ≡ length w.peers → length w.peers ≡ length start.wires.items
         → HasPicked (E.files site.old) events (E.left site.old) → (E.picks site.old).is_open ≡ true
-        → IsRun S.Machine.rules S.speech w start.grammar (first_of start.first) (file_told (E.files site.old) events) result.status
+        → IsRun S.Machine.rules S.speech w start.grammar (first_of start.first.items) (file_told (E.files site.old) events) result.status
         (map (λ wire. record { sessions = E.Wire.sessions wire; faults = E.Wire.faults wire }) result.wires.items) result.history.items
         (E.picks site.new).is_open (E.left site.new) (K.held report.old) (K.held report.new) (Rose (K.faults report.old) (K.faults report.new)) }
     ensures all { length result.wires.items ≡ length start.wires.items }
@@ -303,8 +302,8 @@ fn read_lines<S: Speaker, R: Threads + Wait + Sync, W: Wire, E: Source, K: Sink,
 ) -> LaneList<W, S>
     requires here { reading.old.builder.pass.turnstile ≡ turnstile.now.id }
     requires lanes { AreHere turnstile.now.id (posts lanes.items) }
-    requires form { IfSome reading.old.first (λ event. IsEvent (event_of event)) }
-    ensures ended { IsRead S.Machine.rules S.speech (first_of reading.old.first) reading.old.builder reading.new.builder
+    requires form { AreEvents (map event_of reading.old.first.items) }
+    ensures ended { IsRead S.Machine.rules S.speech (first_of reading.old.first.items) reading.old.builder reading.new.builder
         (record { left = E.left source.old; reads_failed = E.faults source.old; held = K.held report.old; writes_failed = K.faults report.old; steps = steps.old })
         (record { left = E.left source.new; reads_failed = E.faults source.new; held = K.held report.new; writes_failed = K.faults report.new; steps = steps.new }) reading.new.end }
     ensures posts { posts result.items ≡ posts lanes.items }

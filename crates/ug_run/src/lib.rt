@@ -5,6 +5,7 @@ mod alone;
 mod beginning;
 mod closing;
 mod course;
+mod drawn;
 mod ending;
 mod lanes;
 mod losses;

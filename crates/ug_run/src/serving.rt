@@ -3,11 +3,11 @@
 ghost use Rattle.std.specs.Prelude.{◌≡◌, ◌<◌, ◌+◌, [], map, true, false, Some, Ok, IfOk, ◌↔◌};
 ghost use Rattle.std.specs.String.{string_bytes};
 ghost use Rattle.ug_edge.specs.Told.{Rose, IsEnded, file_told, Missing};
-ghost use Rattle.ug_events.specs.Events.{IsEvent};
 ghost use Rattle.ug_events.specs.Views.{event_of};
+ghost use Rattle.ug_speaker.specs.Owes.{AreEvents};
 ghost use Rattle.ug_report.specs.Report.{names_in};
 ghost use Rattle.ug_config.specs.One.{one_world};
-ghost use Rattle.ug_command_line.specs.Words.{OneCommand, RunCommand, CheckCommand, GroupsCommand, One, Run, Check, Groups, command_of, is_command};
+ghost use Rattle.ug_command_line.specs.Words.{OneCommand, RunCommand, CheckCommand, GroupsCommand, SelfRunCommand, One, Run, Check, Groups, SelfRun, command_of, is_command};
 ghost use Rattle.ug_event_loop.specs.Reading.{first_of};
 ghost use Rattle.ug_run.specs.Wires.{AreMadeFor};
 ghost use Rattle.ug_report.specs.Statuses.{row_of, status_text};
@@ -15,9 +15,11 @@ ghost use Rattle.ug_commands.specs.Files.{AppendsThenStatus, PicksJust};
 ghost use Rattle.ug_commands.specs.Checked.{IsChecked};
 ghost use Rattle.ug_commands.specs.Listed.{IsListed};
 ghost use Rattle.ug_run.specs.Promise.{IsCounted};
-ghost use Rattle.ug_run.specs.Commands.{up_p1, IsOne, IsRunOf, IsCountedRun};
+ghost use Rattle.ug_run.specs.Commands.{up_p1, is_fed, IsOne, IsRunOf, IsCountedRun};
+ghost use Rattle.ug_run.specs.Drawn.{drawn_world, IsSelfRun};
 
 use crate::course::{Done, Plan, run_over};
+use crate::drawn::selfrun;
 use crate::setup::{configure, end_unset};
 use std::alloc::Global;
 use std::sync::Wait;
@@ -45,8 +47,10 @@ use ug_types::{Name, NoMemory, Sequence, Steps};
 /// sessions, the whole table is the private one.*
 ///
 /// `check [--add-path] [--extended] [--ipv6] STREAM` reads the bytes of a session and reports what they leave at the
-/// receiver. `groups CONFIG` lists the groups of a configuration's peers. Words that are no command are `Usage`, and
-/// leave the site unread.
+/// receiver. `groups CONFIG` lists the groups of a configuration's peers. `selfrun NUMBER` runs over a world and events
+/// that are drawn from that number, with workers, over wires in memory: it reports how many events were accepted and
+/// refused, and for each peer that it is down, or the size of its private table in the last world, which its wire's bytes
+/// leave. Words that are no command are `Usage`, and leave the site unread.
 ///
 /// `ReadFault`, `ReportFault` and `SiteFault` come only where that count of faults rose, `Config` exactly where the
 /// configuration is refused, `TooLong` only past a limit of a file, `Lost` only where a wire failed, and `Malformed` exactly
@@ -71,11 +75,15 @@ pub fn serve<S: Speaker, R: Threads + Wait + Sync, E: Site, K: Sink, L: Ledger>(
         IsChecked command (file_told (E.files site.old) command.stream) (E.picks site.new).is_open (E.left site.new) result.status (K.held report.old) (K.held report.new) (Rose (K.faults report.old) (K.faults report.new)) }
     ensures listed { (command : GroupsCommand) → command_of (map string_bytes words.now) ≡ Some (Groups command) →
         IsListed (file_told (E.files site.old) command.config) result.status (K.held report.old) (K.held report.new) (Rose (K.faults report.old) (K.faults report.new)) }
+    ensures drawn { (command : SelfRunCommand) → command_of (map string_bytes words.now) ≡ Some (SelfRun command) →
+        IsSelfRun S.Machine.rules S.speech command.number result.status result.history.items (K.held report.old) (K.held report.new) (Rose (K.faults report.old) (K.faults report.new)) }
     // The runs of the outbound rules are counted.
     ensures one_counted { (command : OneCommand) → command_of (map string_bytes words.now) ≡ Some (One command) →
         IsCounted S.Machine.rules S.speech one_world (row_of result.status).completed result.history.items steps.old steps.new }
     ensures run_counted { (command : RunCommand) → command_of (map string_bytes words.now) ≡ Some (Run command) →
         IsCountedRun S.Machine.rules S.speech (file_told (E.files site.old) command.config) (row_of result.status).completed result.history.items steps.old steps.new }
+    ensures drawn_counted { (command : SelfRunCommand) → command_of (map string_bytes words.now) ≡ Some (SelfRun command) →
+        IsCounted S.Machine.rules S.speech drawn_world (row_of result.status).completed result.history.items steps.old steps.new }
     // A file that the site says is missing was read by nobody, and the status says so.
     ensures check_missing { (command : CheckCommand) → command_of (map string_bytes words.now) ≡ Some (Check command) →
         file_told (E.files site.old) command.stream ≡ Missing → (row_of result.status).may_be_unread ≡ true }
@@ -93,6 +101,8 @@ pub fn serve<S: Speaker, R: Threads + Wait + Sync, E: Site, K: Sink, L: Ledger>(
     ensures groups_unmade { (command : GroupsCommand) → command_of (map string_bytes words.now) ≡ Some (Groups command) → E.made site.new ≡ E.made site.old }
     ensures check_idle { (command : CheckCommand) → command_of (map string_bytes words.now) ≡ Some (Check command) → (result.wires.items ≡ []) × (result.history.items ≡ []) × (steps.new ≡ steps.old) }
     ensures groups_idle { (command : GroupsCommand) → command_of (map string_bytes words.now) ≡ Some (Groups command) → (result.wires.items ≡ []) × (result.history.items ≡ []) × (steps.new ≡ steps.old) }
+    // `selfrun` leaves the site alone: nothing is read, and no wire is made.
+    ensures drawn_alone { (command : SelfRunCommand) → command_of (map string_bytes words.now) ≡ Some (SelfRun command) → (site.new ≡ site.old) × (result.wires.items ≡ []) }
     // Words that are no command.
     ensures usage { (result.status ≡ Status.Usage) ↔ (is_command (map string_bytes words.now) ≡ false) }
     ensures no_command { is_command (map string_bytes words.now) ≡ false →
@@ -107,7 +117,7 @@ pub fn serve<S: Speaker, R: Threads + Wait + Sync, E: Site, K: Sink, L: Ledger>(
     ensures report { result.status ≡ Status.ReportFault → Rose (K.faults report.old) (K.faults report.new) }
     ensures site { result.status ≡ Status.SiteFault → Rose (E.wire_faults site.old) (E.wire_faults site.new) }
     ensures all_wired { (result.status ≡ Status.SiteFault → ⊥) → E.wire_faults site.new ≡ E.wire_faults site.old }
-    ensures ended { (row_of result.status).completed ≡ true → IsEnded (E.left site.new) }
+    ensures ended { is_fed (command_of (map string_bytes words.now)) ≡ true → (row_of result.status).completed ≡ true → IsEnded (E.left site.new) }
 {
     let Some(command) = read_command(words) else {
         return Done::idle(alloc, end(report, Status::Usage), Sequence::new(alloc));
@@ -123,6 +133,7 @@ pub fn serve<S: Speaker, R: Threads + Wait + Sync, E: Site, K: Sink, L: Ledger>(
             let status = groups(alloc, words.config, site, report);
             Done::idle(alloc, status, Sequence::new(alloc))
         }
+        Command::SelfRun(words) => selfrun(rt, alloc, words.number, report, steps),
     }
 }
 
@@ -158,7 +169,7 @@ fn one<S: Speaker, R: Threads + Wait + Sync, E: Site, K: Sink, L: Ledger>(
     let plan = Plan {
         world,
         grammar: Grammar::Routes,
-        first: Some(first),
+        first,
         apart: false,
     };
     run_over(
@@ -173,15 +184,17 @@ fn one<S: Speaker, R: Threads + Wait + Sync, E: Site, K: Sink, L: Ledger>(
     )
 }
 
-/// The event that p1 comes up.
-fn up_p1(alloc: Global) -> Result<Event, NoMemory>
-    ensures event { IfOk result (λ event. first_of (Some event) ≡ up_p1) }
-    ensures form { IfOk result (λ event. IsEvent (event_of event)) }
+/// The event that p1 comes up, alone.
+fn up_p1(alloc: Global) -> Result<Vec<Event>, NoMemory>
+    ensures events { IfOk result (λ events. first_of events.items ≡ up_p1) }
+    ensures form { IfOk result (λ events. AreEvents (map event_of events.items)) }
 {
     let Some(peer) = Name::read(alloc, b"p1")? else {
         unreachable!()
     };
-    Ok(Event::Up { peer })
+    let mut events = Vec::new(alloc);
+    events.push(Event::Up { peer })?;
+    Ok(events)
 }
 
 /// Runs `run`: over the world of its configuration.
@@ -217,7 +230,7 @@ fn run<S: Speaker, R: Threads + Wait + Sync, E: Site, K: Sink, L: Ledger>(
     let plan = Plan {
         world,
         grammar: Grammar::Every,
-        first: None,
+        first: Vec::new(alloc),
         apart: words.apart,
     };
     run_over(

@@ -19,7 +19,7 @@ returns-in-Ok-conclude-clause-ended g c = record {
         so.0,
         so.1,
         builder-still g.S.Machine.rules g.S.Speaker.speech c.take_all.new.builder c.conclude.new.self c.conclude.ensures.same c.conclude.ensures.tally c.conclude.ensures.history c.conclude.ensures.legal
-            (first_of c.args.first) (map (said_by c.args.builder.now.grammar) (lines_read true read)) (g.K.Sink.held c.args.report.now) (g.K.Sink.held c.take_all.new.report) so.2,
+            (first_of c.args.first.items) (map (said_by c.args.builder.now.grammar) (lines_read true read)) (g.K.Sink.held c.args.report.now) (g.K.Sink.held c.take_all.new.report) so.2,
         c.in-Ok-conclude.ensures.ended,
       ))
       (c.in-Ok.ensures.taken stands);
@@ -43,7 +43,7 @@ returns-in-Err-conclude-clause-ended g c =
       same = same_further c.args.builder.now mid c.break_off.new.self c.take_all.ensures.same same;
       ended = λ stands.
           has-read (g.E.Source.left c.args.source.now) (g.E.Source.left c.take_all.new.source) _ _
-          (λ read so. starved-last g.S.Machine.rules g.S.Speaker.speech (first_of c.args.first) c.args.builder.now mid c.break_off.new.self
+          (λ read so. starved-last g.S.Machine.rules g.S.Speaker.speech (first_of c.args.first.items) c.args.builder.now mid c.break_off.new.self
           (record { left = g.E.Source.left c.args.source.now; reads_failed = g.E.Source.faults c.args.source.now; held = g.K.Sink.held c.args.report.now; writes_failed = g.K.Sink.faults c.args.report.now; steps = c.args.steps.now })
           (record { left = g.E.Source.left c.take_all.new.source; reads_failed = g.E.Source.faults c.take_all.new.source; held = g.K.Sink.held c.take_all.new.report; writes_failed = g.K.Sink.faults c.take_all.new.report; steps = c.break_off.new.steps })
           read same goes c.break_off.ensures.legal so.0 so.2)
@@ -66,7 +66,7 @@ returns-in-Err-clause-ended g c =
       same = same_further c.args.builder.now mid c.break_off-in-Err.new.self c.take_all.ensures.same c.break_off-in-Err.ensures.same;
       ended = λ stands.
           has-read (g.E.Source.left c.args.source.now) (g.E.Source.left c.take_all.new.source) _ _
-          (λ read so. ends-still g.S.Machine.rules g.S.Speaker.speech (first_of c.args.first) c.args.builder.now mid c.break_off-in-Err.new.self
+          (λ read so. ends-still g.S.Machine.rules g.S.Speaker.speech (first_of c.args.first.items) c.args.builder.now mid c.break_off-in-Err.new.self
           (record { left = g.E.Source.left c.args.source.now; reads_failed = g.E.Source.faults c.args.source.now; held = g.K.Sink.held c.args.report.now; writes_failed = g.K.Sink.faults c.args.report.now; steps = c.args.steps.now })
           (record { left = g.E.Source.left c.take_all.new.source; reads_failed = g.E.Source.faults c.take_all.new.source; held = g.K.Sink.held c.take_all.new.report; writes_failed = g.K.Sink.faults c.take_all.new.report; steps = c.take_all.new.steps }) c.break_off-in-Err.new.steps
           c.in-Err.end read (λ is. c.in-Err.ensures.incomplete (ap Err is)) c.break_off-in-Err.ensures.same c.break_off-in-Err.ensures.tally c.break_off-in-Err.ensures.history c.break_off-in-Err.ensures.legal so)

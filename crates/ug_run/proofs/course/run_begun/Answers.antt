@@ -23,7 +23,7 @@ close-history-requires-clause-posts g c κs within =
     let begun = c.args.begun in
     let wires = c.args.start.wires.items in
     let is = c.requires.begun.1 in
-    let same = read-same g.S.Machine.rules g.S.Speaker.speech (first_of c.args.start.first) c.new.result c.read_lines-lanes.new.reading.builder _ _ c.read_lines-lanes.new.reading.end c.read_lines-lanes.ensures.ended in
+    let same = read-same g.S.Machine.rules g.S.Speaker.speech (first_of c.args.start.first.items) c.new.result c.read_lines-lanes.new.reading.builder _ _ c.read_lines-lanes.new.reading.end c.read_lines-lanes.ensures.ended in
     let root : c.into_parts-pass.result.0.root ≡ Some is.root =
     ap (λ p. p.root) c.into_parts-pass.ensures.pass ∙ (same.pass.2 ∙ (ap (λ b. b.pass.root) c.new.ensures ∙ root-is g.E.Wire.Wire.made_for g.S.Speaker.speech c.requires.begun.0 begun.turnstile begun.builder begun.passes.items wires is)) in
     subst (λ r. AreAtPosts begun.turnstile.id r 0 c.read_lines-lanes.result.items) (sym root)
@@ -65,10 +65,10 @@ returns-clause-done g c = λ w events opens is names_is peers_is alike picked st
     let new = c.read_lines-lanes.new.reading.builder in
     let o : Outside = record { left = g.E.Source.left c.args.site.now; reads_failed = g.E.Source.faults c.args.site.now; held = g.K.Sink.held c.args.report.now; writes_failed = g.K.Sink.faults c.args.report.now; steps = c.args.steps.now } in
     let o' : Outside = record { left = g.E.Source.left c.read_lines-lanes.new.source; reads_failed = g.E.Source.faults c.read_lines-lanes.new.source; held = g.K.Sink.held c.read_lines-lanes.new.report; writes_failed = g.K.Sink.faults c.read_lines-lanes.new.report; steps = c.read_lines-lanes.new.steps } in
-    let ended = read-ended g.S.Machine.rules g.S.Speaker.speech (first_of c.args.start.first) old new o o' c.read_lines-lanes.new.reading.end c.in-Some.end c.in-Some.is c.read_lines-lanes.ensures.ended in
+    let ended = read-ended g.S.Machine.rules g.S.Speaker.speech (first_of c.args.start.first.items) old new o o' c.read_lines-lanes.new.reading.end c.in-Some.end c.in-Some.is c.read_lines-lanes.ensures.ended in
     came-home g.S.Machine.rules g.S.Speaker.speech machine.lawful speaker.speaks g.E.Wire.Wire.sessions g.E.Wire.Wire.begun g.E.Wire.Wire.faults g.E.Wire.Wire.made_for w opens
     c.args.begun.turnstile c.args.begun.builder c.args.begun.passes.items c.args.start.wires.items is c.requires.alike alike
-    (first_of c.args.start.first) (first-sound c.args.start.first c.requires.form) c.args.start.names.items names_is c.args.start.grammar c.args.start.coalesce
+    (first_of c.args.start.first.items) (first-sound c.args.start.first.items c.requires.form) c.args.start.names.items names_is c.args.start.grammar c.args.start.coalesce
     old new c.new.ensures o o' c.in-Some.end ended
     c.read_lines-lanes.result.items (c.read_lines-lanes.ensures.posts ∙ ap posts c.man-lanes.ensures) c.into_parts-pass.result.0 c.into_parts-pass.ensures.pass
     c.close-history.result.history.items c.close-history.ensures.history c.close-history.ensures.kept c.close-history.result.unnoted c.close-history.ensures.unnoted
@@ -98,18 +98,18 @@ returns-clause-read g c = λ is.
     let o' : Outside = record { left = g.E.Source.left c.read_lines-lanes.new.source; reads_failed = g.E.Source.faults c.read_lines-lanes.new.source; held = g.K.Sink.held c.read_lines-lanes.new.report; writes_failed = g.K.Sink.faults c.read_lines-lanes.new.report; steps = c.read_lines-lanes.new.steps } in
     let old = c.new.result in
     let new = c.read_lines-lanes.new.reading.builder in
-    let ended = read-ended g.S.Machine.rules g.S.Speaker.speech (first_of c.args.start.first) old new o o' c.read_lines-lanes.new.reading.end c.in-Some.end c.in-Some.is c.read_lines-lanes.ensures.ended in
+    let ended = read-ended g.S.Machine.rules g.S.Speaker.speech (first_of c.args.start.first.items) old new o o' c.read_lines-lanes.new.reading.end c.in-Some.end c.in-Some.is c.read_lines-lanes.ensures.ended in
     let start = c.requires.begun.1 in
     let root = root-is g.E.Wire.Wire.made_for g.S.Speaker.speech c.requires.begun.0 begun.turnstile begun.builder begun.passes.items c.args.start.wires.items start in
     let done = ended.ended (start-stands g.S.Machine.rules g.S.Speaker.speech old begun.builder start.root c.args.start.names.items c.args.start.grammar c.args.start.coalesce o.held c.new.ensures root (ap (λ p. p.seen) start.head)) in
     finished-read _ _ _ _ _ _ _ _ c.in-Some.end c.close-history.result.unnoted c.finish-status.result c.finish-status.ensures.finished
-    (read-rose g.S.Machine.rules g.S.Speaker.speech (first_of c.args.start.first) old new o o' done.read c.in-Some.end done.so) is
+    (read-rose g.S.Machine.rules g.S.Speaker.speech (first_of c.args.start.first.items) old new o o' done.read c.in-Some.end done.so) is
 
 pub returns-clause-unharmed : goal.returns-clause-unharmed
 returns-clause-unharmed g c = λ not_read.
     let o : Outside = record { left = g.E.Source.left c.args.site.now; reads_failed = g.E.Source.faults c.args.site.now; held = g.K.Sink.held c.args.report.now; writes_failed = g.K.Sink.faults c.args.report.now; steps = c.args.steps.now } in
     let o' : Outside = record { left = g.E.Source.left c.read_lines-lanes.new.source; reads_failed = g.E.Source.faults c.read_lines-lanes.new.source; held = g.K.Sink.held c.read_lines-lanes.new.report; writes_failed = g.K.Sink.faults c.read_lines-lanes.new.report; steps = c.read_lines-lanes.new.steps } in
-    let ended = read-ended g.S.Machine.rules g.S.Speaker.speech (first_of c.args.start.first) c.new.result c.read_lines-lanes.new.reading.builder o o' c.read_lines-lanes.new.reading.end c.in-Some.end c.in-Some.is c.read_lines-lanes.ensures.ended in
+    let ended = read-ended g.S.Machine.rules g.S.Speaker.speech (first_of c.args.start.first.items) c.new.result c.read_lines-lanes.new.reading.builder o o' c.read_lines-lanes.new.reading.end c.in-Some.end c.in-Some.is c.read_lines-lanes.ensures.ended in
     ended.unharmed (λ is. not_read (finished-unread _ _ _ _ _ _ _ c.in-Some.end c.close-history.result.unnoted c.finish-status.result c.finish-status.ensures.finished is))
 
 pub returns-clause-report : goal.returns-clause-report
@@ -119,12 +119,12 @@ returns-clause-report g c = λ is.
     let o' : Outside = record { left = g.E.Source.left c.read_lines-lanes.new.source; reads_failed = g.E.Source.faults c.read_lines-lanes.new.source; held = g.K.Sink.held c.read_lines-lanes.new.report; writes_failed = g.K.Sink.faults c.read_lines-lanes.new.report; steps = c.read_lines-lanes.new.steps } in
     let old = c.new.result in
     let new = c.read_lines-lanes.new.reading.builder in
-    let ended = read-ended g.S.Machine.rules g.S.Speaker.speech (first_of c.args.start.first) old new o o' c.read_lines-lanes.new.reading.end c.in-Some.end c.in-Some.is c.read_lines-lanes.ensures.ended in
+    let ended = read-ended g.S.Machine.rules g.S.Speaker.speech (first_of c.args.start.first.items) old new o o' c.read_lines-lanes.new.reading.end c.in-Some.end c.in-Some.is c.read_lines-lanes.ensures.ended in
     let start = c.requires.begun.1 in
     let root = root-is g.E.Wire.Wire.made_for g.S.Speaker.speech c.requires.begun.0 begun.turnstile begun.builder begun.passes.items c.args.start.wires.items start in
     let done = ended.ended (start-stands g.S.Machine.rules g.S.Speaker.speech old begun.builder start.root c.args.start.names.items c.args.start.grammar c.args.start.coalesce o.held c.new.ensures root (ap (λ p. p.seen) start.head)) in
     finished-report _ _ _ _ _ _ _ _ c.in-Some.end c.close-history.result.unnoted c.finish-status.result c.finish-status.ensures.finished
-    (λ e. rose-sooner _ _ _ (report-rose g.S.Machine.rules g.S.Speaker.speech (first_of c.args.start.first) old new o o' done.read c.in-Some.end done.so e) c.finish-status.ensures.faults)
+    (λ e. rose-sooner _ _ _ (report-rose g.S.Machine.rules g.S.Speaker.speech (first_of c.args.start.first.items) old new o o' done.read c.in-Some.end done.so e) c.finish-status.ensures.faults)
     (λ rose. Rose-later _ _ _ ended.writes c.finish-status.ensures.faults rose) is
 
 pub returns-clause-site : goal.returns-clause-site
@@ -137,16 +137,16 @@ returns-clause-ended g c = λ is.
     let o' : Outside = record { left = g.E.Source.left c.read_lines-lanes.new.source; reads_failed = g.E.Source.faults c.read_lines-lanes.new.source; held = g.K.Sink.held c.read_lines-lanes.new.report; writes_failed = g.K.Sink.faults c.read_lines-lanes.new.report; steps = c.read_lines-lanes.new.steps } in
     let old = c.new.result in
     let new = c.read_lines-lanes.new.reading.builder in
-    let ended = read-ended g.S.Machine.rules g.S.Speaker.speech (first_of c.args.start.first) old new o o' c.read_lines-lanes.new.reading.end c.in-Some.end c.in-Some.is c.read_lines-lanes.ensures.ended in
+    let ended = read-ended g.S.Machine.rules g.S.Speaker.speech (first_of c.args.start.first.items) old new o o' c.read_lines-lanes.new.reading.end c.in-Some.end c.in-Some.is c.read_lines-lanes.ensures.ended in
     let start = c.requires.begun.1 in
     let root = root-is g.E.Wire.Wire.made_for g.S.Speaker.speech c.requires.begun.0 begun.turnstile begun.builder begun.passes.items c.args.start.wires.items start in
     let done = ended.ended (start-stands g.S.Machine.rules g.S.Speaker.speech old begun.builder start.root c.args.start.names.items c.args.start.grammar c.args.start.coalesce o.held c.new.ensures root (ap (λ p. p.seen) start.head)) in
     finished-whole _ _ _ _ _ _ _ _ c.in-Some.end c.close-history.result.unnoted c.finish-status.result c.finish-status.ensures.finished
-    (whole-ended g.S.Machine.rules g.S.Speaker.speech (first_of c.args.start.first) old new o o' done.read c.in-Some.end done.so) is
+    (whole-ended g.S.Machine.rules g.S.Speaker.speech (first_of c.args.start.first.items) old new o o' done.read c.in-Some.end done.so) is
 
 pub returns-clause-faults : goal.returns-clause-faults
 returns-clause-faults g c =
-    read-faults g.S.Machine.rules g.S.Speaker.speech (first_of c.args.start.first) c.new.result c.read_lines-lanes.new.reading.builder _ _ c.read_lines-lanes.new.reading.end c.read_lines-lanes.ensures.ended
+    read-faults g.S.Machine.rules g.S.Speaker.speech (first_of c.args.start.first.items) c.new.result c.read_lines-lanes.new.reading.builder _ _ c.read_lines-lanes.new.reading.end c.read_lines-lanes.ensures.ended
 
 pub returns-clause-counted : goal.returns-clause-counted
 returns-clause-counted g c = λ w is.
@@ -154,11 +154,11 @@ returns-clause-counted g c = λ w is.
     let o' : Outside = record { left = g.E.Source.left c.read_lines-lanes.new.source; reads_failed = g.E.Source.faults c.read_lines-lanes.new.source; held = g.K.Sink.held c.read_lines-lanes.new.report; writes_failed = g.K.Sink.faults c.read_lines-lanes.new.report; steps = c.read_lines-lanes.new.steps } in
     let old = c.new.result in
     let new = c.read_lines-lanes.new.reading.builder in
-    let ended = read-ended g.S.Machine.rules g.S.Speaker.speech (first_of c.args.start.first) old new o o' c.read_lines-lanes.new.reading.end c.in-Some.end c.in-Some.is c.read_lines-lanes.ensures.ended in
+    let ended = read-ended g.S.Machine.rules g.S.Speaker.speech (first_of c.args.start.first.items) old new o o' c.read_lines-lanes.new.reading.end c.in-Some.end c.in-Some.is c.read_lines-lanes.ensures.ended in
     counted-home g.S.Machine.rules g.S.Speaker.speech (g.met.S.Machine g.world.𝓛 g.world.𝓜 g.world.𝓡 ((λ s x. x), (λ x. x), (λ x. x), λ x. x)).lawful
     (g.met.S.Speaker g.world.𝓛 g.world.𝓜 g.world.𝓡 ((λ s x. x), (λ x. x), (λ x. x), λ x. x)).speaks g.E.Wire.Wire.sessions g.E.Wire.Wire.begun g.E.Wire.Wire.faults g.E.Wire.Wire.made_for
-    w c.args.begun.turnstile c.args.begun.builder c.args.begun.passes.items c.args.start.wires.items is c.args.start.names.items c.args.start.grammar c.args.start.coalesce old new c.new.ensures
-    (first_of c.args.start.first) o o' c.in-Some.end ended c.read_lines-lanes.result.items c.into_parts-pass.result.0 c.into_parts-pass.ensures.pass
+    w c.args.begun.turnstile c.args.begun.builder c.args.begun.passes.items c.args.start.wires.items is c.args.start.names.items c.args.start.grammar old new c.new.ensures
+    (first_of c.args.start.first.items) o o' c.in-Some.end ended c.read_lines-lanes.result.items c.into_parts-pass.result.0 c.into_parts-pass.ensures.pass
     c.close-history.result.history.items c.close-history.ensures.history (row_of c.finish-status.result).completed
     (λ done. finished-whole _ _ _ _ _ _ _ (c.in-Some.end ≡ ends.Complete) c.in-Some.end c.close-history.result.unnoted c.finish-status.result c.finish-status.ensures.finished (λ is'. is') done)
 

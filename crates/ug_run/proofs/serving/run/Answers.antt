@@ -1,4 +1,4 @@
-use Rattle.std.proofs.Common.{◌≡◌, [], true, inl, inr, refl, Err, map, sym, subst, ◌∙◌, ap, arith}
+use Rattle.std.proofs.Common.{◌≡◌, ℕ, [], true, inl, inr, refl, Err, map, sym, subst, ◌∙◌, ap, arith}
 use Rattle.ug_edge.specs.Told.{Rose, Missing, file_told}
 use Rattle.ug_pieces.specs.ReadingLaws.{Rose-later}
 use Rattle.ug_commands.specs.Files.{AppendsThenStatus}
@@ -17,7 +17,7 @@ returns-clause-promised g c = inr (record {
   then_names = (g.E.Source.picks c.configure.new.site).names;
   picked = c.in-Ok.ensures.named;
   made_all = rw (sym c.configure.ensures.made) c.run_over.ensures.made;
-  promised = rw (sym c.configure.ensures.files) c.run_over.ensures.promised;
+  promised = let none = rw c.new-2.ensures.items at c.run_over.ensures.promised in rw (sym c.configure.ensures.files) none;
 })
 
 pub returns-in-Err-clause-promised : goal.returns-in-Err-clause-promised
@@ -79,3 +79,6 @@ returns-clause-unharmed g c = λ not_read. c.run_over.ensures.unharmed not_read 
 
 pub returns-clause-all_wired : goal.returns-clause-all_wired
 returns-clause-all_wired g c = λ not_site. c.run_over.ensures.all_wired not_site ∙ c.configure.ensures.wire_faults
+
+pub returns-clause-site : goal.returns-clause-site
+returns-clause-site g c = λ is. subst (λ (n : ℕ). Rose n (g.E.Source.wire_faults c.run_over.new.site)) c.configure.ensures.wire_faults (c.run_over.ensures.site is)

@@ -1,0 +1,37 @@
+-- The first events, of which some are taken and some are left.
+use Rattle.std.proofs.Common.{◌≡◌, ℕ, List, [], ◌∷◌, ◌++◌, map, Option, refl, sym, ◌∙◌, ap, subst, append_assoc}
+use Rattle.std.proofs.lemmas.List.{append-nil}
+use Rattle.ug_board.specs.Rules.{Rules}
+use Rattle.ug_events.specs.Events.{Saying}
+use Rattle.ug_events.specs.Reads.{Reads}
+use Rattle.ug_events.specs.declared.event.Event.{Event}
+use Rattle.ug_speaker.specs.Speech.{Speech}
+use Rattle.ug_event_loop.specs.Standing.{BuilderView, BuilderStands}
+use Rattle.ug_event_loop.specs.Reading.{said_of, first_of, StandsWithin}
+
+module _ {Opening State Job Said : Type 0} (rules : Rules Opening State Job Said) (speech : Speech Opening State Job Said) where
+  -- all but those that are left were taken
+  pub record HasAdmitted (all left : List Event) (b : BuilderView Opening Job Said) (held : Option (List ℕ)) : Type 0 where
+    pub some : List (Reads Saying)
+    pub parts : first_of all ≡ some ++ first_of left
+    pub stands : BuilderStands rules speech b some [] held held
+
+  pub admitted-none : (all : List Event) (b : BuilderView Opening Job Said) (held : Option (List ℕ)) → BuilderStands rules speech b [] [] held held → HasAdmitted all all b held
+  admitted-none all b held stands = record { some = []; parts = refl; stands = stands }
+
+  pub admitted-more : (all left : List Event) (e : Event) (old new : BuilderView Opening Job Said) (held : Option (List ℕ))
+      → ((first : List (Reads Saying)) (held : Option (List ℕ)) → BuilderStands rules speech old first [] held held → BuilderStands rules speech new (first ++ said_of e ∷ []) [] held held)
+      → HasAdmitted all (e ∷ left) old held → HasAdmitted all left new held
+  admitted-more all left e old new held takes was = record {
+    some = was.some ++ said_of e ∷ [];
+    parts = was.parts ∙ sym (append_assoc was.some (said_of e ∷ []) (first_of left));
+    stands = takes was.some held was.stands;
+  }
+
+  pub admitted-all : (all : List Event) (b : BuilderView Opening Job Said) (held : Option (List ℕ)) → HasAdmitted all [] b held → BuilderStands rules speech b (first_of all) [] held held
+  admitted-all all b held was = subst (λ (first : List (Reads Saying)). BuilderStands rules speech b first [] held held) (sym (was.parts ∙ append-nil was.some)) was.stands
+
+  pub admitted-some : (all left : List Event) (e : Event) (old new : BuilderView Opening Job Said) (held : Option (List ℕ))
+      → ((first : List (Reads Saying)) (held : Option (List ℕ)) → BuilderStands rules speech old first [] held held → BuilderStands rules speech new first [] held held)
+      → HasAdmitted all (e ∷ left) old held → StandsWithin rules speech (first_of all) new held held
+  admitted-some all left e old new held still was = record { some = was.some; more = first_of (e ∷ left); parts = was.parts; stands = still was.some held was.stands }
