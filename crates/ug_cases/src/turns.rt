@@ -57,14 +57,14 @@ impl Stage {
     ) -> Result<String, Wrong> {
         match read_line(alloc, line.as_bytes()) {
             Ok(Line::Happened(event)) => self.play_event(alloc, event, steps),
-            Ok(Line::Sync) => self.play_job(alloc, Shipped::sync_job(), steps),
+            Ok(Line::Sync) => self.play_sync(alloc, steps),
             Ok(Line::Blank) => Ok(String::new(alloc)),
             Err(LineRefusal::Refused { number, .. }) => Ok(format!(in alloc; "unread {number}; ")?),
             Err(LineRefusal::NoMemory) => Err(Wrong::from(NoMemory)),
         }
     }
 
-    /// Takes an event, or tells why the world refuses it.
+    /// Takes an event, with what has to be done before it and behind it, or tells why the world refuses it.
     fn play_event<L: Ledger>(
         &mut self,
         alloc: Global,
@@ -76,8 +76,21 @@ impl Stage {
         if let Err(refusal) = self.judge(&event) {
             return Ok(format!(in alloc; "refused {}; ", refusal.number)?);
         }
+        let _before = self.play_settling(alloc, steps)?;
         let job = Shipped::event_job(alloc, event)?;
-        self.play_job(alloc, job, steps)
+        let text = self.play_job(alloc, job, steps)?;
+        let _after = self.play_settling(alloc, steps)?;
+        Ok(text)
+    }
+
+    /// Does what there is to be done, and marks where everything is told.
+    fn play_sync<L: Ledger>(
+        &mut self,
+        alloc: Global,
+        steps: &mut Steps<L>,
+    ) -> Result<String, Wrong> {
+        let _jobs = self.play_draining(alloc, steps)?;
+        self.play_job(alloc, Shipped::sync_job(), steps)
     }
 
     /// Does a job where it may be done now, and tells its marks.

@@ -138,6 +138,26 @@ fn take_event<S: Speaker, L: Ledger>(
     }
 }
 
+/// Does what has to be done before the next event, as far as there is anything.
+pub(crate) fn settle<S: Speaker, R: Wait, L: Ledger>(
+    rt: &R,
+    board: &mut Board<S>,
+    steps: &mut Steps<L>,
+) -> Result<(), NoMemory>
+    ensures opening { board.new.opening ≡ board.old.opening }
+    ensures stays_spent { board.old.spent ≡ true → board.new.spent ≡ true }
+    ensures adds { Adds (λ entry. entry.pass) 0 board.old.history board.new.history }
+    ensures history { GoesOn S.Machine.rules S.speech board.old.history board.new.history }
+    ensures legal { IsLegal S.Machine.rules board.new.opening board.new.history }
+    ensures steps_least { RisesBy steps.old steps.new (least_of S.Machine.rules board.old.opening board.old.history) (least_of S.Machine.rules board.old.opening board.new.history) }
+    ensures steps_most { OnOk result (RisesWithin steps.old steps.new (most_of S.Machine.rules board.old.opening board.old.history) (most_of S.Machine.rules board.old.opening board.new.history)) }
+{
+    if board.is_spent() {
+        return Err(NoMemory);
+    }
+    prepare(rt, board, Work::Settling, steps)
+}
+
 /// Settles, and then offers an event to the world.
 pub(crate) fn offer<S: Speaker, R: Wait, L: Ledger>(
     rt: &R,

@@ -18,7 +18,9 @@ use crate::came::Came;
 use crate::grammar::{Grammar, read};
 use crate::stop::Stop;
 use crate::tally::Tally;
-use crate::turns::{break_off_in_turn, conclude_in_turn, mark_in_turn, offer_in_turn};
+use crate::turns::{
+    break_off_in_turn, conclude_in_turn, mark_in_turn, offer_in_turn, settle_in_turn,
+};
 use std::alloc::Global;
 use std::marker::Model;
 use std::sync::Wait;
@@ -212,8 +214,49 @@ impl<S: Speaker> Builder<S> {
         Ok(text)
     }
 
-    /// Takes a line, and tells the report what it came to. After each so many accepted events the lanes that work here are
-    /// pumped, until nothing is sent for now.
+    /// Takes a line, and tells the report what it came to. Where it was an event that was accepted, it answers whether what is
+    /// new is due to the lanes.
+    fn take_told<R: Wait, W: Wire, L: Ledger, K: Sink>(
+        &mut self,
+        rt: &R,
+        turnstile: &Turnstile<Board<S>>,
+        crew: &mut Crew<W, S>,
+        steps: &mut Steps<L>,
+        line: &[u8],
+        report: &mut K,
+    ) -> Result<Option<bool>, Stop>
+        requires here { self.old.pass.turnstile ≡ turnstile.now.id }
+        requires crew { AreHere turnstile.now.id (posts_of crew.old) }
+        ensures same { IsSameBuilder self.old self.new }
+        ensures posts { posts_of crew.new ≡ posts_of crew.old }
+        ensures due { IfOk result (λ due. IsPumpedBetween self.old self.new → due ≡ Some true) }
+        ensures taken { OnOk result (TakesLines S.Machine.rules S.speech self.old (K.held report.old) self.new (K.held report.new) (line.now ∷ [])) }
+        ensures stopped { IfErr result (λ stop. StopsWithin S.Machine.rules S.speech stop self.old (K.held report.old) self.new (K.held report.new) (line.now ∷ [])) }
+        ensures rose { IsErrOf result Stop.Report → Rose (K.faults report.old) (K.faults report.new) }
+        ensures faults { K.faults report.old ≤ K.faults report.new }
+        ensures steps_least { RisesBy steps.old steps.new (least_at S.Machine.rules self.old.pass.root self.old.pass.seen) (least_at S.Machine.rules self.old.pass.root self.new.pass.seen) }
+        ensures steps_most { OnOk result (RisesWithin steps.old steps.new (most_at S.Machine.rules self.old.pass.root self.old.pass.seen) (most_at S.Machine.rules self.old.pass.root self.new.pass.seen)) }
+    {
+        let Ok(came) = self.come(rt, turnstile, crew, steps, line) else {
+            return Err(Stop::NoMemory);
+        };
+        let Some(tally) = self.tally.with(&came) else {
+            return Err(Stop::NoMemory);
+        };
+        let is_due = is_multiple(tally.accepted, self.coalesce);
+        match self.tell(tally.lines, &came, report) {
+            Ok(()) => {}
+            Err(stop) => return Err(stop),
+        }
+        self.tally = tally;
+        match came {
+            Came::Took(_) => Ok(Some(is_due)),
+            Came::Passed | Came::Refused { .. } | Came::Synced(_) => Ok(None),
+        }
+    }
+
+    /// Takes a line, and tells the report what it came to. After an event that was accepted it settles, and after each so many
+    /// of them the lanes that work here are pumped, until nothing is sent for now.
     pub(crate) fn take<R: Wait, W: Wire, L: Ledger, K: Sink>(
         &mut self,
         rt: &R,
@@ -235,21 +278,37 @@ impl<S: Speaker> Builder<S> {
         ensures steps_least { RisesBy steps.old steps.new (least_at S.Machine.rules self.old.pass.root self.old.pass.seen) (least_at S.Machine.rules self.old.pass.root self.new.pass.seen) }
         ensures steps_most { OnOk result (RisesWithin steps.old steps.new (most_at S.Machine.rules self.old.pass.root self.old.pass.seen) (most_at S.Machine.rules self.old.pass.root self.new.pass.seen)) }
     {
-        let Ok(came) = self.come(rt, turnstile, crew, steps, line) else {
-            return Err(Stop::NoMemory);
-        };
-        let Some(tally) = self.tally.with(&came) else {
-            return Err(Stop::NoMemory);
-        };
-        let is_due = is_multiple(tally.accepted, self.coalesce);
-        match self.tell(tally.lines, &came, report) {
-            Ok(()) => {}
-            Err(stop) => return Err(stop),
+        let taken = self.take_told(rt, turnstile, crew, steps, line, report)?;
+        if let Some(is_due) = taken {
+            let Ok(()) = self.pass_on(rt, turnstile, crew, steps, is_due) else {
+                return Err(Stop::NoMemory);
+            };
         }
-        self.tally = tally;
-        if let Came::Took(_) = came {
-            pump_where(rt, turnstile, crew, is_due);
-        }
+        Ok(())
+    }
+
+    /// Settles after an event, and lets the lanes take what there is for them where that is due.
+    fn pass_on<R: Wait, W: Wire, L: Ledger>(
+        &mut self,
+        rt: &R,
+        turnstile: &Turnstile<Board<S>>,
+        crew: &mut Crew<W, S>,
+        steps: &mut Steps<L>,
+        is_due: bool,
+    ) -> Result<(), NoMemory>
+        requires here { self.old.pass.turnstile ≡ turnstile.now.id }
+        requires crew { AreHere turnstile.now.id (posts_of crew.old) }
+        ensures same { IsSameBuilder self.old self.new }
+        ensures tally { self.new.tally ≡ self.old.tally }
+        ensures posts { posts_of crew.new ≡ posts_of crew.old }
+        ensures due { OnOk result (is_due ≡ true → AllRest S.Machine.rules crew.new) }
+        ensures history { GoesOn S.Machine.rules S.speech self.old.pass.seen self.new.pass.seen }
+        ensures legal { IsLegalAt S.Machine.rules S.speech self.new.pass.root self.new.pass.seen }
+        ensures steps_least { RisesBy steps.old steps.new (least_at S.Machine.rules self.old.pass.root self.old.pass.seen) (least_at S.Machine.rules self.old.pass.root self.new.pass.seen) }
+        ensures steps_most { OnOk result (RisesWithin steps.old steps.new (most_at S.Machine.rules self.old.pass.root self.old.pass.seen) (most_at S.Machine.rules self.old.pass.root self.new.pass.seen)) }
+    {
+        settle_in_turn(rt, turnstile, &mut self.pass, steps)?;
+        pump_where(rt, turnstile, crew, is_due);
         Ok(())
     }
 

@@ -7,7 +7,7 @@ ghost use Rattle.ug_events.specs.Views.{event_of};
 ghost use Rattle.ug_event_loop.specs.Turns.{GoesOn, AnswersAt, IsLegalAt, IsEndedAt, IsClosedAt, answer_of};
 ghost use Rattle.ug_event_loop.specs.Counts.{least_at, most_at, RisesBy, RisesWithin};
 
-use crate::board::{break_off, conclude, mark, offer};
+use crate::board::{break_off, conclude, mark, offer, settle};
 use crate::came::Came;
 use std::alloc::Global;
 use std::sync::Wait;
@@ -43,6 +43,29 @@ pub(crate) fn offer_in_turn<S: Speaker, R: Wait, L: Ledger>(
     let came = offer(rt, alloc, turn.state(), event, steps);
     turnstile.give(pass, turn);
     came
+}
+
+/// Does what has to be done before the next event.
+pub(crate) fn settle_in_turn<S: Speaker, R: Wait, L: Ledger>(
+    rt: &R,
+    turnstile: &Turnstile<Board<S>>,
+    pass: &mut Pass<Board<S>>,
+    steps: &mut Steps<L>,
+) -> Result<(), NoMemory>
+    requires here { pass.old.turnstile ≡ turnstile.now.id }
+    requires free { pass.old.holds ≡ false }
+    requires number { pass.old.number ≡ 0 }
+    ensures same { IsSamePass pass.old pass.new }
+    ensures free { pass.new.holds ≡ false }
+    ensures history { GoesOn S.Machine.rules S.speech pass.old.seen pass.new.seen }
+    ensures legal { IsLegalAt S.Machine.rules S.speech pass.new.root pass.new.seen }
+    ensures steps_least { RisesBy steps.old steps.new (least_at S.Machine.rules pass.old.root pass.old.seen) (least_at S.Machine.rules pass.old.root pass.new.seen) }
+    ensures steps_most { OnOk result (RisesWithin steps.old steps.new (most_at S.Machine.rules pass.old.root pass.old.seen) (most_at S.Machine.rules pass.old.root pass.new.seen)) }
+{
+    let mut turn = turnstile.take(rt, pass);
+    let settled = settle(rt, turn.state(), steps);
+    turnstile.give(pass, turn);
+    settled
 }
 
 /// Marks how much each live peer was told, where everything is told.

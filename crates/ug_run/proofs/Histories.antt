@@ -120,8 +120,7 @@ told_by {W} {Opening} {State} {Job} {Said} rules id builder lanes opening histor
     let same : hist.root ≡ opening = let found : Some hist.root ≡ Some opening = sym hist.known ∙ root_is in cc in
     let fits : Opening → Held (Entry Job Said) Opening → Type 0 = λ r. Agrees (λ (entry : Entry Job Said). entry.pass) r history in
     let whole : List (Held (Entry Job Said) Opening) = map (λ (lane : LaneView W Opening Job Said). lane.pass) lanes ++ builder ∷ [] in
-    let owns : List (Held (Entry Job Said) Opening) → Entry Job Said → Type 0 = λ ps entry. Any (λ (q : Held (Entry Job Said) Opening). q.number ≡ entry.pass) ps in
-    (
+    let owns : List (Held (Entry Job Said) Opening) → Entry Job Said → Type 0 = λ ps entry. Any (λ (q : Held (Entry Job Said) Opening). q.number ≡ entry.pass) ps in (
       subst (λ (ps : List (Held (Entry Job Said) Opening)). All (fits opening) ps) (sym passes_is)
           (subst (λ (r : Opening). All (fits r) whole) same
           (All-push (fits hist.root) (map (λ (lane : LaneView W Opening Job Said). lane.pass) lanes) builder (all_lanes (fits hist.root) lanes hist.lanes_agree) hist.builder_agrees)),

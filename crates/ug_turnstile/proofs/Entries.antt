@@ -151,8 +151,7 @@ module _ {E : Type 0} (owner : E → ℕ) where
         let p = each_at (λ e. Any (λ q. q.number ≡ owner e) passes) c a o (each_of_all (λ e. Any (λ q. q.number ≡ owner e) passes) (c ++ a ∷ o) one.1) in
         let here = subst (Agrees owner root (c ++ a ∷ o)) p.3 (one.0 p.0 p.1 p.2) in
         let there = subst (Agrees owner root (c ++ h)) p.3 (other.0 p.0 p.1 p.2) in
-        let found = reaches p.1.number a o here.1.0 (sym p.4) c p.1.seen here.1.1 here.2 in
-        (
+        let found = reaches p.1.number a o here.1.0 (sym p.4) c p.1.seen here.1.1 here.2 in (
           found.0 ++ there.1.0,
           append_cancel c h (a ∷ (found.0 ++ there.1.0)) (there.1.1 ∙ (ap (λ (es : List E). es ++ there.1.0) found.1 ∙ append_assoc c (a ∷ found.0) there.1.0)),
         )

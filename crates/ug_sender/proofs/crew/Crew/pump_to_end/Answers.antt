@@ -4,7 +4,6 @@ use Rattle.std.proofs.Math.Seq.{map-set_same}
 use Rattle.ug_sender.specs.Posts.{AreHere}
 use Rattle.ug_sender.proofs.Seats.{here_in}
 use Rattle.ug_sender.proofs.Crews.{holds_more, holds_all, as_many, IsOverHere}
-
 use Rattle.ug_sender.proofs.crew.Crew.pump_to_end.Goals as goal
 
 pub pump_to_end-requires-clause-here : goal.pump_to_end-requires-clause-here
