@@ -9,7 +9,7 @@ help:
 	@echo "make check         proves the crates that changed since the last commit, and what they stand on"
 	@echo "make fmt           formats the sources"
 	@echo "make test          the gate: proves and tests everything"
-	@echo "make wrong-bodies  tries all wrong bodies, or those of the crates in CRATES (hours)"
+	@echo "make wrong-bodies  tries all wrong bodies, or those of the crates in CRATES (an hour or two)"
 	@echo "make bench         measures the program, proved"
 	@echo "make clean         removes what was built"
 
@@ -42,7 +42,8 @@ endif
 test:
 	.ci/run
 
-# Tries all wrong bodies, also those that the gate passes over, or those of the crates in CRATES. It takes hours.
+# Tries all wrong bodies, also those that the gate passes over, or those of the crates in CRATES, several in one check.
+# It takes an hour or two, and wants Python 3.
 wrong-bodies:
 	tests/wrong-bodies.sh $(CRATES)
 

@@ -149,7 +149,7 @@ are_known opening h course pass (HasNone prefix) legal = known opening h course 
 are_known opening h course pass (GoesDown name) legal = known opening h course pass (GoesDown name) legal (λ p s is. keeps_down name (replay group_rules opening h).world s)
 are_known opening h course pass (ComesUp name) legal = tt
 are_known opening h course pass (HasPolicy name policy) legal = tt
-are_known opening h course pass (HasEntries name entries) legal = tt
+are_known opening h course pass (HasEntries name entries) legal = known opening h course pass (HasEntries name entries) legal (λ p s is up. (up, refl, refl))
 are_known opening h course pass (AsksAgain name) legal = tt
 are_known opening h course pass (SendsRequest name) legal = tt
 are_known opening h course pass (SendsList name request) legal = tt
@@ -168,10 +168,10 @@ module _ (opening : World) (h : List GroupEntry) (course : IsCourse group_rules 
   known_here = are_known opening h course pass e legal
 
   -- an event evaluates what it asks
-  pub evaluates : evaluations e state ≡ pairs_asked e (peer_keys opening h) (peer_keys opening more) world.routes
+  pub evaluates : evaluations e state ≡ pairs_asked e (peer_keys opening h) (peer_keys opening more) world
   evaluates =
       ap (λ (f : GroupKey → ℕ). sum_by f (live_keys (take_event e state)))
-      (λ i key. if same_here opening h course pass e legal key i then paths_touched e key.add_path (world-event e state i) else all_heeded key.add_path (world-event e state i).routes)
+      (λ i key. if same_here opening h course pass e legal key i then paths_touched e key (world-event e state i) else all_heeded key.add_path (world-event e state i).routes)
       ∙ sum-same (evaluations_for e (peer_keys opening h) world) (live_keys (take_event e state)) (peer_keys opening more) (live-distinct (take_event e state)) (unique-distinct (keys_of_live (replay group_rules opening more).world 0 (replay group_rules opening more).world.peers opening more))
       (λ k. ap (λ (s : System). has_key (live_keys s) k) (sym (replays opening h course pass e legal)) ∙ same_later opening h course pass e legal k)
       ∙ pairs-of (peer_keys opening h) (peer_keys opening more) world e known_here
@@ -182,19 +182,19 @@ module _ (opening : World) (h : List GroupEntry) (course : IsCourse group_rules 
       let fewer : length (peer_keys opening more) ≤ length (up_keys world) =
       subst (λ (w : World). length (peer_keys opening more) ≤ length (up_keys w)) (world_is opening h course pass e legal) (keys-fewer opening more later_system.0 later_system.1 (held_later opening h course pass e legal))
       in
-      subst (λ (n : ℕ). n ≤ length (up_keys world) * paths_at_most e world.routes) (sym evaluates) (pairs-few (peer_keys opening h) (peer_keys opening more) (up_keys world) fewer e world.routes known_here)
+      subst (λ (n : ℕ). n ≤ length (up_keys world) * paths_at_most e world.routes) (sym evaluates) (pairs-few (peer_keys opening h) (peer_keys opening more) (up_keys world) fewer e world known_here)
 
   -- a request that puts no other filter in force evaluates nothing
-  none_set : (d : Happening) (routes : Routes) → sets_filter d ≡ true → new_keys (peer_keys opening h) (peer_keys opening more) ≡ [] → pairs_asked d (peer_keys opening h) (peer_keys opening more) routes ≡ 0
-  none_set (AsksAgain name) routes sets none = ap (pairs_with_all routes) none
-  none_set (SendsRequest name) routes sets none = ap (pairs_with_all routes) none
-  none_set (SendsList name request) routes sets none = ap (pairs_with_all routes) none
-  none_set (ComesUp name) routes sets none = absurd cc
-  none_set (GoesDown name) routes sets none = absurd cc
-  none_set (HasPolicy name policy) routes sets none = absurd cc
-  none_set (HasEntries name entries) routes sets none = absurd cc
-  none_set (HasPaths prefix paths) routes sets none = absurd cc
-  none_set (HasNone prefix) routes sets none = absurd cc
+  none_set : (d : Happening) (w : World) → sets_filter d ≡ true → new_keys (peer_keys opening h) (peer_keys opening more) ≡ [] → pairs_asked d (peer_keys opening h) (peer_keys opening more) w ≡ 0
+  none_set (AsksAgain name) w sets none = ap (pairs_with_all w.routes) none
+  none_set (SendsRequest name) w sets none = ap (pairs_with_all w.routes) none
+  none_set (SendsList name request) w sets none = ap (pairs_with_all w.routes) none
+  none_set (ComesUp name) w sets none = absurd cc
+  none_set (GoesDown name) w sets none = absurd cc
+  none_set (HasPolicy name policy) w sets none = absurd cc
+  none_set (HasEntries name entries) w sets none = absurd cc
+  none_set (HasPaths prefix paths) w sets none = absurd cc
+  none_set (HasNone prefix) w sets none = absurd cc
 
   pub evaluates-none : sets_filter e ≡ true → ((p : ℕ) (s s' : PeerState) → slice_get state.world.peers p ≡ Some s → slice_get world.peers p ≡ Some s' → s'.filter ≡ s.filter) → evaluations e state ≡ 0
   evaluates-none sets same =
@@ -202,7 +202,7 @@ module _ (opening : World) (h : List GroupEntry) (course : IsCourse group_rules 
       new-none (peer_keys opening h) (peer_keys opening more)
       (known opening h course pass e legal (λ p s is. keeps_set e state.world s sets (same p s (peer_after e s) is (peers-after e state.world p ∙ ap (option_map (peer_after e)) is))))
       in
-      evaluates ∙ none_set e world.routes sets none
+      evaluates ∙ none_set e world sets none
 
 -- ---- the keys of a course
 

@@ -48,7 +48,7 @@ mod Evaluated
 mod InAll
 mod Simulating
 mod AskedHistories
-mod Speaks
+pub mod Speaks
 pub mod WantedValues
 pub mod TouchedKeys
 pub mod NewTables

@@ -53,5 +53,5 @@ group_histories = record {
   told_again = λ opening before later pass job e p asker s takes asks is about live legal course is' same drained live'. told-again opening before later pass job e p asker s takes asks is about course is' same drained live';
 }
 
-pub group-speaks : IsSpeaker group_rules group_speech
-group-speaks = record { steps = group-steps; histories = group_histories }
+pub group_speaks : IsSpeaker group_rules group_speech
+group_speaks = record { steps = group-steps; histories = group_histories }

@@ -6,6 +6,7 @@ use Rattle.ug_types.specs.declared.route.Path.{Path}
 use Rattle.ug_outbound.specs.declared.key.GroupKey.{GroupKey}
 use Rattle.ug_events.specs.Events.{Happening, ComesUp, GoesDown, HasPaths, HasNone, HasPolicy, HasEntries, AsksAgain, SendsRequest, SendsList}
 use Rattle.ug_world.specs.World.{World, Routes, paths_to}
+use Rattle.ug_world.specs.Touches.{decides_for}
 use Rattle.ug_group_rules.specs.Packets.{same_group}
 use Rattle.ug_group_rules.specs.Machine.{Subgroup, System, take_event}
 
@@ -30,21 +31,22 @@ paths_heeded false paths = min 1 (length paths)
 abbrev pub all_heeded : Bool → Routes → ℕ
 all_heeded add_path routes = sum_by (λ (r : IpPrefix × List Path). paths_heeded add_path r.1) routes
 
--- the paths of the world after an event, of which it has to be asked anew what goes out of them
-abbrev pub paths_touched : Happening → Bool → World → ℕ
-paths_touched (HasPaths prefix paths) add_path w = paths_heeded add_path (paths_to w.routes prefix)
-paths_touched (HasEntries name entries) add_path w = all_heeded add_path w.routes
-paths_touched (HasNone prefix) add_path w = 0
-paths_touched (ComesUp name) add_path w = 0
-paths_touched (GoesDown name) add_path w = 0
-paths_touched (HasPolicy name policy) add_path w = 0
-paths_touched (AsksAgain name) add_path w = 0
-paths_touched (SendsRequest name) add_path w = 0
-paths_touched (SendsList name request) add_path w = 0
+-- The paths of the world after an event, of which it has to be asked anew what goes out of them to the peers of a key. A
+-- prefix list matters to a key alone whose list it is, or whose route map asks it.
+abbrev pub paths_touched : Happening → GroupKey → World → ℕ
+paths_touched (HasPaths prefix paths) key w = paths_heeded key.add_path (paths_to w.routes prefix)
+paths_touched (HasEntries name entries) key w = if decides_for w.tables key name then all_heeded key.add_path w.routes else 0
+paths_touched (HasNone prefix) key w = 0
+paths_touched (ComesUp name) key w = 0
+paths_touched (GoesDown name) key w = 0
+paths_touched (HasPolicy name policy) key w = 0
+paths_touched (AsksAgain name) key w = 0
+paths_touched (SendsRequest name) key w = 0
+paths_touched (SendsList name request) key w = 0
 
 -- all paths for a key that no live peer had before
 abbrev pub evaluations_for : Happening → List GroupKey → World → GroupKey → ℕ
-evaluations_for e before w key = if has_key before key then paths_touched e key.add_path w else all_heeded key.add_path w.routes
+evaluations_for e before w key = if has_key before key then paths_touched e key w else all_heeded key.add_path w.routes
 
 abbrev pub evaluations : Happening → System → ℕ
 evaluations e s = let next = take_event e s in sum_by (evaluations_for e (live_keys s) next.world) (live_keys next)

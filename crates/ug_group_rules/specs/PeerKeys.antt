@@ -10,11 +10,13 @@ use Rattle.ug_board.specs.Entry.{Entry}
 use Rattle.ug_board.specs.History.{after_step}
 use Rattle.ug_history_rules.specs.Deeds.{when}
 use Rattle.ug_outbound.specs.declared.key.GroupKey.{GroupKey}
+use Rattle.ug_outbound.specs.Tables.{Tables}
 use Rattle.ug_events.specs.Events.{Happening, ComesUp, GoesDown, HasPaths, HasNone, HasPolicy, HasEntries, AsksAgain, SendsRequest, SendsList}
 use Rattle.ug_world.specs.declared.peer_state.PeerState.{PeerState}
 use Rattle.ug_world.specs.World.{World, Routes, key_in, paths_to}
 use Rattle.ug_world.specs.Verdicts.{path_count}
 use Rattle.ug_world.specs.After.{after}
+use Rattle.ug_world.specs.Touches.{decides_for}
 use Rattle.ug_speaker.specs.Told.{is_live, world_at}
 use Rattle.ug_group_rules.specs.Packets.{same_group}
 use Rattle.ug_group_rules.specs.Machine.{System, Job, Said}
@@ -40,6 +42,10 @@ up_keys w = unique_keys same_group (map (key_in w) (filter (λ (s : PeerState). 
 abbrev pub new_keys : List GroupKey → List GroupKey → List GroupKey
 new_keys before now = filter (λ (key : GroupKey). not (has_key before key)) now
 
+-- those whose prefix list has that name, or whose route map asks it
+abbrev pub keys_decided : Tables → List ℕ → List GroupKey → List GroupKey
+keys_decided tables name keys = filter (λ (key : GroupKey). decides_for tables key name) keys
+
 -- ---- pairs of a key and a path
 
 -- each of these keys with each of these paths, or with the first of them where the key is without ADD-PATH
@@ -50,19 +56,19 @@ pairs_with paths keys = sum_by (λ (key : GroupKey). paths_heeded key.add_path p
 abbrev pub pairs_with_all : Routes → List GroupKey → ℕ
 pairs_with_all routes keys = sum_by (λ (key : GroupKey). all_heeded key.add_path routes) keys
 
--- What an event asks, by the keys of the live peers before it and after it, and the routes after it: where a prefix has
--- other paths, each key with those; where a prefix list has other entries, each key with all paths; else each key that is
--- new with all paths.
-abbrev pub pairs_asked : Happening → List GroupKey → List GroupKey → Routes → ℕ
-pairs_asked (HasPaths prefix paths) before now routes = pairs_with (paths_to routes prefix) now
-pairs_asked (HasEntries name entries) before now routes = pairs_with_all routes now
-pairs_asked (HasNone prefix) before now routes = pairs_with_all routes (new_keys before now)
-pairs_asked (ComesUp name) before now routes = pairs_with_all routes (new_keys before now)
-pairs_asked (GoesDown name) before now routes = pairs_with_all routes (new_keys before now)
-pairs_asked (HasPolicy name policy) before now routes = pairs_with_all routes (new_keys before now)
-pairs_asked (AsksAgain name) before now routes = pairs_with_all routes (new_keys before now)
-pairs_asked (SendsRequest name) before now routes = pairs_with_all routes (new_keys before now)
-pairs_asked (SendsList name request) before now routes = pairs_with_all routes (new_keys before now)
+-- What an event asks, by the keys of the live peers before it and after it, and the world after it: where a prefix has
+-- other paths, each key with those; where a prefix list has other entries, each key that it decides for with all paths; else
+-- each key that is new with all paths.
+abbrev pub pairs_asked : Happening → List GroupKey → List GroupKey → World → ℕ
+pairs_asked (HasPaths prefix paths) before now w = pairs_with (paths_to w.routes prefix) now
+pairs_asked (HasEntries name entries) before now w = pairs_with_all w.routes (keys_decided w.tables name now)
+pairs_asked (HasNone prefix) before now w = pairs_with_all w.routes (new_keys before now)
+pairs_asked (ComesUp name) before now w = pairs_with_all w.routes (new_keys before now)
+pairs_asked (GoesDown name) before now w = pairs_with_all w.routes (new_keys before now)
+pairs_asked (HasPolicy name policy) before now w = pairs_with_all w.routes (new_keys before now)
+pairs_asked (AsksAgain name) before now w = pairs_with_all w.routes (new_keys before now)
+pairs_asked (SendsRequest name) before now w = pairs_with_all w.routes (new_keys before now)
+pairs_asked (SendsList name request) before now w = pairs_with_all w.routes (new_keys before now)
 
 -- ---- bounds
 

@@ -32,7 +32,7 @@ pub fn group_evaluations()
     ensures once { (s : System) → IsDistinct same_group (live_keys s) }
     ensures counted { (opening : World) (history : List (Entry Job Said)) (pass : ℕ) (e : Happening) → IsCourse group_rules group_speech opening history → legal (Take e) (replay group_rules opening history) ≡ true
         → evaluations e (replay group_rules opening history)
-        ≡ pairs_asked e (peer_keys opening history) (peer_keys opening (history ++ job_entry group_rules pass (Take e) (replay group_rules opening history) ∷ [])) (after (world_at group_rules group_speech opening history) e).routes }
+        ≡ pairs_asked e (peer_keys opening history) (peer_keys opening (history ++ job_entry group_rules pass (Take e) (replay group_rules opening history) ∷ [])) (after (world_at group_rules group_speech opening history) e) }
     ensures at_most { (opening : World) (history : List (Entry Job Said)) (e : Happening) → IsCourse group_rules group_speech opening history → legal (Take e) (replay group_rules opening history) ≡ true
         → evaluations e (replay group_rules opening history)
         ≤ length (up_keys (after (world_at group_rules group_speech opening history) e)) * paths_at_most e (after (world_at group_rules group_speech opening history) e).routes }

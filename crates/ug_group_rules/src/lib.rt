@@ -3,11 +3,13 @@
 #![tactic(auto)]
 
 mod by_key;
+mod deciding;
 mod evaluations;
 mod laws;
 mod phase;
 
 pub use by_key::{due_laws, event_law, table_laws, turn_law, wanted_laws};
+pub use deciding::decides_for;
 pub use evaluations::group_evaluations;
 pub use laws::{group_courses, group_laws, group_order, group_simulation};
 pub use phase::Phase;

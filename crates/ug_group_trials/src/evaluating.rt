@@ -1,9 +1,10 @@
 //! How often an event runs the outbound rules: once a group key and path.
 
-ghost use Rattle.std.specs.Prelude.{◌≡◌, ◌++◌, IfOk, OnOk};
+ghost use Rattle.std.specs.Prelude.{◌≡◌, ◌++◌, IfOk, OnOk, if◌then◌else◌};
 ghost use Rattle.std.specs.List.{list_any, sum_by};
 ghost use Rattle.ug_types.specs.Keys.{same_prefix};
 ghost use Rattle.ug_events.specs.Views.{event_of};
+ghost use Rattle.ug_world.specs.Touches.{decides_for};
 ghost use Rattle.ug_group_rules.specs.Evaluations.{all_heeded, evaluations_for, has_key, keys_from, live_keys, paths_heeded, paths_touched};
 ghost use Rattle.ug_group_trials.specs.Heeded.{are_apart, heeded_under};
 
@@ -11,9 +12,10 @@ use crate::groups::SlowGroups;
 use crate::quiet::added;
 use std::alloc::Global;
 use ug_events::Event;
+use ug_group_rules::decides_for;
 use ug_outbound::GroupKey;
 use ug_slow_subgroup::Subgroup;
-use ug_types::{Key, NoMemory, Path, Prefix, value_laws};
+use ug_types::{Key, Name, NoMemory, Path, Prefix, value_laws};
 
 impl SlowGroups {
     /// The keys of all live peers, each once.
@@ -63,18 +65,18 @@ impl SlowGroups {
         ensures { IfOk result (λ n. n ≡ evaluations_for (event_of event.now) before.now self.now.world key.now) }
     {
         if has_key(before, key) {
-            return self.paths_touched(event, key.add_path);
+            return self.paths_touched(event, key);
         }
         self.all_heeded(key.add_path)
     }
 
-    /// How many paths of the present world have to be asked anew after an event.
-    fn paths_touched(&self, event: &Event, add_path: bool) -> Result<u64, NoMemory>
-        ensures { IfOk result (λ n. n ≡ paths_touched (event_of event.now) add_path self.now.world) }
+    /// How many paths of the present world have to be asked anew after an event what goes out of them to the peers of a key.
+    fn paths_touched(&self, event: &Event, key: &GroupKey) -> Result<u64, NoMemory>
+        ensures { IfOk result (λ n. n ≡ paths_touched (event_of event.now) key.now self.now.world) }
     {
         match event {
-            Event::Paths { prefix, .. } => { Ok(paths_heeded(add_path, self.world.paths(prefix))) }
-            Event::List { .. } => self.all_heeded(add_path),
+            Event::Paths { prefix, .. } => Ok(paths_heeded(key.add_path, self.world.paths(prefix))),
+            Event::List { name, .. } => self.heeded_by_list(key, name),
             Event::Up { .. }
             | Event::Down { .. }
             | Event::Withdraw { .. }
@@ -83,6 +85,16 @@ impl SlowGroups {
             | Event::Receive { .. }
             | Event::Orf { .. } => Ok(0),
         }
+    }
+
+    /// All that are heeded, where the prefix list of that name decides for the key.
+    fn heeded_by_list(&self, key: &GroupKey, name: &Name) -> Result<u64, NoMemory>
+        ensures { IfOk result (λ n. n ≡ (if decides_for self.now.world.tables key.now name.now then all_heeded key.now.add_path self.now.world.routes else 0)) }
+    {
+        if decides_for(self.world.policies(), key, name) {
+            return self.all_heeded(key.add_path);
+        }
+        Ok(0)
     }
 
     /// How many paths are heeded of all prefixes. That no two of these are the same is asked, since the world tells its

@@ -3,6 +3,7 @@ ghost use Rattle.std.specs.Prelude.{◌≡◌, ◌+◌, ◌-◌, ◌<◌, ◌≤
 ghost use Rattle.std.specs.Map.{keys_of};
 ghost use Rattle.std.specs.List.Sorted.{IsStrictlySortedBy};
 ghost use Rattle.std.specs.Ordering.{nat_cmp};
+ghost use Rattle.ug_queue.specs.Rests.{IsInside};
 ghost use Rattle.ug_queue.specs.Queues.{empty_queue, with_packet, with_member, without_member, past_next, without_first, place_of, rest_of, IsMember, passed, standing};
 
 use std::alloc::Global;
@@ -153,6 +154,13 @@ impl<P> Line<P> {
             Some(cursor) => cursor.wrapping_sub(self.start) as usize,
             None => unreachable!(),
         }
+    }
+
+    /// Members stand at most at the end.
+    pub fn know_places(&self)
+        ensures { (m : ℕ) → IsInside self.now m }
+    {
+        let _start = &self.start;
     }
 
     /// Adds a packet at the end, for each member to take.

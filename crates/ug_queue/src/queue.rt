@@ -105,6 +105,17 @@ impl<P> Queue<P> {
         self.line.members(self.alloc)
     }
 
+    /// What is so of every queue: the first packet is some member's to take, and no member stands past the end.
+    pub fn know_places(&self)
+        ensures needed { passed self.now ≡ 0 }
+        ensures bounded { length self.now.packets ≤ self.now.limit }
+        ensures inside { (m : ℕ) → IsInside self.now m }
+        ensures sorted { IsStrictlySortedBy nat_cmp (keys_of self.now.places) }
+    {
+        self.line.know_places();
+        let _count = self.line.member_count();
+    }
+
     /// The next packet of the member; None exactly where its cursor is at the end.
     pub fn next(&self, member: PeerId) -> Option<&P>
         requires { IsMember self.now member }

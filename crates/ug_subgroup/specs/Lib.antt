@@ -5,3 +5,8 @@ pub mod FamilyRibs
 pub mod Sent
 pub mod Standings
 pub mod Subgroups
+pub mod Rows
+pub mod Entries
+pub mod Scans
+pub mod Sweeps
+pub mod Walks

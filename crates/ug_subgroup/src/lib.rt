@@ -3,26 +3,39 @@
 #![tactic(auto)]
 
 mod account;
+mod classes;
+mod comings;
 mod crosses;
+mod desires;
+mod entry;
 mod handed;
 mod holding;
+mod known;
+mod members;
+mod numbered;
 mod packet;
 mod phases;
 mod plain;
 mod point;
+mod points;
 mod rib_out;
 mod routed;
 mod routing;
 mod saying;
+mod scans;
 mod side;
+mod states;
 mod subgroup;
+mod sweeps;
 mod table;
+mod tables;
 mod telling;
 mod told;
 
 pub use account::{hold_value, release};
 pub use crosses::Crosses;
 pub use handed::Handed;
+pub use numbered::Subgroups;
 pub use packet::Packet;
 pub use point::Point;
 pub use rib_out::RibOut;

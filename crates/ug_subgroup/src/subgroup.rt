@@ -7,16 +7,19 @@ ghost use Rattle.ug_types.specs.Bytes.{is_empty};
 ghost use Rattle.ug_board.specs.Rules.{buffer_size};
 ghost use Rattle.ug_group_rules.specs.Packets.{same_group, same_out};
 ghost use Rattle.ug_message.specs.Spellable.{is_address};
-ghost use Rattle.ug_adjout_rules.specs.Tables.{value_at, rows_after};
+ghost use Rattle.ug_adjout_rules.specs.Tables.{value_at, rows_after, IsTable};
 ghost use Rattle.ug_adjout_rules.specs.Pending.{IsExact, nothing_out};
 ghost use Rattle.ug_intern.specs.Pools.{Pooled, held, uses_of};
 ghost use Rattle.ug_pack.specs.Ready.{key_order, IsKeyOf};
+ghost use Rattle.std.specs.List.Sorted.{IsStrictlySortedBy};
+ghost use Rattle.std.specs.Ordering.{nat_cmp};
+ghost use Rattle.ug_queue.specs.Rests.{IsInside};
 ghost use Rattle.ug_queue.specs.Queues.{empty_queue, with_packet, with_member, with_members, without_member, without_members, past_next, shed, place_of, rest_of, passed, standing, IsMember, seat_all, AreNew, AreNewcomers, AreMembers};
 ghost use Rattle.ug_group_rules.specs.declared.phase.Phase.TheVariants.{Quiet};
 ghost use Rattle.ug_group_rules.specs.Machine.{next_packet, formatted, asked, owes, is_level, is_pending, is_joinable};
 ghost use Rattle.ug_subgroup.specs.Values.{value_in, valued_by};
 ghost use Rattle.ug_subgroup.specs.Holders.{holds, rows_of, IsCounted, IsMoved, IsUsed, HasRoom};
-ghost use Rattle.ug_subgroup.specs.Standings.{seen, IsFit, AreShown, desiring};
+ghost use Rattle.ug_subgroup.specs.Standings.{seen, IsFit, AreShown, AreOwn, desiring};
 ghost use Rattle.ug_subgroup.specs.Sent.{session_of};
 ghost use Rattle.ug_subgroup.specs.Subgroups.{IsHanded, StandTogether, part_of};
 
@@ -382,6 +385,23 @@ impl Subgroup {
         self.queue.member_count()
     }
 
+    /// The members, by rising number.
+    pub fn members(&self) -> Result<PeerList, NoMemory>
+        ensures { IfOk result (λ members. members.items ≡ keys_of self.now.queue.places) }
+    {
+        self.queue.members()
+    }
+
+    /// What is so of its queue: the first packet is some member's to take, and no member stands past the end.
+    pub fn know_queue(&self)
+        ensures needed { passed self.now.queue ≡ 0 }
+        ensures bounded { length self.now.queue.packets ≤ self.now.queue.limit }
+        ensures inside { (m : ℕ) → IsInside self.now.queue m }
+        ensures sorted { IsStrictlySortedBy nat_cmp (keys_of self.now.queue.places) }
+    {
+        self.queue.know_places();
+    }
+
     /// How many members' cursors are at the queue's front. It takes the same time however many members there are.
     pub fn count_at_front(&self) -> usize
         ensures { result ≡ standing self.now.queue.places 0 }
@@ -435,6 +455,14 @@ impl Subgroup {
         ensures { result ≡ slice_get (rows_after key_order (option_copied key.entry) (rows_of side self.now.point.adj)) 0 }
     {
         self.point.row_after(side, key)
+    }
+
+    /// The keys that are desired are those of its sessions, each once, in order.
+    pub fn know_keys(&self)
+        ensures own { AreOwn self.now.point.key self.now.point.adj.desired }
+        ensures sorted { IsTable key_order self.now.point.adj.desired }
+    {
+        self.point.know_kept();
     }
 
     /// How many keys have a row: neither table has more.

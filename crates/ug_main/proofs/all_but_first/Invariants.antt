@@ -4,7 +4,7 @@ use Rattle.ug_main.proofs.all_but_first.Given as goal
 
 -- the words so far, and the arguments that are left
 abbrev pub invariant-loop-word : goal.invariant-loop-word
-invariant-loop-word g l =
-    (goal.iterator-loop-word g).can_next l.word-iterator
-    × (goal.iterator-loop-word g).is_finite l.word-iterator
+invariant-loop-word l =
+    goal.iterator-loop-word.can_next l.word-iterator
+    × goal.iterator-loop-word.is_finite l.word-iterator
     × (l.words.items ++ into_iter_items l.word-iterator ≡ drop 1 (into_iter_items l.fn.args))

@@ -157,7 +157,7 @@ returns-clause-counted g c = λ w is.
     let ended = read-ended g.S.Machine.rules g.S.Speaker.speech (first_of c.args.start.first.items) old new o o' c.read_lines-lanes.new.reading.end c.in-Some.end c.in-Some.is c.read_lines-lanes.ensures.ended in
     counted-home g.S.Machine.rules g.S.Speaker.speech (g.met.S.Machine g.world.𝓛 g.world.𝓜 g.world.𝓡 ((λ s x. x), (λ x. x), (λ x. x), λ x. x)).lawful
     (g.met.S.Speaker g.world.𝓛 g.world.𝓜 g.world.𝓡 ((λ s x. x), (λ x. x), (λ x. x), λ x. x)).speaks g.E.Wire.Wire.sessions g.E.Wire.Wire.begun g.E.Wire.Wire.faults g.E.Wire.Wire.made_for
-    w c.args.begun.turnstile c.args.begun.builder c.args.begun.passes.items c.args.start.wires.items is c.args.start.names.items c.args.start.grammar old new c.new.ensures
+    w c.args.begun.turnstile c.args.begun.builder c.args.begun.passes.items c.args.start.wires.items is c.args.start.names.items c.args.start.grammar c.args.start.coalesce old new c.new.ensures
     (first_of c.args.start.first.items) o o' c.in-Some.end ended c.read_lines-lanes.result.items c.into_parts-pass.result.0 c.into_parts-pass.ensures.pass
     c.close-history.result.history.items c.close-history.ensures.history (row_of c.finish-status.result).completed
     (λ done. finished-whole _ _ _ _ _ _ _ (c.in-Some.end ≡ ends.Complete) c.in-Some.end c.close-history.result.unnoted c.finish-status.result c.finish-status.ensures.finished (λ is'. is') done)

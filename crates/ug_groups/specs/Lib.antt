@@ -1,0 +1,11 @@
+pub mod Members
+pub mod Kept
+pub mod Steps
+pub mod Changes
+pub mod Done
+pub mod Fronts
+pub mod Jobs
+pub mod Fresh
+pub mod Turns
+pub mod Entered
+pub mod TableChanges

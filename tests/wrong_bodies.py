@@ -1,0 +1,121 @@
+#!/usr/bin/env python3
+"""Tries the wrong bodies of the crates that are named, or of all, several in one check: one in each function, which has to be
+refused with an error of its own. A function that waits for another's proof is tried again without that one. It changes the
+files of the repository that it runs in, and puts them back: tests/wrong-bodies.sh runs it in a copy.
+"""
+import pathlib
+import re
+import subprocess
+import sys
+
+CRATES = pathlib.Path("crates")
+
+
+class Edit:
+    """A wrong body: its pairs of texts in one file, and the function in which the first of them stands."""
+
+    def __init__(self, path):
+        self.name = re.sub(r"\.edit(\.md)?$", "", path.name)
+        self.crate = CRATES / path.parent.parent.name
+        lines = path.read_text().splitlines()
+        texts = [line[5:] for line in lines if line[:5] in ("old: ", "new: ")]
+        self.file = self.crate / next(line[6:] for line in lines if line.startswith("file: "))
+        self.pairs = list(zip(texts[::2], texts[1::2]))
+        self.waited = False
+        self.function = self.function_of() if self.file.suffix == ".rt" else None
+
+    def function_of(self):
+        """The path of the last function that begins before the text, as checks name it without the crate."""
+        path = list(self.file.relative_to(self.crate / "src").with_suffix("").parts)
+        if path[-1] in ("lib", "main"):
+            path.pop()
+        before = self.file.read_text().partition(self.pairs[0][0])[0]
+        starts = re.findall(r"^( *)(?:pub(?:\(\w+\))? )?(?:const )?fn (\w+)", before, re.M)
+        if not starts:
+            return None
+        indent, name = starts[-1]
+        if indent:
+            trait, kind = re.findall(r"^impl(?:<.*?>)? (?:(?:\w+::)*(\w+)(?:<.*>)? for )?(\w+)", before, re.M)[-1]
+            path.append(kind + trait)
+        return "::".join([*path, name])
+
+    def apply(self):
+        """Puts the wrong texts in, if each right one stands there once."""
+        text = self.file.read_text()
+        for old, new in self.pairs:
+            if text.count(old) != 1:
+                return False
+            text = text.replace(old, new)
+        self.file.write_text(text)
+        return True
+
+
+def check(batch):
+    """Checks the functions of a batch, and what they call, or the whole crate where an edit stands in none."""
+    only = [word for edit in batch if edit.function for word in ("--only", edit.function)]
+    done = subprocess.run(["rt", "check", *only], cwd=batch[0].crate, capture_output=True, text=True)
+    return done.returncode, done.stdout + done.stderr
+
+
+def verdict(edit, out):
+    """What the check says of the edit's function, if it says anything: refused, let through, or that it waits for another."""
+    said = re.findall(rf"^fn {edit.crate.name}::{re.escape(edit.function)}: (.*)$", out, re.M)
+    if not said:
+        return None
+    if said[0] == "proved":
+        return "LET THROUGH"
+    if re.search(r"did not prove|^not proved|expected answers", said[0]):
+        return "refused"
+    if re.search(r"(which is|which are|are) not proved|which has no proof", said[0]):
+        return "waits"
+    return "BAD: " + said[0][:100]
+
+
+def tried(batch):
+    """The edits of a batch, each with what came of it."""
+    kept = {edit.file: edit.file.read_text() for edit in batch}
+    applied = [edit for edit in batch if edit.apply()]
+    status, out = check(applied)
+    for file, text in kept.items():
+        file.write_text(text)
+    said = {}
+    for edit in batch:
+        if edit not in applied:
+            said[edit] = "waits" if len(batch) > 1 else "BAD: a text doesn't stand there once"
+        elif edit.function:
+            said[edit] = verdict(edit, out)
+        if said.get(edit) is None:
+            said[edit] = "waits"
+        if said[edit] == "waits" and len(batch) == 1:
+            said[edit] = "refused" if re.search(r"^fn .*did not prove", out, re.M) else "BAD: nothing is refused"
+    return said
+
+
+def batch_of(waiting):
+    """Of each function one, without those that waited already; or else one alone."""
+    batch = {}
+    for edit in waiting:
+        if edit.function and not edit.waited:
+            batch.setdefault(edit.function, edit)
+    return list(batch.values()) or waiting[:1]
+
+
+def main():
+    crates = sys.argv[1:] or sorted(folder.parent.name for folder in CRATES.glob("*/must-fail"))
+    counts = {"refused": 0}
+    for crate in crates:
+        waiting = [Edit(path) for path in sorted((CRATES / crate / "must-fail").glob("*.edit*"))]
+        while waiting:
+            for edit, said in tried(batch_of(waiting)).items():
+                if said == "waits":
+                    edit.waited = True
+                    continue
+                waiting.remove(edit)
+                counts[said.split(":")[0]] = counts.get(said.split(":")[0], 0) + 1
+                print(f"{crate} {edit.name}: {said}", flush=True)
+    print(", ".join(f"{count} {what}" for what, count in counts.items()))
+    return len(counts) > 1
+
+
+if __name__ == "__main__":
+    sys.exit(main())
