@@ -1,0 +1,3 @@
+pub mod Searched
+pub mod GoingOn
+pub mod Glued

@@ -1,0 +1,13 @@
+pub mod Keys
+pub mod Maps
+pub mod Parts
+pub mod Going
+pub mod Visited
+pub mod Among
+pub mod Passing
+pub mod Listed
+pub mod Tables
+pub mod Taking
+pub mod Retold
+pub mod Begun
+pub mod Logged

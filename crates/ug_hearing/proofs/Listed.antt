@@ -1,0 +1,90 @@
+-- Keys of a map that are picked by a test.
+use Rattle.std.proofs.Common.{◌≡◌, Bool, true, false, cond, List, [], ◌∷◌, ◌++◌, Some, refl, sym, ◌∙◌, ap, subst}
+use Rattle.std.specs.Prelude.{◌||◌, ◌&&◌, is_some}
+use Rattle.std.specs.Map.{keys_of}
+use Rattle.std.proofs.lemmas.List.{map-append, append-nil}
+use Rattle.ug_types.specs.declared.key.Key.{Key}
+use Rattle.ug_types.specs.Keys.{same_key}
+use Rattle.ug_table_rules.specs.Tables.{among}
+use Rattle.ug_hearing.specs.Keyed.{value_for}
+use Rattle.ug_hearing.proofs.Keys.{same_is}
+use Rattle.ug_hearing.proofs.Among.{among-last}
+
+and_false : (a : Bool) → (a && false) ≡ false
+and_false true = refl
+and_false false = refl
+
+and_true : (a : Bool) → (a && true) ≡ a
+and_true true = refl
+and_true false = refl
+
+or_none : (b : Bool) → (b || false) ≡ b
+or_none true = refl
+or_none false = refl
+
+or_some : (b : Bool) → (b || true) ≡ true
+or_some true = refl
+or_some false = refl
+
+module _ {X : Type 0} (test : Key → Bool) where
+  keys-last : (done : List (Key × X)) (e : Key × X) (q : Key) → among (keys_of (done ++ e ∷ [])) q ≡ (among (keys_of done) q || same_key q e.0)
+  keys-last done e q = ap (λ (ks : List Key). among ks q) (map-append (λ (x : Key × X). x.0) done (e ∷ [])) ∙ among-last (keys_of done) e.0 q
+
+  pub picked : (done : List (Key × X)) (e : Key × X) (keys : List Key) → ((q : Key) → among keys q ≡ (among (keys_of done) q && test q)) → test e.0 ≡ true
+      → (q : Key) → among (keys ++ e.0 ∷ []) q ≡ (among (keys_of (done ++ e ∷ [])) q && test q)
+  picked done e keys h is q = among-last keys e.0 q ∙ (by (same_key q e.0) refl ∙ ap (λ (b : Bool). b && test q) (sym (keys-last done e q)))
+    where
+      by : (b : Bool) → same_key q e.0 ≡ b → (among keys q || same_key q e.0) ≡ ((among (keys_of done) q || same_key q e.0) && test q)
+      by true same =
+          let yes : test q ≡ true = subst (λ (k : Key). test k ≡ true) (sym (same_is q e.0 same)) is in
+          ap (λ (b : Bool). among keys q || b) same ∙ (or_some (among keys q) ∙ sym (ap (λ (b : Bool). (among (keys_of done) q || b) && test q) same ∙ (ap (λ (b : Bool). b && test q) (or_some (among (keys_of done) q)) ∙ yes)))
+      by false differs =
+          ap (λ (b : Bool). among keys q || b) differs ∙ (or_none (among keys q) ∙ (h q ∙ sym (ap (λ (b : Bool). (among (keys_of done) q || b) && test q) differs ∙ ap (λ (b : Bool). b && test q) (or_none (among (keys_of done) q)))))
+
+  pub passed_by : (done : List (Key × X)) (e : Key × X) (keys : List Key) → ((q : Key) → among keys q ≡ (among (keys_of done) q && test q)) → test e.0 ≡ false
+      → (q : Key) → among keys q ≡ (among (keys_of (done ++ e ∷ [])) q && test q)
+  passed_by done e keys h is q = by (same_key q e.0) refl ∙ ap (λ (b : Bool). b && test q) (sym (keys-last done e q))
+    where
+      by : (b : Bool) → same_key q e.0 ≡ b → among keys q ≡ ((among (keys_of done) q || same_key q e.0) && test q)
+      by true same =
+          let no : test q ≡ false = subst (λ (k : Key). test k ≡ false) (sym (same_is q e.0 same)) is in
+          h q ∙ (ap (λ (b : Bool). among (keys_of done) q && b) no ∙ (and_false (among (keys_of done) q) ∙ sym (ap (λ (b : Bool). (among (keys_of done) q || same_key q e.0) && b) no ∙ and_false (among (keys_of done) q || same_key q e.0))))
+      by false differs = h q ∙ sym (ap (λ (b : Bool). (among (keys_of done) q || b) && test q) differs ∙ ap (λ (b : Bool). b && test q) (or_none (among (keys_of done) q)))
+
+-- the same, of a list of keys
+module _ (test : Key → Bool) (front left : List Key) (k : Key) (h : (q : Key) → among left q ≡ (among front q && test q)) where
+  pub chosen : test k ≡ true → (q : Key) → among (left ++ k ∷ []) q ≡ (among (front ++ k ∷ []) q && test q)
+  chosen is q = among-last left k q ∙ (by (same_key q k) refl ∙ ap (λ (b : Bool). b && test q) (sym (among-last front k q)))
+    where
+      by : (b : Bool) → same_key q k ≡ b → (among left q || same_key q k) ≡ ((among front q || same_key q k) && test q)
+      by true same =
+          let passes : test q ≡ true = subst (λ (x : Key). test x ≡ true) (sym (same_is q k same)) is in
+          ap (λ (b : Bool). among left q || b) same ∙ (or_some (among left q) ∙ sym (ap (λ (b : Bool). (among front q || b) && test q) same ∙ (ap (λ (b : Bool). b && test q) (or_some (among front q)) ∙ passes)))
+      by false differs =
+          ap (λ (b : Bool). among left q || b) differs ∙ (or_none (among left q) ∙ (h q ∙ sym (ap (λ (b : Bool). (among front q || b) && test q) differs ∙ ap (λ (b : Bool). b && test q) (or_none (among front q)))))
+
+  pub unchosen : test k ≡ false → (q : Key) → among left q ≡ (among (front ++ k ∷ []) q && test q)
+  unchosen is q = by (same_key q k) refl ∙ ap (λ (b : Bool). b && test q) (sym (among-last front k q))
+    where
+      by : (b : Bool) → same_key q k ≡ b → among left q ≡ ((among front q || same_key q k) && test q)
+      by true same =
+          let fails : test q ≡ false = subst (λ (x : Key). test x ≡ false) (sym (same_is q k same)) is in
+          h q ∙ (ap (λ (b : Bool). among front q && b) fails ∙ (and_false (among front q) ∙ sym (ap (λ (b : Bool). (among front q || same_key q k) && b) fails ∙ and_false (among front q || same_key q k))))
+      by false differs = h q ∙ sym (ap (λ (b : Bool). (among front q || b) && test q) differs ∙ ap (λ (b : Bool). b && test q) (or_none (among front q)))
+
+pub among-there : {X : Type 0} (entries : List (Key × X)) (q : Key) → is_some (value_for entries q) ≡ among (keys_of entries) q
+among-there [] q = refl
+among-there {X} (e ∷ entries) q = by (same_key q e.0) (among-there entries q)
+  where
+    by : (b : Bool) → is_some (value_for entries q) ≡ among (keys_of entries) q → is_some (cond b (Some e.1) (value_for entries q)) ≡ (b || among (keys_of entries) q)
+    by true rest = refl
+    by false rest = rest
+
+-- all keys that pass are picked in the end
+pub all-picked : {X : Type 0} (test : Key → Bool) (entries done : List (Key × X)) (keys : List Key) → done ++ [] ≡ entries → ((q : Key) → among keys q ≡ (among (keys_of done) q && test q))
+    → ((q : Key) → test q ≡ true → is_some (value_for entries q) ≡ true) → (q : Key) → among keys q ≡ test q
+all-picked {X} test entries done keys parts h there q = h q ∙ (ap (λ (es : List (Key × X)). among (keys_of es) q && test q) (sym (append-nil done) ∙ parts) ∙ by (test q) refl)
+  where
+    by : (b : Bool) → test q ≡ b → (among (keys_of entries) q && test q) ≡ test q
+    by true is = ap (λ (b : Bool). b && test q) (sym (among-there entries q) ∙ there q is)
+    by false is = ap (λ (b : Bool). among (keys_of entries) q && b) is ∙ (and_false (among (keys_of entries) q) ∙ sym is)

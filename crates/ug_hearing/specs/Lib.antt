@@ -1,0 +1,7 @@
+pub mod Keyed
+pub mod Courses
+pub mod Rows
+pub mod Visits
+pub mod Passes
+pub mod Heard
+pub mod Logs

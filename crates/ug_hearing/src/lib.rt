@@ -1,0 +1,21 @@
+//! A session, heard message by message beside what the private table of its peer was: breaches, the first of them, and how
+//! each key climbed.
+#![tactic(auto)]
+
+mod course;
+mod hearing;
+mod key_map;
+mod laws;
+mod log;
+mod naming;
+mod row;
+mod standings;
+
+pub use course::{Course, passed, start, value_in};
+pub use hearing::Hearing;
+pub use key_map::KeyMap;
+pub use laws::log_goes_on;
+pub use log::Log;
+pub use naming::all_but;
+pub use row::{Moved, Row};
+pub use standings::Standings;

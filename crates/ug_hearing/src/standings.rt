@@ -1,0 +1,182 @@
+//! How the keys stand.
+
+ghost use Rattle.std.specs.Prelude.{◌≡◌, ◌≤◌, ◌<◌, ◌+◌, ◌==◌, ℕ, List, [], IfOk, OnOk, IfSome, IfNone, option_copied, length};
+ghost use Rattle.ug_climb.specs.Pasts.{Value, StandsIn, Climbs, value_before};
+ghost use Rattle.ug_hearing.specs.Rows.{row_for, IsNoted};
+ghost use Rattle.ug_hearing.specs.Courses.{changes_of};
+ghost use Rattle.ug_hearing.specs.Visits.{IsVisit, NeverBelow};
+ghost use Rattle.ug_types.specs.declared.key.Key as routes;
+ghost use Rattle.ug_table_rules.specs.Tables.{among};
+ghost use Rattle.ug_hearing.specs.Passes.{ArePassed};
+ghost use Rattle.ug_hearing.specs.Heard.{is_stale_in};
+
+use crate::course::{Course, start};
+use crate::key_map::KeyMap;
+use crate::row::{Moved, Row};
+use std::alloc::Global;
+use ug_climb::{Change, Standing, climb, value_at};
+use ug_types::{Attrs, Key, NoMemory};
+
+/// The rows of the keys that were named, their moves in order, and how many refreshes have begun.
+#[derive(Drop)]
+pub struct Standings {
+    pub rows: KeyMap<Row>,
+    pub moves: Vec<Moved>,
+    pub refreshes: u64,
+}
+
+impl Standings {
+    /// Before any key is named.
+    pub fn new(alloc: Global) -> Standings
+        ensures rows { result.rows ≡ [] }
+        ensures moves { result.moves.items ≡ [] }
+        ensures refreshes { result.refreshes ≡ 0 }
+    {
+        Standings {
+            rows: KeyMap::new(alloc),
+            moves: Vec::new(alloc),
+            refreshes: 0,
+        }
+    }
+
+    /// The row of a key, or the one that it begins with.
+    pub fn row(&self, course: &Course, key: &Key) -> Row
+        ensures { result ≡ row_for self.now.rows course.now.changes course.now.from key.now }
+    {
+        match self.rows.get(key) {
+            Some(row) => *row,
+            None => Row {
+                standing: start(course.changes_of(key), course.from),
+                moved: 0,
+                seen: 0,
+            },
+        }
+    }
+
+    /// What the key has, by its row.
+    pub fn value<'a>(&self, course: &'a Course, key: &Key) -> Option<&'a Attrs>
+        ensures { option_copied result ≡ value_before (row_for self.now.rows course.now.changes course.now.from key.now).standing.next (changes_of course.now.changes key.now) }
+    {
+        let row = self.row(course, key);
+        value_at(course.changes_of(key), row.standing.next)
+    }
+
+    /// The key has this value after the message: its row goes there. Answers whether it could.
+    pub fn visit(
+        &mut self,
+        course: &Course,
+        message: u64,
+        key: &Key,
+        value: Option<&Attrs>,
+    ) -> Result<bool, NoMemory>
+        ensures { IfOk result (IsVisit course.now.changes course.now.from course.now.to message key.now (option_copied value.entry) self.old self.new) }
+    {
+        let row = self.row(course, key);
+        let seen = self.refreshes;
+        let Some(standing) = climb_below(course.changes_of(key), row.standing, value, course.to)
+        else {
+            self.rows.put(*key, Row { seen, ..row })?;
+            return Ok(false);
+        };
+        let moved = self.note(course, message, &row, standing)?;
+        self.rows.put(
+            *key,
+            Row {
+                standing,
+                moved,
+                seen,
+            },
+        )?;
+        Ok(true)
+    }
+
+    /// Each of the keys has this value after the message. Those whose rows could not go there are added.
+    pub fn visit_all(
+        &mut self,
+        course: &Course,
+        message: u64,
+        keys: &[Key],
+        value: Option<&Attrs>,
+        failed: &mut Vec<Key>,
+    ) -> Result<(), NoMemory>
+        ensures { OnOk result (ArePassed course.now.changes course.now.from course.now.to message keys.now (option_copied value.entry) failed.old.items failed.new.items self.old self.new) }
+    {
+        for key in keys {
+            if !self.visit(course, message, key, value)? {
+                failed.push(*key)?;
+            }
+        }
+        Ok(())
+    }
+
+    /// Whether the key's route was announced before the present refresh began.
+    fn is_stale(&self, course: &Course, key: &Key) -> bool
+        ensures { result ≡ is_stale_in self.now.refreshes course.now.changes self.now.rows key.now }
+    {
+        match self.rows.get(key) {
+            Some(row) => {
+                row.seen < self.refreshes
+                    && value_at(course.changes_of(key), row.standing.next).is_some()
+            }
+            None => false,
+        }
+    }
+
+    /// The keys whose routes were announced before the present refresh began.
+    pub fn stale_keys(&self, alloc: Global, course: &Course) -> Result<Vec<Key>, NoMemory>
+        ensures { IfOk result (λ keys. (q : routes.Key) → among keys.items q ≡ is_stale_in self.now.refreshes course.now.changes self.now.rows q) }
+    {
+        let mut keys = Vec::new(alloc);
+        for (key, _row) in self.rows.iter() {
+            if self.is_stale(course, key) {
+                keys.push(*key)?;
+            }
+        }
+        Ok(keys)
+    }
+
+    /// Notes the move of a row, where there is one, and answers the number of its last.
+    fn note(
+        &mut self,
+        course: &Course,
+        message: u64,
+        row: &Row,
+        to: Standing,
+    ) -> Result<usize, NoMemory>
+        ensures noted { IfOk result (λ moved. (seen : ℕ) → IsNoted (row.now.standing.place == to.place) self.old.moves.items self.new.moves.items message course.now.from row.now (record { standing = to; moved = moved; seen = seen })) }
+        ensures rows { self.new.rows ≡ self.old.rows }
+        ensures refreshes { self.new.refreshes ≡ self.old.refreshes }
+    {
+        if row.standing.place == to.place {
+            return Ok(row.moved);
+        }
+        self.moves.push(Moved {
+            message,
+            place: to.place.saturating_sub(course.from),
+            before: row.moved,
+        })?;
+        Ok(self.moves.len())
+    }
+}
+
+/// The climb's next standing, where that is below a place.
+fn climb_below(
+    changes: &[Change],
+    from: Standing,
+    value: Option<&Attrs>,
+    to: u32,
+) -> Option<Standing>
+    ensures climbs { (past : List Value) → StandsIn past changes.now from → IfSome result (Climbs past changes.now from (option_copied value.entry)) }
+    ensures below { IfSome result (λ t. t.place < to) }
+    ensures stuck { (past : List Value) → StandsIn past changes.now from → IfNone result (NeverBelow past from.place to (option_copied value.entry)) }
+{
+    match climb(changes, from, value) {
+        Some(standing) => {
+            if standing.place < to {
+                return Some(standing);
+            }
+            None
+        }
+        None => None,
+    }
+}

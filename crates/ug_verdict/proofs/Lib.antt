@@ -1,0 +1,9 @@
+pub mod Leasts
+pub mod Compared
+pub mod Worse
+pub mod Places
+pub mod Judging
+pub mod Messages
+pub mod Ending
+pub mod Chains
+pub mod Climbing

@@ -1,0 +1,12 @@
+use Rattle.std.proofs.Common.{◌≡◌, ◌≤◌}
+use Rattle.ug_types.specs.declared.mark.Mark.{Mark}
+use Rattle.ug_verdict.specs.Marked.{IsMarkIn, IsWorst}
+use Rattle.ug_verdict.proofs.marks.pass_marks.Given as goal
+
+abbrev pub invariant-loop-i : goal.invariant-loop-i
+invariant-loop-i l = record {
+  at : l.at ≡ l.i;
+  low : l.fn.next ≤ l.i;
+  of : (m : Mark) → IsMarkIn l.syncs l.fn.next l.i m → m.handed ≡ l.fn.messages;
+  worst : IsWorst l.standings.rows l.session.course.changes l.session.course.from l.syncs l.fn.next l.i l.worst;
+}

@@ -1,0 +1,6 @@
+pub mod Least
+pub mod Differences
+pub mod Marked
+pub mod Judged
+pub mod Ended
+pub mod Climbed
