@@ -1,19 +1,27 @@
 #!/bin/bash
-# Runs `run` over 200,000 prefixes, ten an attribute set, to 1, 8 and 32 external peers, with the routes after the sessions
-# and before them, and with --workers 0 and 1. Prints for each the time, the processors' time, the peak memory and the
-# bytes written; then how the time grows from 100,000 to 400,000 prefixes, to 8 peers. Of RUNS runs (3) the shortest counts.
-# What is written goes to TMPDIR, up to half a gigabyte a run. PEERS and PREFIXES are other numbers than these.
+# Runs `run` over 200,000 prefixes, ten an attribute set, to 1, 8, 32 and 64 external peers of one group and of four, with
+# `coalesce` 4096 and 1, with the routes after the sessions and before them, and with --workers 0 and 1. Prints for each the
+# time, the processors' time, the peak memory and the bytes written; then how the time grows from 100,000 to 400,000 prefixes,
+# to 8 peers of one group with `coalesce` 4096. Of RUNS runs (3) the shortest counts. What is written goes to TMPDIR, up to a
+# gigabyte a run. PEERS, GROUPS_OF, COALESCE and PREFIXES are other numbers than these.
 set -e
 source "$(dirname "$0")/measure.sh"
 runs=${RUNS:-3}
 prefixes=${PREFIXES:-200000}
 
-# A configuration of that many external peers.
+# config PEERS GROUPS COALESCE: that many external peers, of so many groups: each but the first has a map of its own, which lets
+# all through.
 config() {
-    awk -v n="$1" 'BEGIN {
-        printf "[local]\nas = 65001\nrouter_id = \"10.255.0.1\"\n"
-        for (i = 1; i <= n; i++)
-            printf "\n[[peer]]\nname = \"p%d\"\nas = %d\nrouter_id = \"10.200.%d.2\"\naddress = \"10.200.%d.2\"\nlocal_address = \"10.200.%d.1\"\nsubnet = \"10.200.%d.0/24\"\n", i, 65100 + i, i, i, i, i }'
+    awk -v n="$1" -v groups="$2" -v coalesce="$3" 'BEGIN {
+        printf "[local]\nas = 65001\nrouter_id = \"10.255.0.1\"\ncoalesce = %d\n", coalesce
+        for (i = 1; i < groups; i++) {
+            printf "\n[[route_map]]\nname = \"m%d\"\nentry = [{ seq = 10, action = \"permit\" }]\n", i
+            printf "\n[[policy]]\nname = \"m%d\"\nroute_map = \"m%d\"\n", i, i
+        }
+        for (i = 1; i <= n; i++) {
+            printf "\n[[peer]]\nname = \"p%d\"\nas = %d\nrouter_id = \"10.200.%d.2\"\naddress = \"10.200.%d.2\"\nlocal_address = \"10.200.%d.1\"\nsubnet = \"10.200.%d.0/24\"\n", i, 65100 + i, i, i, i, i
+            if (i % groups > 0) printf "policy = \"m%d\"\n", i % groups
+        } }'
 }
 
 # events PREFIXES PEERS ORDER: the routes, with the sessions of all peers before or after them.
@@ -40,10 +48,10 @@ timed() {
     echo "$best"
 }
 
-# one_run PREFIXES PEERS ORDER WORKERS: prints the line of such a run, and leaves its time in `wall`.
+# one_run PREFIXES PEERS GROUPS COALESCE ORDER WORKERS: prints the line of such a run, and leaves its time in `wall`.
 one_run() {
-    local n=$1 peers=$2 order=$3 workers=$4 taken kib bytes
-    config "$peers" > "$work/config"
+    local n=$1 peers=$2 groups=$3 coalesce=$4 order=$5 workers=$6 taken kib bytes
+    config "$peers" "$groups" "$coalesce" > "$work/config"
     events "$n" "$peers" "$order" > "$work/events"
     taken=$(timed run "$work/config" "$work/events" "$work/there" --workers "$workers")
     bytes=$(cat "$work"/there/* | wc -c)
@@ -51,22 +59,27 @@ one_run() {
     mkdir "$work/there"
     kib=$(peak run "$work/config" "$work/events" "$work/there" --workers "$workers")
     wall=${taken% *}
-    echo "$n prefixes to $peers peers, routes $order the sessions, --workers $workers: $wall s, processors ${taken#* } s, peak $kib KiB, $bytes bytes written; $(tail -n 1 "$work/report")"
+    echo "$n prefixes to $peers peers of $groups groups, coalesce $coalesce, routes $order the sessions, --workers $workers: $wall s, processors ${taken#* } s, peak $kib KiB, $bytes bytes written; $(tail -n 1 "$work/report")"
 }
 
-for peers in ${PEERS:-1 8 32}; do
-    for order in after before; do
-        for workers in 0 1; do
-            one_run "$prefixes" "$peers" "$order" "$workers"
+for peers in ${PEERS:-1 8 32 64}; do
+    for groups in ${GROUPS_OF:-1 4}; do
+        [ "$groups" -le "$peers" ] || continue
+        for coalesce in ${COALESCE:-4096 1}; do
+            for order in after before; do
+                for workers in 0 1; do
+                    one_run "$prefixes" "$peers" "$groups" "$coalesce" "$order" "$workers"
+                done
+            done
         done
     done
 done
 for order in after before; do
     for workers in 0 1; do
-        one_run $((prefixes / 2)) 8 "$order" "$workers" > /dev/null
+        one_run $((prefixes / 2)) 8 1 4096 "$order" "$workers" > /dev/null
         small=$wall
-        one_run $((prefixes * 2)) 8 "$order" "$workers" > /dev/null
+        one_run $((prefixes * 2)) 8 1 4096 "$order" "$workers" > /dev/null
         awk -v n="$prefixes" -v a="$small" -v b="$wall" -v o="$order" -v w="$workers" 'BEGIN {
-            printf "growth from %d to %d prefixes to 8 peers, routes %s the sessions, --workers %d: %.2f times (%.2f s, %.2f s)\n", n / 2, n * 2, o, w, b / a, a, b }'
+            printf "growth from %d to %d prefixes to 8 peers of one group, coalesce 4096, routes %s the sessions, --workers %d: %.2f times (%.2f s, %.2f s)\n", n / 2, n * 2, o, w, b / a, a, b }'
     done
 done

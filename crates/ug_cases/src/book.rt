@@ -167,7 +167,7 @@ fn compare<R: Print>(rt: &R, alloc: Global, mut came: Came, wanted: &str) -> Res
     Ok(Open::Came(came))
 }
 
-/// Takes a turn, and prints it with what is wanted of it where that came, and else with what came.
+/// Takes the turns of a line, and prints it with what is wanted of them where that came, and else with what came.
 fn take_turn<L: Ledger, R: Print>(
     rt: &R,
     alloc: Global,
@@ -177,7 +177,7 @@ fn take_turn<L: Ledger, R: Print>(
 ) -> Result<Open, Wrong> {
     let (turn, wanted) = text.split_once(" > ").unwrap_or((text, ""));
     let played = written_out(alloc, turn)?;
-    let said = stage.play(alloc, played.as_str(), steps)?;
+    let said = stage.play_all(alloc, played.as_str(), steps)?;
     let came = Told {
         text: said,
         is_spelled: true,

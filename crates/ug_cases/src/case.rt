@@ -37,6 +37,7 @@ pub struct Case {
     pub shown: Shown,
     pub tables: Vec<Table>,
     pub without_marks: bool,
+    pub numbered: bool,
 }
 
 impl Case {
@@ -53,6 +54,7 @@ impl Case {
             shown: Shown::All,
             tables: Vec::new(alloc),
             without_marks: false,
+            numbered: false,
         }
     }
 
@@ -87,6 +89,7 @@ impl Case {
             "report" => self.shown = Shown::None,
             "table" => self.add_table(alloc, rest)?,
             "unmarked" => self.without_marks = true,
+            "made" => self.numbered = true,
             _ => self.add_text(alloc, kind, rest)?,
         }
         Ok(())

@@ -11,12 +11,12 @@ use std::sync::Wait;
 use std::sync::ledger::Ledger;
 use std::thread::Threads;
 use ug_edge::{Cut, File, MemSink, MemSite, MemWire};
-use ug_plain::Plain;
+use ug_groups::Groups;
 use ug_run::{Done, serve};
 use ug_types::{NoMemory, NumberList, Sequence, Steps};
 
 /// The machine behind the speaker that is shipped.
-pub type Shipped = Plain;
+pub type Shipped = Groups;
 
 /// What a run came to.
 pub type Ended = Done<MemWire, Shipped>;

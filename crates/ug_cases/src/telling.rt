@@ -10,8 +10,9 @@ use std::alloc::Global;
 use std::sync::Wait;
 use std::sync::ledger::Ledger;
 use std::thread::Threads;
+use ug_board::{BoardSaid, BoardStep, LaneSaid, LaneStep};
 use ug_edge::{MemSink, MemWire};
-use ug_types::Steps;
+use ug_types::{PeerId, Steps};
 
 /// The number of the status, the report, and the sessions of each wire, as the case has them shown.
 pub fn tell<L: Ledger, R: Threads + Wait + Sync>(
@@ -34,6 +35,9 @@ pub fn tell<L: Ledger, R: Threads + Wait + Sync>(
             Shown::Last => tell_last(alloc, &mut lines, number, wire)?,
             Shown::None => {}
         }
+    }
+    if case.numbered {
+        tell_numbers(alloc, &mut lines, done)?;
     }
     for table in &case.tables {
         tell_table(rt, alloc, &mut lines, wires, table, steps)?;
@@ -123,6 +127,44 @@ fn tell_session(
         rest = others;
     }
     Ok(())
+}
+
+/// Of each session of each wire, the numbers of the packets that were handed out in it. Those who share a packet are handed
+/// the same number, and the numbers are those of the steps that formatted them, from 0 on.
+fn tell_numbers(alloc: Global, lines: &mut Vec<Told>, done: &Ended) -> Result<(), Wrong> {
+    let mut peer: PeerId = 0;
+    for wire in done.wires.as_slice() {
+        for session in 1..=wire.sessions() {
+            let text = numbers_of(alloc, done, peer, session)?;
+            add_told(lines, text, false)?;
+        }
+        peer = peer.saturating_add(1);
+    }
+    Ok(())
+}
+
+/// A line with the numbers of the packets that were handed out in a session.
+fn numbers_of(alloc: Global, done: &Ended, peer: PeerId, session: u32) -> Result<String, Wrong> {
+    let mut text = format!(in alloc; "made {}.{session}", peer.saturating_add(1))?;
+    for entry in done.history.as_slice() {
+        let BoardStep::Lane(LaneStep::Next { peer: to }) = entry.step() else {
+            continue;
+        };
+        let BoardSaid::Lane(
+            LaneSaid::Hand {
+                session: of,
+                made,
+                ..
+            },
+        ) = entry.said()
+        else {
+            continue;
+        };
+        if to == peer && of == session {
+            write!(text, " {made}")?;
+        }
+    }
+    Ok(text)
 }
 
 /// The rows of a table.

@@ -11,15 +11,35 @@ use std::alloc::Global;
 use std::sync::ledger::Ledger;
 use ug_board::{LaneSaid, LaneStep};
 use ug_events::{Event, Line, LineRefusal, read_line};
+use ug_groups::GroupJob;
 use ug_speaker::Speaker;
 use ug_types::{Mark, NoMemory, PeerId, Steps};
 
 impl Stage {
+    /// What comes of turns, one behind the other, with ` ;` between them.
+    pub fn play_all<L: Ledger>(
+        &mut self,
+        alloc: Global,
+        turns: &str,
+        steps: &mut Steps<L>,
+    ) -> Result<String, Wrong> {
+        let mut text = String::new(alloc);
+        for turn in turns.split(" ;") {
+            let turn = turn.trim();
+            if !turn.is_empty() {
+                text.push_str(self.play(alloc, turn, steps)?.as_str())?;
+            }
+        }
+        Ok(text)
+    }
+
     /// What comes of a turn: `next PEER`, the lane to a peer asks once what is next; `rest PEER`, it asks until nothing is
-    /// to be done for now; `lost PEER SESSION`, it tells the loss of a session; `settle` and `drain`, the jobs are done that
-    /// have to be done before the next event, or by which more can be told; `close`, there are no further events; and else
-    /// a line of events is taken, or a mark where it says `sync`.
-    pub fn play<L: Ledger>(
+    /// to be done for now; `made PEER`, it asks so too, and each message is told with the number of its packet;
+    /// `lost PEER SESSION`, it tells the loss of a session; `settle` and `drain`, the jobs are done that have to be done
+    /// before the next event, or by which more can be told; `format SUBGROUP`, `merge SUBGROUP SUBGROUP` and
+    /// `slow SUBGROUP`, one job is done; `only LINE`, an event is taken, and nothing is done before or behind it; `close`,
+    /// there are no further events; and else a line of events is taken, or a mark where it says `sync`.
+    fn play<L: Ledger>(
         &mut self,
         alloc: Global,
         turn: &str,
@@ -29,9 +49,14 @@ impl Stage {
         match verb {
             "next" => self.play_next(alloc, self.peer(alloc, rest)?),
             "rest" => self.play_rest(alloc, self.peer(alloc, rest)?),
+            "made" => self.play_numbers(alloc, self.peer(alloc, rest)?),
             "lost" => self.play_loss(alloc, rest),
             "settle" => self.play_settling(alloc, steps),
             "drain" => self.play_draining(alloc, steps),
+            "format" => self.play_job(alloc, GroupJob::format(number_of(rest)?), steps),
+            "slow" => self.play_job(alloc, GroupJob::slow(number_of(rest)?), steps),
+            "merge" => self.play_merge(alloc, rest, steps),
+            "only" => self.play_only(alloc, rest, steps),
             "close" => self.play_job(alloc, Shipped::close_job(), steps),
             _ => self.play_line(alloc, turn, steps),
         }
@@ -81,6 +106,52 @@ impl Stage {
         let text = self.play_job(alloc, job, steps)?;
         let _after = self.play_settling(alloc, steps)?;
         Ok(text)
+    }
+
+    /// Takes the event of a line, with nothing done before it or behind it.
+    fn play_only<L: Ledger>(
+        &mut self,
+        alloc: Global,
+        line: &str,
+        steps: &mut Steps<L>,
+    ) -> Result<String, Wrong> {
+        match read_line(alloc, line.as_bytes()) {
+            Ok(Line::Happened(event)) => self.play_event_only(alloc, event, steps),
+            Ok(Line::Sync) | Ok(Line::Blank) | Err(LineRefusal::Refused { .. }) => {
+                Err(Wrong::Line("no event"))
+            }
+            Err(LineRefusal::NoMemory) => Err(Wrong::from(NoMemory)),
+        }
+    }
+
+    /// Takes an event where it may be taken now, or tells why the world refuses it.
+    fn play_event_only<L: Ledger>(
+        &mut self,
+        alloc: Global,
+        event: Event,
+        steps: &mut Steps<L>,
+    ) -> Result<String, Wrong>
+        requires { IsEvent (event_of event) }
+    {
+        if let Err(refusal) = self.judge(&event) {
+            return Ok(format!(in alloc; "refused {}; ", refusal.number)?);
+        }
+        let job = Shipped::event_job(alloc, event)?;
+        self.play_job(alloc, job, steps)
+    }
+
+    /// The members of the second subgroup move to the first, where they may now.
+    fn play_merge<L: Ledger>(
+        &mut self,
+        alloc: Global,
+        subgroups: &str,
+        steps: &mut Steps<L>,
+    ) -> Result<String, Wrong> {
+        let Some((sub, other)) = subgroups.split_once(' ') else {
+            return Err(Wrong::Line("no two subgroups"));
+        };
+        let job = GroupJob::merge(number_of(sub)?, number_of(other)?);
+        self.play_job(alloc, job, steps)
     }
 
     /// Does what there is to be done, and marks where everything is told.
@@ -165,6 +236,25 @@ impl Stage {
         Err(Wrong::Line("there is always more to tell"))
     }
 
+    /// The lane to a peer asks until nothing is to be done for now, and each message is told with the number of its packet.
+    fn play_numbers(&mut self, alloc: Global, peer: PeerId) -> Result<String, Wrong> {
+        let mut text = String::new(alloc);
+        for _ in 0..1000 {
+            match self.lane(LaneStep::Next { peer }) {
+                LaneSaid::Begun { session } => write!(text, "begun {session}; ")?,
+                LaneSaid::Hand { made, len, .. } => {
+                    write!(text, "{made}: {}; ", spelled(alloc, self.handed(len))?)?
+                }
+                LaneSaid::Stop => {
+                    write!(text, "stop; ")?;
+                    return Ok(text);
+                }
+                LaneSaid::Idle | LaneSaid::Noted => return Ok(text),
+            }
+        }
+        Err(Wrong::Line("there is always more to tell"))
+    }
+
     /// The lane to a peer tells the loss of a session, which is noted or passed over.
     fn play_loss(&mut self, alloc: Global, text: &str) -> Result<String, Wrong> {
         let Some((name, number)) = text.split_once(' ') else {
@@ -179,6 +269,10 @@ impl Stage {
         }
         Ok(format!(in alloc; "passed; ")?)
     }
+}
+
+fn number_of(text: &str) -> Result<u32, Wrong> {
+    text.parse::<u32>().map_err(|_| Wrong::Line("no subgroup"))
 }
 
 /// Marks: the version, the place of the peer, its session, and how many messages it was handed.

@@ -32,6 +32,20 @@ module _ {Opening State Job Said : Type 0} (rules : Rules Opening State Job Said
   admitted-all all b held was = subst (λ (first : List (Reads Saying)). BuilderStands rules speech b first [] held held) (sym (was.parts ∙ append-nil was.some)) was.stands
 
   pub admitted-some : (all left : List Event) (e : Event) (old new : BuilderView Opening Job Said) (held : Option (List ℕ))
-      → ((first : List (Reads Saying)) (held : Option (List ℕ)) → BuilderStands rules speech old first [] held held → BuilderStands rules speech new first [] held held)
+      → ((first : List (Reads Saying)) (held : Option (List ℕ)) → BuilderStands rules speech old first [] held held → StandsWithin rules speech (first ++ said_of e ∷ []) new held held)
       → HasAdmitted all (e ∷ left) old held → StandsWithin rules speech (first_of all) new held held
-  admitted-some all left e old new held still was = record { some = was.some; more = first_of (e ∷ left); parts = was.parts; stands = still was.some held was.stands }
+  admitted-some all left e old new held within was = let some = within was.some held was.stands in record {
+    some = some.some;
+    more = some.more ++ first_of left;
+    parts = was.parts ∙ sym (append_assoc was.some (said_of e ∷ []) (first_of left)) ∙ ap (λ (xs : List (Reads Saying)). xs ++ first_of left) some.parts ∙ append_assoc some.some some.more (first_of left);
+    stands = some.stands;
+  }
+
+  -- the event was not taken, or it was and memory was wanting behind it
+  pub within-before : (e : Event) (first : List (Reads Saying)) (new : BuilderView Opening Job Said) (held : Option (List ℕ))
+      → BuilderStands rules speech new first [] held held → StandsWithin rules speech (first ++ said_of e ∷ []) new held held
+  within-before e first new held stands = record { some = first; more = said_of e ∷ []; parts = refl; stands = stands }
+
+  pub within-behind : (all : List (Reads Saying)) (new : BuilderView Opening Job Said) (held : Option (List ℕ))
+      → BuilderStands rules speech new all [] held held → StandsWithin rules speech all new held held
+  within-behind all new held stands = record { some = all; more = []; parts = sym (append-nil all); stands = stands }

@@ -68,14 +68,14 @@ fn next_job<S: Speaker>(board: &Board<S>, work: Work) -> Result<Option<S::Job>, 
     }
 }
 
-/// Does such work until there is none.
+/// Does such work until there is none, and answers how many jobs that were.
 #[tactic(auto, using(crate::proofs::Turning::adds_nothing, crate::proofs::Turning::adds_further, crate::proofs::Turning::goes_nowhere))]
 fn prepare<S: Speaker, R: Wait, L: Ledger>(
     rt: &R,
     board: &mut Board<S>,
     work: Work,
     steps: &mut Steps<L>,
-) -> Result<(), NoMemory>
+) -> Result<usize, NoMemory>
     requires unspent { board.old.spent ≡ false }
     requires legal { IsLegal S.Machine.rules board.old.opening board.old.history }
     ensures opening { board.new.opening ≡ board.old.opening }
@@ -86,12 +86,14 @@ fn prepare<S: Speaker, R: Wait, L: Ledger>(
     ensures steps_least { RisesBy steps.old steps.new (least_of S.Machine.rules board.old.opening board.old.history) (least_of S.Machine.rules board.old.opening board.new.history) }
     ensures steps_most { OnOk result (RisesWithin steps.old steps.new (most_of S.Machine.rules board.old.opening board.old.history) (most_of S.Machine.rules board.old.opening board.new.history)) }
 {
+    let mut jobs: usize = 0;
     for _ in rt.forever() {
         let next = next_job(board, work)?;
         let Some(job) = next else {
-            return Ok(());
+            return Ok(jobs);
         };
         do_job(board, job, steps)?;
+        jobs = jobs.saturating_add(1);
     }
     unreachable!()
 }
@@ -138,12 +140,12 @@ fn take_event<S: Speaker, L: Ledger>(
     }
 }
 
-/// Does what has to be done before the next event, as far as there is anything.
+/// Does what has to be done before the next event, as far as there is anything, and answers how many jobs that were.
 pub(crate) fn settle<S: Speaker, R: Wait, L: Ledger>(
     rt: &R,
     board: &mut Board<S>,
     steps: &mut Steps<L>,
-) -> Result<(), NoMemory>
+) -> Result<usize, NoMemory>
     ensures opening { board.new.opening ≡ board.old.opening }
     ensures stays_spent { board.old.spent ≡ true → board.new.spent ≡ true }
     ensures adds { Adds (λ entry. entry.pass) 0 board.old.history board.new.history }

@@ -13,9 +13,11 @@ ghost use Rattle.ug_sender.specs.Posts.{AreHere, AllRest, posts_of};
 ghost use Rattle.ug_event_loop.specs.Turns.{GoesOn, AnswersAt, IsLegalAt, IsEndedAt, IsClosedAt, answer_of};
 ghost use Rattle.ug_event_loop.specs.Counts.{least_at, most_at, RisesBy, RisesWithin};
 ghost use Rattle.ug_event_loop.specs.Standing.{said_by, is_due, IsPacedBy, IsPumpedBetween, IsSameBuilder, BuilderStands, TakesLines, StopsWithin};
+ghost use Rattle.ug_event_loop.specs.Reading.{StandsWithin};
 
 use crate::came::Came;
 use crate::grammar::{Grammar, read};
+use crate::pace::Pace;
 use crate::stop::Stop;
 use crate::tally::Tally;
 use crate::turns::{
@@ -46,6 +48,7 @@ pub struct Builder<S: Speaker> {
     reader: LineReader,
     coalesce: u32,
     tally: Tally,
+    pace: Pace,
 }
 
 impl<S: Speaker> Model for Builder<S> {
@@ -86,6 +89,7 @@ impl<S: Speaker> Builder<S> {
                 accepted: 0,
                 refused: 0,
             },
+            pace: Pace::new(),
         }
     }
 
@@ -111,6 +115,7 @@ impl<S: Speaker> Builder<S> {
             reader: _,
             coalesce: _,
             tally: _,
+            pace: _,
         } = self;
         (pass, names)
     }
@@ -287,7 +292,9 @@ impl<S: Speaker> Builder<S> {
         Ok(())
     }
 
-    /// Settles after an event, and lets the lanes take what there is for them where that is due.
+    /// Settles after an event, and lets the lanes take what there is for them where that is due. Where that was much, and lanes
+    /// that work apart took it, it settles again.
+    #[tactic(auto, using(crate::proofs::Turning::goes_further))]
     fn pass_on<R: Wait, W: Wire, L: Ledger>(
         &mut self,
         rt: &R,
@@ -307,12 +314,20 @@ impl<S: Speaker> Builder<S> {
         ensures steps_least { RisesBy steps.old steps.new (least_at S.Machine.rules self.old.pass.root self.old.pass.seen) (least_at S.Machine.rules self.old.pass.root self.new.pass.seen) }
         ensures steps_most { OnOk result (RisesWithin steps.old steps.new (most_at S.Machine.rules self.old.pass.root self.old.pass.seen) (most_at S.Machine.rules self.old.pass.root self.new.pass.seen)) }
     {
-        settle_in_turn(rt, turnstile, &mut self.pass, steps)?;
-        pump_where(rt, turnstile, crew, is_due);
-        Ok(())
+        for _ in rt.forever() {
+            let rings = turnstile.back().rings();
+            let jobs = settle_in_turn(rt, turnstile, &mut self.pass, steps)?;
+            pump_where(rt, turnstile, crew, is_due);
+            let has_more = self.pace.keep(rt, turnstile.back(), rings, jobs, is_due);
+            if !has_more {
+                return Ok(());
+            }
+        }
+        unreachable!()
     }
 
-    /// Takes an event before all lines, of which no report speaks.
+    /// Takes an event before all lines, of which no report speaks. Behind it it settles, and the lanes that work here are
+    /// pumped.
     pub(crate) fn admit<R: Wait, W: Wire, L: Ledger>(
         &mut self,
         rt: &R,
@@ -330,6 +345,31 @@ impl<S: Speaker> Builder<S> {
         ensures taken { OnOk result ((first : List (Reads Saying)) (held : Option (List ℕ)) → BuilderStands S.Machine.rules S.speech self.old first [] held held
             → BuilderStands S.Machine.rules S.speech self.new (first ++ Ok (Says (event_of event)) ∷ []) [] held held) }
         ensures stopped { OnErr result ((first : List (Reads Saying)) (held : Option (List ℕ)) → BuilderStands S.Machine.rules S.speech self.old first [] held held
+            → StandsWithin S.Machine.rules S.speech (first ++ Ok (Says (event_of event)) ∷ []) self.new held held) }
+        ensures steps_least { RisesBy steps.old steps.new (least_at S.Machine.rules self.old.pass.root self.old.pass.seen) (least_at S.Machine.rules self.old.pass.root self.new.pass.seen) }
+        ensures steps_most { OnOk result (RisesWithin steps.old steps.new (most_at S.Machine.rules self.old.pass.root self.old.pass.seen) (most_at S.Machine.rules self.old.pass.root self.new.pass.seen)) }
+    {
+        self.admit_alone(rt, turnstile, steps, event)?;
+        let Ok(()) = self.pass_on(rt, turnstile, crew, steps, true) else {
+            return Err(NoMemory);
+        };
+        Ok(())
+    }
+
+    /// Takes an event before all lines.
+    fn admit_alone<R: Wait, L: Ledger>(
+        &mut self,
+        rt: &R,
+        turnstile: &Turnstile<Board<S>>,
+        steps: &mut Steps<L>,
+        event: Event,
+    ) -> Result<(), NoMemory>
+        requires here { self.old.pass.turnstile ≡ turnstile.now.id }
+        requires form { IsEvent (event_of event) }
+        ensures same { IsSameBuilder self.old self.new }
+        ensures taken { OnOk result ((first : List (Reads Saying)) (held : Option (List ℕ)) → BuilderStands S.Machine.rules S.speech self.old first [] held held
+            → BuilderStands S.Machine.rules S.speech self.new (first ++ Ok (Says (event_of event)) ∷ []) [] held held) }
+        ensures stopped { OnErr result ((first : List (Reads Saying)) (held : Option (List ℕ)) → BuilderStands S.Machine.rules S.speech self.old first [] held held
             → BuilderStands S.Machine.rules S.speech self.new first [] held held) }
         ensures steps_least { RisesBy steps.old steps.new (least_at S.Machine.rules self.old.pass.root self.old.pass.seen) (least_at S.Machine.rules self.old.pass.root self.new.pass.seen) }
         ensures steps_most { OnOk result (RisesWithin steps.old steps.new (most_at S.Machine.rules self.old.pass.root self.old.pass.seen) (most_at S.Machine.rules self.old.pass.root self.new.pass.seen)) }
@@ -338,7 +378,6 @@ impl<S: Speaker> Builder<S> {
         else {
             return Err(NoMemory);
         };
-        pump_where(rt, turnstile, crew, true);
         Ok(())
     }
 

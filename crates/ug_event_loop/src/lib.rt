@@ -9,6 +9,7 @@ mod came;
 mod files;
 mod grammar;
 mod lines;
+mod pace;
 mod reading;
 mod stop;
 mod tally;

@@ -45,13 +45,13 @@ pub(crate) fn offer_in_turn<S: Speaker, R: Wait, L: Ledger>(
     came
 }
 
-/// Does what has to be done before the next event.
+/// Does what has to be done before the next event, and answers how many jobs that were.
 pub(crate) fn settle_in_turn<S: Speaker, R: Wait, L: Ledger>(
     rt: &R,
     turnstile: &Turnstile<Board<S>>,
     pass: &mut Pass<Board<S>>,
     steps: &mut Steps<L>,
-) -> Result<(), NoMemory>
+) -> Result<usize, NoMemory>
     requires here { pass.old.turnstile ≡ turnstile.now.id }
     requires free { pass.old.holds ≡ false }
     requires number { pass.old.number ≡ 0 }

@@ -11,7 +11,7 @@ use Rattle.ug_group_rules.specs.Machine.{Subgroup, System}
 use Rattle.ug_group_rules.specs.Evaluations.{has_key}
 use Rattle.ug_group_rules.proofs.Groups.{group-same}
 use Rattle.ug_group_rules.proofs.Keys.{live-distinct, live-met}
-use Rattle.ug_subgroup.specs.Rows.{Row, Rows, row_at, subs_of, keys_in, with_sub, each_row, of_key}
+use Rattle.ug_groups.specs.Rows.{Row, Rows, row_at, subs_of, keys_in, with_sub, each_row, of_key}
 use Rattle.ug_groups.specs.TableChanges.{by_keys, each_by_key}
 use Rattle.ug_groups.proofs.Reached.{Keeps, mapped_none, mapped_twice}
 

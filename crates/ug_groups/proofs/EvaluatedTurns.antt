@@ -18,7 +18,7 @@ use Rattle.ug_group_rules.specs.Evaluations.{has_key, keys_from, live_keys, path
 use Rattle.ug_group_rules.proofs.Groups.{group-same}
 use Rattle.ug_group_rules.proofs.Keys.{laws, or-so, live-distinct, live-met, live-found}
 use Rattle.ug_group_rules.proofs.Others.{leave-kept}
-use Rattle.ug_groups.proofs.Lists.{end-here, end-there}
+use Rattle.ug_groups.proofs.ListFacts.{end-here, end-there}
 
 -- ---- sums over keys
 

@@ -23,8 +23,8 @@ use Rattle.ug_group_rules.specs.Packets.{Packet, Says, Out, same_out, wanted_row
 use Rattle.ug_group_rules.specs.Machine as machine
 use Rattle.ug_group_rules.specs.Machine.{System, Subgroup, Seat, owes, is_owed, next_packet, with_routes, formatted, given, reseated, with_seats, with_subgroup, subgroup_at, format_of}
 use Rattle.ug_group_rules.specs.Rules.{rest_due}
-use Rattle.ug_subgroup.specs.Standings.{IsFit}
-use Rattle.ug_subgroup.specs.Rows.{Row, Rows, row_at, any_at, HasRow, sub_of, with_row, formatted_row, is_full_row, may_format_row}
+use Rattle.ug_groups.specs.Standings.{IsFit}
+use Rattle.ug_groups.specs.Rows.{Row, Rows, row_at, any_at, HasRow, sub_of, with_row, formatted_row, is_full_row, may_format_row}
 use Rattle.ug_groups.specs.declared.member.Member.{Member}
 use Rattle.ug_groups.specs.Members.{rest_in, seat_in, member_of, members_from, system, is_queued}
 use Rattle.ug_groups.specs.Kept.{IsKept, AreRows}

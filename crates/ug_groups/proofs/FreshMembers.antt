@@ -18,7 +18,7 @@ use Rattle.ug_speaker.proofs.Worlds.{good-first}
 use Rattle.ug_group_rules.specs.Rules.{rest_due}
 use Rattle.ug_group_rules.specs.Machine as machine
 use Rattle.ug_group_rules.specs.Machine.{fresh_member, start}
-use Rattle.ug_subgroup.specs.Rows.{Rows}
+use Rattle.ug_groups.specs.Rows.{Rows}
 use Rattle.ug_groups.specs.declared.member.Member.{Member}
 use Rattle.ug_groups.specs.Members.{member_of, members_from, system, sub_in, sub_at, is_sub, seat_in}
 use Rattle.ug_groups.specs.Kept.{IsKept}

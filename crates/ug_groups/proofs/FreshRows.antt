@@ -15,8 +15,8 @@ use Rattle.ug_group_rules.specs.Machine.{Subgroup, there}
 use Rattle.ug_group_rules.specs.Evaluations.{has_key, all_heeded}
 use Rattle.ug_group_rules.proofs.Tables.{nothing-exact}
 use Rattle.ug_group_rules.proofs.WantedTables.{rows-value}
-use Rattle.ug_subgroup.specs.Sent.{session_of}
-use Rattle.ug_subgroup.specs.Rows.{Row, Rows, row_at, HasRow, keys_in, with_sub, with_row, with_next, empty_row, rekeyed_row, tabled_row}
+use Rattle.ug_groups.specs.Sent.{session_of}
+use Rattle.ug_groups.specs.Rows.{Row, Rows, row_at, HasRow, keys_in, with_sub, with_row, with_next, empty_row, rekeyed_row, tabled_row}
 use Rattle.ug_groups.specs.TableChanges.{HasTableOf, IsFillable, asked_beside, changes_of, key_at, with_changes}
 use Rattle.ug_groups.specs.Entered.{AreKept, asking, fresh_row, rekeyed_to, retabled_row}
 use Rattle.ug_groups.proofs.Reached.{placed_twice}

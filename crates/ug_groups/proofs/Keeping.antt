@@ -10,13 +10,13 @@ use Rattle.ug_speaker.proofs.Places.{changed-here, changed-there}
 use Rattle.ug_group_rules.specs.Packets.{wanted_rows}
 use Rattle.ug_group_rules.specs.Machine as machine
 use Rattle.ug_group_rules.specs.Rules.{rest_due}
-use Rattle.ug_subgroup.specs.Rows.{Row, Rows, row_at, any_at, with_row}
+use Rattle.ug_groups.specs.Rows.{Row, Rows, row_at, any_at, with_row}
 use Rattle.ug_groups.specs.declared.member.Member.{Member}
 use Rattle.ug_queue.specs.Queues.{rest_of}
 use Rattle.ug_groups.specs.Members.{rest_in, member_of, sub_in, sub_at, is_queued, stands}
 use Rattle.ug_groups.specs.Changes.{with_sub}
 use Rattle.ug_groups.specs.Kept.{AreInhabited, IsTabled, AreTabled, IsOwn, AreOwn, HasRoom, HaveRoom, AreCounted}
-use Rattle.ug_groups.proofs.Lists.{some-same}
+use Rattle.ug_groups.proofs.ListFacts.{some-same}
 use Rattle.ug_groups.proofs.RowsAt.{row-here, row-there, changed-cases}
 
 -- ---- one row is another

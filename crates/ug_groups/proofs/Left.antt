@@ -12,7 +12,7 @@ use Rattle.std.specs.Map.{lookup}
 use Rattle.ug_queue.specs.Queues.{is_member}
 use Rattle.ug_group_rules.specs.Machine as machine
 use Rattle.ug_group_rules.specs.Machine.{Seat, System, sits, sits_in, has_members, seat_at, seat_of, seated, with_seat, unless_empty, without_subgroup}
-use Rattle.ug_subgroup.specs.Rows.{Row, Rows, row_at, any_at, subs_of, with_row, without_row, left_row}
+use Rattle.ug_groups.specs.Rows.{Row, Rows, row_at, any_at, subs_of, with_row, without_row, left_row}
 use Rattle.ug_groups.specs.declared.member.Member.{Member}
 use Rattle.ug_groups.specs.Members.{rest_in, seat_in, member_of, members_from, system, sub_in, sub_at, is_sub, is_queued, stands}
 use Rattle.ug_groups.specs.Kept.{AreSeated, AreInhabited, AreTabled, IsOwn, AreOwn, AreRows}

@@ -1,4 +1,28 @@
-pub mod Lists
+pub mod IdValues
+pub mod Holders
+pub mod TableHolders
+pub mod ToldKeys
+pub mod DueRoutes
+pub mod KeptRibs
+pub mod PlainPackets
+pub mod Formats
+pub mod SaidQueues
+pub mod Together
+pub mod HandedTexts
+mod Lists
+mod Accounts
+mod Dones
+mod Scanned
+mod ComeAndGone
+mod PartAndMeet
+mod Found
+mod Swept
+mod InHand
+mod FirstKeys
+mod WalkSteps
+mod NextKeys
+mod WalkTables
+pub mod ListFacts
 pub mod RowsAt
 pub mod MemberViews
 pub mod Queued
@@ -44,3 +68,4 @@ pub mod PrefixEvents
 pub mod AllPrefixes
 pub mod RowsEntered
 pub mod FreshRows
+pub mod Crosses

@@ -1,107 +1,63 @@
--- Lists by place.
-use Rattle.std.proofs.Common.{◌≡◌, ℕ, zero, suc, ◌+◌, ◌<◌, ◌≤◌, List, [], ◌∷◌, ◌++◌, map, take, drop, length, slice_get, Some, None, refl, sym, ap, ◌∙◌, arith}
-use Rattle.std.specs.Prelude.{slice_set, slice_index_or}
-use Rattle.std.proofs.Math.Seq.{take-append_seam}
+-- Lists of options in which the one at a place is another.
+use Rattle.std.proofs.Common.{◌≡◌, ℕ, zero, suc, List, [], ◌∷◌, ◌++◌, map, length, Option, Some, None, refl, sym, ◌∙◌, ap, arith, slice_set}
+use Rattle.std.specs.Option.{option_map}
 use Rattle.ug_speaker.specs.Places.{change_at}
+use Rattle.ug_live.specs.Spread.{value_of}
 
--- lists with the same things at all places are one
-pub same-lists : {T : Type 0} (xs ys : List T) → ((p : ℕ) → slice_get xs p ≡ slice_get ys p) → xs ≡ ys
-same-lists [] [] h = refl
-same-lists [] (y ∷ ys) h = absurd (let e = h 0 in cc)
-same-lists (x ∷ xs) [] h = absurd (let e = h 0 in cc)
-same-lists {T} (x ∷ xs) (y ∷ ys) h =
-    let here : x ≡ y = first x y (h 0) in
-    let rest = same-lists xs ys (λ p. h (suc p)) in
-    λ i. here i ∷ rest i
-  where
-    first : (a b : T) → Some a ≡ Some b → a ≡ b
-    first a b e = cc
+module _ {T : Type 0} where
+  pub set_here : (xs : List (Option T)) (g : ℕ) (x : T) (o : Option T) → value_of g xs ≡ Some x → value_of g (slice_set xs g o) ≡ o
+  set_here [] g x o e = absurd cc
+  set_here (y ∷ xs) zero x o e = refl
+  set_here (y ∷ xs) (suc g) x o e = set_here xs g x o e
 
-pub set_is : {T : Type 0} (change : T → T) (xs : List T) (p : ℕ) (x new : T) → p < length xs → x ≡ slice_index_or xs p x → new ≡ change x → slice_set xs p new ≡ change_at change p xs
-set_is change [] p x new inside is changed = absurd (omega arith)
-set_is {T} change (y ∷ xs) zero x new inside is changed = ap (λ (z : T). z ∷ xs) (changed ∙ ap change is)
-set_is {T} change (y ∷ xs) (suc p) x new inside is changed = ap (λ (l : List T). y ∷ l) (set_is change xs p x new (omega arith) is changed)
+  pub set_other : (xs : List (Option T)) (g h : ℕ) (o : Option T) → (h ≡ g → ⊥) → value_of h (slice_set xs g o) ≡ value_of h xs
+  set_other [] g h o e = refl
+  set_other (y ∷ xs) zero zero o e = absurd (e refl)
+  set_other (y ∷ xs) zero (suc h) o e = refl
+  set_other (y ∷ xs) (suc g) zero o e = refl
+  set_other (y ∷ xs) (suc g) (suc h) o e = set_other xs g h o (λ same. e (ap suc same))
 
--- no place, no change
-pub end_is : {T : Type 0} (change : T → T) (xs : List T) (p : ℕ) → length xs ≤ p → change_at change p xs ≡ xs
-end_is change [] p past = refl
-end_is change (y ∷ xs) zero past = absurd (omega arith)
-end_is {T} change (y ∷ xs) (suc p) past = ap (λ (l : List T). y ∷ l) (end_is change xs p (omega arith))
+  pub at_end : (xs : List (Option T)) (x : T) → value_of (length xs) (xs ++ Some x ∷ []) ≡ Some x
+  at_end [] x = refl
+  at_end (y ∷ xs) x = ap (λ (n : ℕ). value_of n (y ∷ xs ++ Some x ∷ [])) (one_more y xs) ∙ at_end xs x
+    where
+      one_more : (y : Option T) (xs : List (Option T)) → length (y ∷ xs) ≡ suc (length xs)
+      one_more y xs = omega arith
 
-pub get_is : {T : Type 0} (xs : List T) (p : ℕ) (x : T) → p < length xs → x ≡ slice_index_or xs p x → slice_get xs p ≡ Some x
-get_is [] p x inside is = absurd (omega arith)
-get_is {T} (y ∷ xs) zero x inside is = ap (λ (z : T). Some z) (sym is)
-get_is (y ∷ xs) (suc p) x inside is = get_is xs p x (omega arith) is
+  pub before_end : (xs : List (Option T)) (x y : T) (h : ℕ) → value_of h (xs ++ Some x ∷ []) ≡ Some y → (h ≡ length xs → ⊥) → value_of h xs ≡ Some y
+  before_end [] x y zero e apart = absurd (apart refl)
+  before_end [] x y (suc h) e apart = absurd cc
+  before_end (z ∷ xs) x y zero e apart = e
+  before_end (z ∷ xs) x y (suc h) e apart = before_end xs x y h e (λ same. apart (omega (arith, same)))
 
-pub get_none : {T : Type 0} (xs : List T) (p : ℕ) → length xs ≤ p → slice_get xs p ≡ None
-get_none [] p past = refl
-get_none (y ∷ xs) zero past = absurd (omega arith)
-get_none (y ∷ xs) (suc p) past = get_none xs p (omega arith)
+  pub set_length : (xs : List (Option T)) (g : ℕ) (o : Option T) → length (slice_set xs g o) ≡ length xs
+  set_length [] g o = refl
+  set_length (y ∷ xs) zero o = refl
+  set_length (y ∷ xs) (suc g) o = let rest = set_length xs g o in omega (arith, rest)
 
-pub length-changed : {T : Type 0} (change : T → T) (p : ℕ) (xs : List T) → length (change_at change p xs) ≡ length xs
-length-changed change p [] = refl
-length-changed change zero (x ∷ xs) = refl
-length-changed change (suc p) (x ∷ xs) = ap suc (length-changed change p xs)
+  pub set_same : (xs : List (Option T)) (g : ℕ) (x : T) → value_of g xs ≡ Some x → slice_set xs g (Some x) ≡ xs
+  set_same [] g x e = refl
+  set_same (y ∷ xs) zero x e = ap (λ (o : Option T). o ∷ xs) (sym e)
+  set_same (y ∷ xs) (suc g) x e = ap (λ (ys : List (Option T)). y ∷ ys) (set_same xs g x e)
 
-pub map-changed : {S T : Type 0} (f : S → T) (change : S → S) (changed : T → T) (p : ℕ) (xs : List S) → ((x : S) → f (change x) ≡ changed (f x)) → map f (change_at change p xs) ≡ change_at changed p (map f xs)
-map-changed f change changed p [] h = refl
-map-changed {S} {T} f change changed zero (x ∷ xs) h = ap (λ (y : T). y ∷ map f xs) (h x)
-map-changed {S} {T} f change changed (suc p) (x ∷ xs) h = ap (λ (l : List T). f x ∷ l) (map-changed f change changed p xs h)
+  -- ---- the changes of rows are of this kind
 
--- where the change leaves what is shown
-pub map-same : {S T : Type 0} (f : S → T) (change : S → S) (p : ℕ) (xs : List S) → ((x : S) → f (change x) ≡ f x) → map f (change_at change p xs) ≡ map f xs
-map-same f change p [] h = refl
-map-same {S} {T} f change zero (x ∷ xs) h = ap (λ (y : T). y ∷ map f xs) (h x)
-map-same {S} {T} f change (suc p) (x ∷ xs) h = ap (λ (l : List T). f x ∷ l) (map-same f change p xs h)
+  pub change_is : (xs : List (Option T)) (g : ℕ) (x y : T) (f : T → T) → value_of g xs ≡ Some x → f x ≡ y → slice_set xs g (Some y) ≡ change_at (option_map f) g xs
+  change_is [] g x y f e is = refl
+  change_is (z ∷ xs) zero x y f e is = ap (λ (v : T). Some v ∷ xs) (sym is) ∙ ap (λ (o : Option T). option_map f o ∷ xs) (sym e)
+  change_is (z ∷ xs) (suc g) x y f e is = ap (λ (ys : List (Option T)). z ∷ ys) (change_is xs g x y f e is)
 
--- one more at the end
-pub end-here : {T : Type 0} (xs : List T) (x : T) → slice_get (xs ++ x ∷ []) (length xs) ≡ Some x
-end-here [] x = refl
-end-here (y ∷ xs) x = end-here xs x
+  pub without_is : (xs : List (Option T)) (g : ℕ) → slice_set xs g None ≡ change_at (λ _. None) g xs
+  without_is [] g = refl
+  without_is (z ∷ xs) zero = refl
+  without_is (z ∷ xs) (suc g) = ap (λ (ys : List (Option T)). z ∷ ys) (without_is xs g)
 
-pub end-there : {T : Type 0} (xs : List T) (x : T) (p : ℕ) → (p ≡ length xs → ⊥) → slice_get (xs ++ x ∷ []) p ≡ slice_get xs p
-end-there [] x zero apart = absurd (apart refl)
-end-there [] x (suc p) apart = refl
-end-there (y ∷ xs) x zero apart = refl
-end-there (y ∷ xs) x (suc p) apart = end-there xs x p (λ e. apart (ap suc e))
+module _ {A B : Type 0} (f : A → B) where
+  pub value_map : (xs : List (Option A)) (g : ℕ) → value_of g (map (option_map f) xs) ≡ option_map f (value_of g xs)
+  value_map [] g = refl
+  value_map (x ∷ xs) zero = refl
+  value_map (x ∷ xs) (suc g) = value_map xs g
 
-pub some-same : {T : Type 0} (x y : T) → Some x ≡ Some y → x ≡ y
-some-same x y e = cc
-
-pub set-inside : {T : Type 0} (xs : List T) (p : ℕ) (new : T) → p < length xs → slice_set xs p new ≡ change_at (λ (x : T). new) p xs
-set-inside [] p new inside = absurd (omega arith)
-set-inside (y ∷ xs) zero new inside = refl
-set-inside {T} (y ∷ xs) (suc p) new inside = ap (λ (l : List T). y ∷ l) (set-inside xs p new (omega arith))
-
-pub get-inside : {T : Type 0} (xs : List T) (p : ℕ) (d : T) → p < length xs → slice_get xs p ≡ Some (slice_index_or xs p d)
-get-inside [] p d inside = absurd (omega arith)
-get-inside (y ∷ xs) zero d inside = refl
-get-inside (y ∷ xs) (suc p) d inside = get-inside xs p d (omega arith)
-
-pub get-alike : {T : Type 0} (xs : List T) (p : ℕ) (d e : T) → p < length xs → slice_index_or xs p d ≡ slice_index_or xs p e
-get-alike [] p d e inside = absurd (omega arith)
-get-alike (y ∷ xs) zero d e inside = refl
-get-alike (y ∷ xs) (suc p) d e inside = get-alike xs p d e (omega arith)
-
--- each is changed in turn
-pub map_step : {T : Type 0} (f : T → T) (xs : List T) (i : ℕ) (x y : T) → i < length xs → x ≡ slice_index_or xs i x → y ≡ f x
-    → take (i + 1) (slice_set xs i y) ++ map f (drop (i + 1) (slice_set xs i y)) ≡ take i xs ++ map f (drop i xs)
-map_step f [] i x y inside is changed = absurd (omega arith)
-map_step {T} f (z ∷ xs) zero x y inside is changed = ap (λ (v : T). v ∷ map f xs) (changed ∙ ap f is)
-map_step {T} f (z ∷ xs) (suc i) x y inside is changed =
-    let e : suc i + 1 ≡ suc (i + 1) = omega arith in
-    rw e (ap (λ (l : List T). z ∷ l) (map_step f xs i x y (omega arith) is changed))
-
-pub map_end : {T : Type 0} (f : T → T) (xs : List T) (i : ℕ) → length xs ≤ i → take i xs ++ map f (drop i xs) ≡ xs
-map_end f [] zero past = refl
-map_end f [] (suc i) past = refl
-map_end f (z ∷ xs) zero past = absurd (omega arith)
-map_end {T} f (z ∷ xs) (suc i) past = ap (λ (l : List T). z ∷ l) (map_end f xs i (omega arith))
-
-pub length-mapped : {S T : Type 0} (f : S → T) (xs : List S) → length (map f xs) ≡ length xs
-length-mapped f [] = refl
-length-mapped f (x ∷ xs) = ap suc (length-mapped f xs)
-
--- what was lent as a slice is back
-pub put-back : {T : Type 0} (n : ℕ) (xs ys : List T) → length ys ≡ n → take n (ys ++ drop (length ys) xs) ≡ ys
-put-back {T} n xs ys same = ap (λ (k : ℕ). take k (ys ++ drop (length ys) xs)) (sym same) ∙ take-append_seam ys (drop (length ys) xs)
+  pub length_map : (xs : List (Option A)) → length (map (option_map f) xs) ≡ length xs
+  length_map [] = refl
+  length_map (x ∷ xs) = let rest = length_map xs in omega (arith, rest)

@@ -8,13 +8,13 @@ use Rattle.ug_speaker.specs.Counts.{sessions_at}
 use Rattle.ug_group_rules.specs.Machine as machine
 use Rattle.ug_group_rules.specs.Machine.{System, seat_at, with_loss, after_loss}
 use Rattle.ug_group_rules.specs.Rules.{rest_due}
-use Rattle.ug_subgroup.specs.Rows.{Rows, with_row, left_row}
+use Rattle.ug_groups.specs.Rows.{Rows, with_row, left_row}
 use Rattle.ug_groups.specs.declared.member.Member.{Member}
 use Rattle.ug_groups.specs.Members.{seat_in, member_of, members_from, system, sub_in, sub_at, is_sub}
 use Rattle.ug_groups.specs.Kept.{AreSeated, HasRoom, IsKept, AreRows}
 use Rattle.ug_groups.specs.Changes.{with_sub, unless_left, left_rows}
 use Rattle.ug_groups.specs.Steps.{StaysKept, IsNoted, IsLost}
-use Rattle.ug_groups.proofs.Lists.{end_is, get_none, length-changed}
+use Rattle.ug_groups.proofs.ListFacts.{end_is, get_none, length-changed}
 use Rattle.ug_groups.proofs.MemberViews.{member-get, one-changed, sub-kept}
 use Rattle.ug_groups.proofs.Keeping.{own-but, own-one, room-one, counted-one, room-moved, counted-moved}
 use Rattle.ug_groups.proofs.Left.{unseated, left-seated, left-inhabited, left-tabled, left-own, left-rests, left-view}

@@ -9,10 +9,10 @@ use Rattle.ug_world.specs.declared.peer_state.PeerState.{PeerState}
 use Rattle.ug_world.specs.World.{World}
 use Rattle.ug_group_rules.specs.Machine as machine
 use Rattle.ug_group_rules.specs.Machine.{Seat, System, seat_at, seat_of, handed_now, mark_at, marks_at}
-use Rattle.ug_subgroup.specs.Rows.{Rows}
+use Rattle.ug_groups.specs.Rows.{Rows}
 use Rattle.ug_groups.specs.declared.member.Member.{Member}
 use Rattle.ug_groups.specs.Members.{seat_in, member_of, members_from, system, sub_in, sub_at}
-use Rattle.ug_groups.proofs.Lists.{get_none}
+use Rattle.ug_groups.proofs.ListFacts.{get_none}
 use Rattle.ug_groups.proofs.MemberViews.{member-get}
 
 there_is : {T : Type 0} (xs : List T) (p : ℕ) → p < length xs → (x : T) × (slice_get xs p ≡ Some x) × (drop p xs ≡ x ∷ drop (p + 1) xs)

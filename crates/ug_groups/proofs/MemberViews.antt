@@ -7,10 +7,10 @@ use Rattle.ug_speaker.specs.Places.{change_at}
 use Rattle.ug_speaker.proofs.Places.{changed-here, changed-there}
 use Rattle.ug_group_rules.specs.Machine as machine
 use Rattle.ug_group_rules.specs.Machine.{Seat}
-use Rattle.ug_subgroup.specs.Rows.{Rows, row_at}
+use Rattle.ug_groups.specs.Rows.{Rows, row_at}
 use Rattle.ug_groups.specs.declared.member.Member.{Member}
 use Rattle.ug_groups.specs.Members.{rest_in, seat_in, member_of, members_from, sub_in, sub_at}
-use Rattle.ug_groups.proofs.Lists.{same-lists}
+use Rattle.ug_groups.proofs.ListFacts.{same-lists}
 
 members-get : (rows : Rows) (k p : ℕ) (members : List Member) → slice_get (members_from rows k members) p ≡ option_map (member_of rows (k + p)) (slice_get members p)
 members-get rows k p [] = refl

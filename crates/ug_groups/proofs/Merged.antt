@@ -15,13 +15,13 @@ use Rattle.ug_group_rules.specs.Machine as machine
 use Rattle.ug_group_rules.specs.Machine.{System, Subgroup, Seat, is_level, moved, reseated, with_seats, without_subgroup, merge}
 use Rattle.ug_group_rules.specs.Rules.{rest_due}
 use Rattle.ug_group_rules.proofs.Groups.{group-same}
-use Rattle.ug_subgroup.specs.Rows.{Row, Rows, row_at, any_at, with_row, without_row, absorbing_row, may_merge_rows}
+use Rattle.ug_groups.specs.Rows.{Row, Rows, row_at, any_at, with_row, without_row, absorbing_row, may_merge_rows}
 use Rattle.ug_groups.specs.declared.member.Member.{Member}
 use Rattle.ug_groups.specs.Members.{rest_in, seat_in, member_of, members_from, system, sub_in, sub_at, is_sub, is_queued, stands}
 use Rattle.ug_groups.specs.Kept.{AreSeated, IsOwn, HasRoom, IsKept, AreRows}
 use Rattle.ug_groups.specs.Changes.{moved_sub, moved_member}
 use Rattle.ug_groups.specs.Done.{IsAt}
-use Rattle.ug_groups.proofs.Lists.{some-same, length-mapped}
+use Rattle.ug_groups.proofs.ListFacts.{some-same, length-mapped}
 use Rattle.ug_groups.proofs.RowsAt.{row-here, row-there, gone-here, gone-there, gone-cases, changed-cases, any-some, subs-same, subs-gone}
 use Rattle.ug_groups.proofs.MemberViews.{each-changed, sub-is}
 use Rattle.ug_groups.proofs.Queued.{apart-test}

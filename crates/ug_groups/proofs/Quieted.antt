@@ -14,7 +14,7 @@ use Rattle.ug_group_rules.specs.Packets.{Packet}
 use Rattle.ug_group_rules.specs.Machine as machine
 use Rattle.ug_group_rules.specs.Machine.{Seat, is_seat_quiet, is_member_quiet, are_quiet}
 use Rattle.ug_group_rules.specs.Rules.{rest_due, member_due, due}
-use Rattle.ug_subgroup.specs.Rows.{Row, Rows, row_at}
+use Rattle.ug_groups.specs.Rows.{Row, Rows, row_at}
 use Rattle.ug_groups.specs.declared.member.Member.{Member}
 use Rattle.ug_groups.specs.Members.{rest_in, seat_in, member_of, members_from, sub_at}
 use Rattle.ug_groups.specs.Kept.{AreRows}

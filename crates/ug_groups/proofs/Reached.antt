@@ -5,8 +5,8 @@ use Rattle.std.specs.Option.{option_map}
 use Rattle.ug_outbound.specs.declared.key.GroupKey.{GroupKey}
 use Rattle.ug_group_rules.specs.Packets.{same_group}
 use Rattle.ug_group_rules.specs.Machine.{Subgroup}
-use Rattle.ug_subgroup.specs.Standings.{desiring}
-use Rattle.ug_subgroup.specs.Rows.{Row, Rows, row_at, HasRow, with_sub, with_row, each_row, of_key}
+use Rattle.ug_groups.specs.Standings.{desiring}
+use Rattle.ug_groups.specs.Rows.{Row, Rows, row_at, HasRow, with_sub, with_row, each_row, of_key}
 use Rattle.ug_groups.specs.declared.reach.Reach.{Reach}
 use Rattle.ug_groups.specs.declared.reach.Reach.TheVariants.{One, Alike}
 use Rattle.ug_groups.specs.TableChanges.{Changes, key_at, HasKey, reached, with_changes}

@@ -18,7 +18,7 @@ use Rattle.ug_group_rules.specs.Packets.{Out, same_out, wanted_rows}
 use Rattle.ug_group_rules.specs.Machine.{Subgroup, retabled}
 use Rattle.ug_group_rules.proofs.Tables.{wanted-sorted}
 use Rattle.ug_group_rules.proofs.WantedTables.{rows-value}
-use Rattle.ug_subgroup.specs.Standings.{desiring}
+use Rattle.ug_groups.specs.Standings.{desiring}
 use Rattle.ug_groups.specs.TableChanges.{Changes, with_changes}
 
 -- changes that are in key order, as the key wants in this world, and beside which it wants what was desired

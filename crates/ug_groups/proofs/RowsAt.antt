@@ -7,8 +7,8 @@ use Rattle.ug_speaker.specs.Places.{change_at}
 use Rattle.ug_speaker.proofs.Places.{changed-here, changed-there}
 use Rattle.ug_group_rules.specs.Machine.{there}
 use Rattle.ug_group_rules.specs.Machine as machine
-use Rattle.ug_subgroup.specs.Rows.{Row, Rows, row_at, any_at, sub_of, subs_of, with_row, without_row, with_next, each_row}
-use Rattle.ug_groups.proofs.Lists.{end-here, end-there, some-same, map-changed, map-same}
+use Rattle.ug_groups.specs.Rows.{Row, Rows, row_at, any_at, sub_of, subs_of, with_row, without_row, with_next, each_row}
+use Rattle.ug_groups.proofs.ListFacts.{end-here, end-there, some-same, map-changed, map-same}
 
 there-mapped : (change : Row → Row) (o : Option (Option Row)) → there (option_map (option_map change) o) ≡ option_map change (there o)
 there-mapped change None = refl

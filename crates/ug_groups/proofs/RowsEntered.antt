@@ -22,7 +22,7 @@ use Rattle.ug_group_rules.specs.Evaluations.{has_key, paths_heeded, all_heeded, 
 use Rattle.ug_group_rules.proofs.Groups.{group-same}
 use Rattle.ug_group_rules.specs.Touched.{IsKeptIn}
 use Rattle.ug_group_rules.proofs.TouchedKeys.{event-touched, no-keys}
-use Rattle.ug_subgroup.specs.Rows.{Row, Rows, keys_in, with_sub, each_row}
+use Rattle.ug_groups.specs.Rows.{Row, Rows, keys_in, with_sub, each_row}
 use Rattle.ug_groups.specs.declared.scope.Scope.TheVariants.{Under, All}
 use Rattle.ug_groups.specs.TableChanges.{Changes, IsUnder, IsList, IsOfPeer, changes_by, changes_of, changes_in, heeded_in, keys_before, keys_decided, some_add_path, with_changes, by_keys, each_by_key}
 use Rattle.ug_groups.specs.Entered.{AreKept, entering, retabled_row}

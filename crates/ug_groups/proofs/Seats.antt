@@ -13,11 +13,11 @@ use Rattle.ug_outbound.specs.Keys.{ends_of}
 use Rattle.ug_world.specs.declared.peer_state.PeerState.{PeerState}
 use Rattle.ug_world.specs.World.{World}
 use Rattle.ug_world.specs.Good.{is_peer_in_range}
-use Rattle.ug_subgroup.specs.Rows.{Rows, row_at, HasRow, Sits}
+use Rattle.ug_groups.specs.Rows.{Rows, row_at, HasRow, Sits}
 use Rattle.ug_groups.specs.declared.member.Member.{Member}
 use Rattle.ug_groups.specs.Members.{sub_at, is_sub, is_queued}
 use Rattle.ug_groups.specs.Kept.{AreSeated, IsKept}
-use Rattle.ug_groups.proofs.Lists.{some-same}
+use Rattle.ug_groups.proofs.ListFacts.{some-same}
 use Rattle.ug_groups.proofs.RowsAt.{any-some}
 use Rattle.ug_groups.proofs.MemberViews.{sub-is}
 

@@ -22,16 +22,16 @@ use Rattle.ug_group_rules.specs.Packets.{Packet}
 use Rattle.ug_group_rules.specs.Machine as machine
 use Rattle.ug_group_rules.specs.Machine.{System, Subgroup, Seat, queued, stands_first, parted, reseated, with_seats, with_subgroup, with_new, unstuck, slow_of, subgroup_at, is_pending}
 use Rattle.ug_group_rules.specs.Rules.{rest_due}
-use Rattle.ug_subgroup.specs.Subgroups.{StandTogether}
-use Rattle.ug_subgroup.proofs.Together.{no_front, still_front, more_front, front_together}
-use Rattle.ug_subgroup.specs.Rows.{Row, Rows, row_at, any_at, subs_of, with_row, with_next, with_sub as with_subgroup_of, rest_row, part_row, is_full_row, is_parted_row, must_part_row}
+use Rattle.ug_groups.specs.Subgroups.{StandTogether}
+use Rattle.ug_groups.proofs.Together.{no_front, still_front, more_front, front_together}
+use Rattle.ug_groups.specs.Rows.{Row, Rows, row_at, any_at, subs_of, with_row, with_next, with_sub as with_subgroup_of, rest_row, part_row, is_full_row, is_parted_row, must_part_row}
 use Rattle.ug_groups.specs.declared.member.Member.{Member}
 use Rattle.ug_groups.specs.Members.{rest_in, seat_in, member_of, members_from, system, sub_in, sub_at, is_sub, is_queued, stands}
 use Rattle.ug_groups.specs.Kept.{AreSeated, IsTabled, IsOwn, HasRoom, IsKept, AreRows}
 use Rattle.ug_groups.specs.Changes.{with_sub, seat_listed}
 use Rattle.ug_groups.specs.Fronts.{is_first, AreCollected}
 use Rattle.ug_groups.specs.Done.{IsAt}
-use Rattle.ug_groups.proofs.Lists.{some-same, length-changed, get_none}
+use Rattle.ug_groups.proofs.ListFacts.{some-same, length-changed, get_none}
 use Rattle.ug_groups.proofs.Seats.{first-of, second-of}
 use Rattle.ug_groups.proofs.RowsAt.{row-here, row-there, next-here, next-there, none-past, any-some, subs-same, subs-changed, subs-next, subs-length, sub-at}
 use Rattle.ug_groups.proofs.MemberViews.{each-changed, sub-is, sub-some}

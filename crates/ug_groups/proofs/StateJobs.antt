@@ -9,7 +9,7 @@ use Rattle.ug_groups.proofs.FreshMembers.{spent-kept, peers-after}
 use Rattle.ug_world.specs.World.{World}
 use Rattle.ug_group_rules.specs.Machine as machine
 use Rattle.ug_group_rules.specs.Machine.{System, legal, may_format, may_merge, must_part, is_settled}
-use Rattle.ug_subgroup.specs.Rows.{Row, Rows, row_at, any_at, may_format_row, may_merge_rows, must_part_row}
+use Rattle.ug_groups.specs.Rows.{Row, Rows, row_at, any_at, may_format_row, may_merge_rows, must_part_row}
 use Rattle.ug_groups.specs.declared.member.Member.{Member}
 use Rattle.ug_groups.specs.Members.{system}
 use Rattle.ug_groups.specs.Kept.{IsKept, AreRows}

@@ -20,14 +20,14 @@ use Rattle.ug_group_rules.specs.Packets.{Packet}
 use Rattle.ug_group_rules.specs.Machine as machine
 use Rattle.ug_group_rules.specs.Machine.{System, Upshot, Begins, Hands, Rests, upshot, upshot_of, hands_by, first_left, after_upshot, after_next, with_session, with_handed, rest_behind}
 use Rattle.ug_group_rules.specs.Rules.{group_rules, said_of, at_rest, text_for, rest_due}
-use Rattle.ug_subgroup.specs.declared.handed.Handed.{Handed}
-use Rattle.ug_subgroup.specs.Subgroups.{IsHanded, text_to}
-use Rattle.ug_subgroup.specs.Rows.{Row, Rows, row_at, any_at, with_row, with_queue}
+use Rattle.ug_groups.specs.declared.handed.Handed.{Handed}
+use Rattle.ug_groups.specs.Subgroups.{IsHanded, text_to}
+use Rattle.ug_groups.specs.Rows.{Row, Rows, row_at, any_at, with_row, with_queue}
 use Rattle.ug_groups.specs.declared.member.Member.{Member}
 use Rattle.ug_groups.specs.Members.{rest_in, seat_in, member_of, members_from, system, is_queued, is_sub}
 use Rattle.ug_groups.specs.Kept.{HasRoom, IsKept}
 use Rattle.ug_groups.specs.Steps.{IsStepped}
-use Rattle.ug_groups.proofs.Lists.{length-changed}
+use Rattle.ug_groups.proofs.ListFacts.{length-changed}
 use Rattle.ug_groups.proofs.RowsAt.{row-here, row-there, subs-same}
 use Rattle.ug_groups.proofs.MemberViews.{member-get, same-member, one-changed, sub-kept, sub-is}
 use Rattle.ug_groups.proofs.Queued.{shed-some, shed-rest, next-some, next-limit, next-others, next-rest, some-places}

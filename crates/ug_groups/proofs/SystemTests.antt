@@ -6,7 +6,7 @@ use Rattle.std.proofs.lemmas.Option.{slice_get-map}
 use Rattle.ug_world.specs.World.{World}
 use Rattle.ug_group_rules.specs.Packets.{same_group}
 use Rattle.ug_group_rules.specs.Machine.{System, Subgroup, there, is_there, is_so, any_from, some_so, queued, is_full, is_parted, is_pending, is_level, owes, may_format, may_merge, must_part, is_ordered, is_turn, is_settled, are_quiet, is_drained}
-use Rattle.ug_subgroup.specs.Rows.{Row, Rows, row_at, any_at, sub_of, subs_of, is_full_row, may_format_row, may_merge_rows, must_part_row, any_row, some_row, some_merge}
+use Rattle.ug_groups.specs.Rows.{Row, Rows, row_at, any_at, sub_of, subs_of, is_full_row, may_format_row, may_merge_rows, must_part_row, any_row, some_row, some_merge}
 use Rattle.ug_groups.specs.declared.member.Member.{Member}
 use Rattle.ug_groups.specs.Members.{system}
 use Rattle.ug_groups.specs.Kept.{IsKept, AreRows}

@@ -8,11 +8,11 @@ use Rattle.ug_group_rules.specs.Machine as machine
 use Rattle.ug_group_rules.specs.Machine.{System, Subgroup, with_counts, counted, counted_from, is_full, is_pending, there}
 use Rattle.ug_group_rules.specs.Rules.{rest_due}
 use Rattle.ug_group_rules.proofs.Retabling.{counted-at}
-use Rattle.ug_subgroup.specs.Rows.{Row, Rows, row_at, any_at, sub_of, subs_of, each_row, counted_row, is_full_row}
+use Rattle.ug_groups.specs.Rows.{Row, Rows, row_at, any_at, sub_of, subs_of, each_row, counted_row, is_full_row}
 use Rattle.ug_groups.specs.declared.member.Member.{Member}
 use Rattle.ug_groups.specs.Members.{rest_in, member_of, members_from, system, is_queued, stands}
 use Rattle.ug_groups.specs.Kept.{AreSeated, AreTabled, IsTabled, IsOwn, IsKept, AreRows}
-use Rattle.ug_groups.proofs.Lists.{same-lists}
+use Rattle.ug_groups.proofs.ListFacts.{same-lists}
 use Rattle.ug_groups.proofs.RowsAt.{each-at, each-cases}
 use Rattle.ug_groups.proofs.MemberViews.{same-member, none-changed}
 use Rattle.ug_groups.proofs.RowTests.{queued-is}

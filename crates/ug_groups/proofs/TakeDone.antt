@@ -11,18 +11,18 @@ use Rattle.ug_world.specs.Verdicts.{verdict}
 use Rattle.ug_world.specs.After.{after}
 use Rattle.ug_speaker.specs.Counts.{sessions_at, sessions_had}
 use Rattle.ug_speaker.proofs.Peers.{IsNextOf, next-of, peer_after, peers-after}
-use Rattle.ug_subgroup.specs.Sent.{session_of}
+use Rattle.ug_groups.specs.Sent.{session_of}
 use Rattle.ug_group_rules.specs.Machine as machine
 use Rattle.ug_group_rules.specs.Machine.{with_counts, take_event}
 use Rattle.ug_group_rules.specs.Rules.{rest_due}
 use Rattle.ug_group_rules.specs.Evaluations.{evaluations}
-use Rattle.ug_subgroup.specs.Rows.{Row, Rows, row_at, each_row, counted_row}
+use Rattle.ug_groups.specs.Rows.{Row, Rows, row_at, each_row, counted_row}
 use Rattle.ug_groups.specs.Entered.{entering, retabled_row}
 use Rattle.ug_groups.specs.declared.member.Member.{Member}
 use Rattle.ug_groups.specs.Members.{seat_in, member_of, members_from, system, sub_in, sub_at, is_sub}
 use Rattle.ug_groups.specs.Kept.{HasRoom, HaveRoom, AreCounted, IsKept, AreRows}
 use Rattle.ug_groups.specs.Turns.{named_by, turn_at, asked_by, IsBeside, IsTurned, shown, HasMoreRoom}
-use Rattle.ug_groups.proofs.Lists.{same-lists, some-same}
+use Rattle.ug_groups.proofs.ListFacts.{same-lists, some-same}
 use Rattle.ug_groups.proofs.RowsAt.{each-cases}
 use Rattle.ug_groups.proofs.MemberViews.{member-get}
 use Rattle.ug_groups.proofs.Seats.{sits-sub}

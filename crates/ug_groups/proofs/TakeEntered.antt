@@ -19,13 +19,13 @@ use Rattle.ug_group_rules.specs.Machine as machine
 use Rattle.ug_group_rules.specs.Machine.{Subgroup, in_world, retabled}
 use Rattle.ug_group_rules.specs.Rules.{rest_due}
 use Rattle.ug_group_rules.specs.Evaluations.{keys_from, paths_touched}
-use Rattle.ug_subgroup.specs.Rows.{Row, Rows, row_at, any_at, sub_of, subs_of, keys_in, each_row}
+use Rattle.ug_groups.specs.Rows.{Row, Rows, row_at, any_at, sub_of, subs_of, keys_in, each_row}
 use Rattle.ug_groups.specs.Entered.{retabled_row, entering}
 use Rattle.ug_groups.specs.declared.member.Member.{Member}
 use Rattle.ug_groups.specs.Members.{rest_in, member_of, members_from, system, is_queued, stands}
 use Rattle.ug_groups.specs.Kept.{IsTabled, IsOwn, HaveRoom, AreCounted, IsKept}
 use Rattle.ug_groups.specs.Turns.{named_by, IsBeside}
-use Rattle.ug_groups.proofs.Lists.{same-lists}
+use Rattle.ug_groups.proofs.ListFacts.{same-lists}
 use Rattle.ug_groups.proofs.RowsAt.{each-at, each-cases}
 use Rattle.ug_groups.proofs.MemberViews.{same-member, none-changed}
 use Rattle.ug_groups.proofs.EvaluatedTurns.{keys-retabled, sum-none}

@@ -20,13 +20,13 @@ use Rattle.ug_group_rules.specs.Machine.{Seat, System, Subgroup, seat_at, Turn, 
 use Rattle.ug_group_rules.specs.Evaluations.{has_key, live_keys, all_heeded, paths_touched, evaluations, evaluations_for}
 use Rattle.ug_group_rules.proofs.Keys.{laws, or-so}
 use Rattle.ug_group_rules.proofs.OneTurned.{turned-alone}
-use Rattle.ug_subgroup.specs.Rows.{Row, Rows, row_at, any_at, keys_in}
+use Rattle.ug_groups.specs.Rows.{Row, Rows, row_at, any_at, keys_in}
 use Rattle.ug_groups.specs.Entered.{asking, entering, retabled_row}
 use Rattle.ug_groups.specs.declared.member.Member.{Member}
 use Rattle.ug_groups.specs.Members.{seat_in, system, sub_at}
 use Rattle.ug_groups.specs.Kept.{IsKept, AreCounted}
 use Rattle.ug_groups.specs.Turns.{named_by, turn_within, turn_by, turn_at, is_of_key, asked_by, Remains, IsTurned}
-use Rattle.ug_groups.proofs.Lists.{some-same}
+use Rattle.ug_groups.proofs.ListFacts.{some-same}
 use Rattle.ug_groups.proofs.RowsAt.{each-at}
 use Rattle.ug_groups.proofs.Seats.{sits-sub}
 use Rattle.ug_groups.proofs.TurnKept.{seat-view, subs-at}

@@ -8,7 +8,7 @@ use Rattle.ug_types.specs.declared.route.Path.{Path}
 use Rattle.ug_outbound.specs.declared.key.GroupKey.{GroupKey}
 use Rattle.ug_world.specs.World.{World}
 use Rattle.ug_pack.specs.Ready.{IsKeyOf}
-use Rattle.ug_subgroup.specs.Rows.{Rows}
+use Rattle.ug_groups.specs.Rows.{Rows}
 use Rattle.ug_groups.specs.declared.reach.Reach.{Reach}
 use Rattle.ug_groups.specs.TableChanges.{Changes, HasKey, IsOwnKey, clearing, with_each_path, changes_by, changes_to, key_at, number_of, reached, with_changes}
 use Rattle.ug_groups.proofs.Reached.{reached-none}

@@ -4,16 +4,16 @@ use Rattle.std.specs.Option.{option_map}
 use Rattle.ug_outbound.specs.declared.key.GroupKey.{GroupKey}
 use Rattle.ug_world.specs.declared.peer_state.PeerState.{PeerState}
 use Rattle.ug_world.specs.World.{World, key_in}
-use Rattle.ug_subgroup.specs.Sent.{session_of}
+use Rattle.ug_groups.specs.Sent.{session_of}
 use Rattle.ug_group_rules.specs.Packets.{same_group}
 use Rattle.ug_group_rules.specs.Machine.{Turn, Asks, Rekeys, Stays}
 use Rattle.ug_group_rules.proofs.Groups.{group-same}
-use Rattle.ug_subgroup.specs.Rows.{Row, Rows, row_at, any_at, HasRow}
+use Rattle.ug_groups.specs.Rows.{Row, Rows, row_at, any_at, HasRow}
 use Rattle.ug_groups.specs.Entered.{asking}
 use Rattle.ug_groups.specs.declared.member.Member.{Member}
 use Rattle.ug_groups.specs.Members.{sub_at}
 use Rattle.ug_groups.specs.Turns.{turn_within, is_of_key, asked_by, IsBeside, IsTurned}
-use Rattle.ug_groups.proofs.Lists.{some-same}
+use Rattle.ug_groups.proofs.ListFacts.{some-same}
 use Rattle.ug_groups.proofs.Seats.{sits-sub}
 use Rattle.ug_groups.proofs.TurnLeaves.{left-nowhere}
 

@@ -3,7 +3,7 @@ use Rattle.std.proofs.Common.{◌≡◌, ℕ, Bool, List, Option, Some, None, sl
 use Rattle.std.specs.Option.{option_map}
 use Rattle.ug_world.specs.World.{World}
 use Rattle.ug_group_rules.specs.Machine.{Subgroup, seat_at, seat_of, there}
-use Rattle.ug_subgroup.specs.Rows.{Row, Rows, row_at, sub_of, subs_of}
+use Rattle.ug_groups.specs.Rows.{Row, Rows, row_at, sub_of, subs_of}
 use Rattle.ug_groups.specs.Entered.{AreKept}
 use Rattle.ug_groups.specs.declared.member.Member.{Member}
 use Rattle.ug_groups.specs.Members.{seat_in, member_of, system, sub_in, sub_at}

@@ -6,13 +6,13 @@ use Rattle.ug_world.specs.World.{World}
 use Rattle.ug_speaker.specs.Places.{change_at}
 use Rattle.ug_group_rules.specs.Machine as machine
 use Rattle.ug_group_rules.specs.Machine.{Seat, Leaves}
-use Rattle.ug_subgroup.specs.Rows.{Rows, with_row, left_row}
+use Rattle.ug_groups.specs.Rows.{Rows, with_row, left_row}
 use Rattle.ug_groups.specs.declared.member.Member.{Member}
 use Rattle.ug_groups.specs.Members.{seat_in, system, sub_at}
 use Rattle.ug_groups.specs.Kept.{AreRows}
 use Rattle.ug_groups.specs.Changes.{with_sub, unless_left, left_rows}
 use Rattle.ug_groups.specs.Turns.{IsBeside, IsTurned}
-use Rattle.ug_groups.proofs.Lists.{length-changed}
+use Rattle.ug_groups.proofs.ListFacts.{length-changed}
 use Rattle.ug_groups.proofs.MemberViews.{sub-some}
 use Rattle.ug_groups.proofs.Keeping.{sub-moved, room-moved, counted-moved}
 use Rattle.ug_groups.proofs.Left.{unseated, left-seated, left-inhabited, left-tabled, left-own, left-rests, left-view}

@@ -5,7 +5,7 @@ use Rattle.std.specs.Option.{option_map}
 use Rattle.ug_outbound.specs.declared.key.GroupKey.{GroupKey}
 use Rattle.ug_world.specs.World.{World}
 use Rattle.ug_speaker.specs.Places.{change_at}
-use Rattle.ug_subgroup.specs.Sent.{session_of}
+use Rattle.ug_groups.specs.Sent.{session_of}
 use Rattle.ug_group_rules.specs.declared.phase.Phase.TheVariants.{Owed}
 use Rattle.ug_group_rules.specs.Packets.{all_forced, wanted_rows, same_group}
 use Rattle.ug_group_rules.proofs.Groups.{group-same}
@@ -16,13 +16,13 @@ use Rattle.ug_group_rules.specs.Touched.{IsKeptIn}
 use Rattle.ug_group_rules.specs.Evaluations.{has_key, all_heeded}
 use Rattle.ug_group_rules.proofs.Keys.{live-met}
 use Rattle.ug_group_rules.proofs.NewTables.{same-rekeyed}
-use Rattle.ug_subgroup.specs.Rows.{Row, Rows, row_at, HasRow, subs_of, sub_of, keys_in, with_row, with_sub}
+use Rattle.ug_groups.specs.Rows.{Row, Rows, row_at, HasRow, subs_of, sub_of, keys_in, with_row, with_sub}
 use Rattle.ug_groups.specs.Entered.{asking, rekeyed_to}
 use Rattle.ug_groups.specs.declared.member.Member.{Member}
 use Rattle.ug_groups.specs.Members.{seat_in, member_of, members_from, system, sub_at}
 use Rattle.ug_groups.specs.Kept.{IsTabled, AreRows, AreCounted}
 use Rattle.ug_groups.specs.Turns.{IsBeside, IsTurned, IsAlone, IsSplit}
-use Rattle.ug_groups.proofs.Lists.{some-same}
+use Rattle.ug_groups.proofs.ListFacts.{some-same}
 use Rattle.ug_groups.proofs.RowsAt.{row-here, changed-cases, subs-changed, sub-at}
 use Rattle.ug_groups.proofs.MemberViews.{same-member, none-changed}
 use Rattle.ug_groups.proofs.Keeping.{stands-with, inhabited-with, rest-with}

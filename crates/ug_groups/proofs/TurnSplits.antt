@@ -14,7 +14,7 @@ use Rattle.ug_world.specs.World.{World}
 use Rattle.ug_speaker.specs.Places.{change_at}
 use Rattle.ug_queue.specs.Queues.{is_member, place_of, rest_of, from_place}
 use Rattle.ug_queue.proofs.Members.{is_same, itself, is_one, come_here, come_other}
-use Rattle.ug_subgroup.specs.Subgroups.{StandTogether}
+use Rattle.ug_groups.specs.Subgroups.{StandTogether}
 use Rattle.ug_group_rules.specs.Packets.{Packet}
 use Rattle.ug_group_rules.specs.Machine as machine
 use Rattle.ug_group_rules.specs.Machine.{Subgroup, Seat, sits, sits_in, has_company, apart, split, split_by, unstuck, with_new, with_seat, seated, subgroup_at, there}
@@ -22,13 +22,13 @@ use Rattle.ug_group_rules.specs.Rules.{rest_due}
 use Rattle.ug_group_rules.specs.Evaluations.{has_key}
 use Rattle.ug_group_rules.proofs.Company.{count-cons, one_if, alone}
 use Rattle.ug_group_rules.proofs.Keys.{live-met, live-found}
-use Rattle.ug_subgroup.specs.Rows.{Row, Rows, row_at, any_at, HasRow, subs_of, sub_of, keys_in, with_row, with_next, part_row, rest_row}
+use Rattle.ug_groups.specs.Rows.{Row, Rows, row_at, any_at, HasRow, subs_of, sub_of, keys_in, with_row, with_next, part_row, rest_row}
 use Rattle.ug_groups.specs.declared.member.Member.{Member}
 use Rattle.ug_groups.specs.Members.{rest_in, seat_in, member_of, members_from, system, sub_at, is_sub, is_queued, stands}
 use Rattle.ug_groups.specs.Kept.{AreSeated, AreInhabited, IsTabled, AreTabled, IsOwn, AreRows}
 use Rattle.ug_groups.specs.Changes.{with_sub}
 use Rattle.ug_groups.specs.Turns.{IsBeside, IsSplit}
-use Rattle.ug_groups.proofs.Lists.{some-same, length-changed}
+use Rattle.ug_groups.proofs.ListFacts.{some-same, length-changed}
 use Rattle.ug_groups.proofs.RowsAt.{row-here, row-there, next-here, next-there, next-cases, none-past, changed-cases, subs-same, subs-next, subs-length, sub-at}
 use Rattle.ug_groups.proofs.MemberViews.{member-get, same-member, one-changed, sub-is, sub-some}
 use Rattle.ug_groups.proofs.Queued.{apart-test, left-some, left-none, left-rest, some-places, first-queued}

@@ -13,14 +13,14 @@ use Rattle.ug_group_rules.specs.Machine.{Seat, Starts, join, first_joinable, at_
 use Rattle.ug_group_rules.specs.Rules.{rest_due}
 use Rattle.ug_group_rules.specs.Evaluations.{has_key, all_heeded}
 use Rattle.ug_group_rules.proofs.Keys.{live-met}
-use Rattle.ug_subgroup.specs.Rows.{Row, Rows, row_at, any_at, HasRow, subs_of, sub_of, keys_in, with_row, with_next, joined_row}
+use Rattle.ug_groups.specs.Rows.{Row, Rows, row_at, any_at, HasRow, subs_of, sub_of, keys_in, with_row, with_next, joined_row}
 use Rattle.ug_groups.specs.Entered.{asking, fresh_row}
 use Rattle.ug_groups.specs.declared.member.Member.{Member}
 use Rattle.ug_groups.specs.Members.{rest_in, seat_in, member_of, members_from, system, sub_at, is_sub, is_queued, stands}
 use Rattle.ug_groups.specs.Kept.{AreSeated, AreInhabited, IsTabled, AreTabled, IsOwn, AreCounted}
 use Rattle.ug_groups.specs.Changes.{with_sub}
 use Rattle.ug_groups.specs.Turns.{IsBeside, IsTurned, opened_rows, opened_at}
-use Rattle.ug_groups.proofs.Lists.{some-same, length-changed}
+use Rattle.ug_groups.proofs.ListFacts.{some-same, length-changed}
 use Rattle.ug_groups.proofs.RowsAt.{row-here, row-there, next-here, next-there, next-cases, none-past, changed-cases, any-some, subs-same, subs-next, subs-length, sub-at}
 use Rattle.ug_groups.proofs.MemberViews.{member-get, same-member, one-changed, sub-is}
 use Rattle.ug_groups.proofs.Queued.{apart-test, joined-here, joined-some, joined-first, joined-rest, some-places}

@@ -20,7 +20,7 @@ use Rattle.ug_world.specs.Rows.{rows_behind}
 use Rattle.ug_world.specs.Good.{is_path_good, is_route_good, is_learned_in_range}
 use Rattle.ug_group_rules.specs.Evaluations.{paths_heeded, all_heeded}
 use Rattle.ug_group_rules.specs.Machine.{Subgroup}
-use Rattle.ug_subgroup.specs.Rows.{Rows, row_at, each_row, of_key}
+use Rattle.ug_groups.specs.Rows.{Rows, row_at, each_row, of_key}
 use Rattle.ug_groups.specs.declared.reach.Reach.{Reach}
 use Rattle.ug_groups.specs.TableChanges.{Changes, changes_to, changes_of, key_at, reached, with_changes, by_keys, HaveKeys}
 use Rattle.ug_groups.proofs.KeyLists.{one-more}

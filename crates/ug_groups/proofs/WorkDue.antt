@@ -6,7 +6,7 @@ use Rattle.ug_speaker.specs.Speech.{Prepares}
 use Rattle.ug_group_rules.specs.Machine as machine
 use Rattle.ug_group_rules.specs.Machine.{there, is_turn, legal}
 use Rattle.ug_group_rules.specs.Rules.{purpose}
-use Rattle.ug_subgroup.specs.Rows.{Row, Rows, row_at, any_at, may_merge_rows, any_row, some_row, some_merge}
+use Rattle.ug_groups.specs.Rows.{Row, Rows, row_at, any_at, may_merge_rows, any_row, some_row, some_merge}
 use Rattle.ug_groups.specs.declared.member.Member.{Member}
 use Rattle.ug_groups.specs.Members.{system}
 use Rattle.ug_groups.specs.Kept.{IsKept, AreRows}

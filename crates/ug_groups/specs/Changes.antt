@@ -2,7 +2,7 @@
 use Rattle.std.specs.Prelude.{ℕ, nat_lt, ◌==◌, Bool, List, [], ◌∷◌, length, Option, Some, None, if◌then◌else◌}
 use Rattle.std.specs.Option.{option_map}
 use Rattle.ug_speaker.specs.Places.{change_at}
-use Rattle.ug_subgroup.specs.Rows.{Row, Rows, row_at, any_at, with_row, without_row, left_row}
+use Rattle.ug_groups.specs.Rows.{Row, Rows, row_at, any_at, with_row, without_row, left_row}
 use Rattle.ug_groups.specs.declared.member.Member.{Member}
 
 -- it sits there now, or nowhere

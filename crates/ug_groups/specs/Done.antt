@@ -2,7 +2,7 @@
 use Rattle.std.specs.Prelude.{◌≡◌, ℕ, Bool, List}
 use Rattle.ug_world.specs.World.{World}
 use Rattle.ug_group_rules.specs.Machine.{System}
-use Rattle.ug_subgroup.specs.Rows.{Rows}
+use Rattle.ug_groups.specs.Rows.{Rows}
 use Rattle.ug_groups.specs.declared.member.Member.{Member}
 use Rattle.ug_groups.specs.Members.{system}
 use Rattle.ug_groups.specs.Kept.{IsKept}

@@ -9,7 +9,7 @@ use Rattle.ug_queue.specs.Queues.{empty_queue}
 use Rattle.ug_group_rules.specs.Machine.{retabled, rekeyed, fresh_subgroup}
 use Rattle.ug_group_rules.specs.Touched.{IsKeptIn}
 use Rattle.ug_group_rules.specs.Evaluations.{has_key, paths_touched, all_heeded}
-use Rattle.ug_subgroup.specs.Rows.{Row, Rows, row_at, keys_in, with_sub}
+use Rattle.ug_groups.specs.Rows.{Row, Rows, row_at, keys_in, with_sub}
 
 -- each subgroup desires what its key should have in this world
 abbrev pub AreKept : World → Rows → Type 0

@@ -3,7 +3,7 @@ use Rattle.std.specs.Prelude.{◌≡◌, ℕ, ◌<◌, ◌==◌, Bool, true, fal
 use Rattle.ug_speaker.specs.Counts.{has}
 use Rattle.ug_queue.specs.Queues.{Queued, place_of}
 use Rattle.ug_group_rules.specs.Packets.{Packet}
-use Rattle.ug_subgroup.specs.Subgroups.{AreFront}
+use Rattle.ug_groups.specs.Subgroups.{AreFront}
 
 abbrev pub is_first : Option ℕ → Bool
 is_first None = false

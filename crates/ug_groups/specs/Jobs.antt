@@ -3,7 +3,7 @@ use Rattle.std.specs.Prelude.{ℕ, ◌==◌, Bool, false, ◌&&◌, not, []}
 use Rattle.ug_events.specs.Events.{IsEvent}
 use Rattle.ug_events.specs.Views.{event_of}
 use Rattle.ug_group_rules.specs.Machine as machine
-use Rattle.ug_subgroup.specs.Rows.{Rows, row_at, any_at, may_format_row, may_merge_rows, must_part_row}
+use Rattle.ug_groups.specs.Rows.{Rows, row_at, any_at, may_format_row, may_merge_rows, must_part_row}
 use Rattle.ug_groups.specs.declared.job.Work.{Work}
 use Rattle.ug_groups.specs.declared.job.Work.TheVariants as works
 use Rattle.ug_groups.specs.declared.said.Told.{Told}

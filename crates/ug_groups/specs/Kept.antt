@@ -7,7 +7,7 @@ use Rattle.ug_world.specs.Kept.{ArePeers}
 use Rattle.ug_speaker.specs.Counts.{sessions_at}
 use Rattle.ug_group_rules.specs.Packets.{wanted_rows}
 use Rattle.ug_group_rules.specs.Rules.{rest_due}
-use Rattle.ug_subgroup.specs.Rows.{Row, Rows, row_at, IsRow}
+use Rattle.ug_groups.specs.Rows.{Row, Rows, row_at, IsRow}
 use Rattle.ug_groups.specs.declared.member.Member.{Member}
 use Rattle.ug_groups.specs.Members.{member_of, sub_at, is_sub, stands}
 

@@ -1,3 +1,15 @@
+pub mod Values
+pub mod Holders
+pub mod Packets
+pub mod FamilyRibs
+pub mod Sent
+pub mod Standings
+pub mod Subgroups
+pub mod Rows
+pub mod Entries
+pub mod Scans
+pub mod Sweeps
+pub mod Walks
 pub mod Members
 pub mod Kept
 pub mod Steps

@@ -6,7 +6,7 @@ use Rattle.ug_queue.specs.Queues.{place_of, rest_of}
 use Rattle.ug_group_rules.specs.Packets.{Packet}
 use Rattle.ug_group_rules.specs.Machine as machine
 use Rattle.ug_group_rules.specs.Machine.{Seat, System}
-use Rattle.ug_subgroup.specs.Rows.{Row, Rows, row_at, any_at, subs_of}
+use Rattle.ug_groups.specs.Rows.{Row, Rows, row_at, any_at, subs_of}
 use Rattle.ug_groups.specs.declared.member.Member.{Member}
 
 -- what a peer has still to take of the queue of a subgroup

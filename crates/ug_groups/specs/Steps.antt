@@ -7,7 +7,7 @@ use Rattle.ug_world.specs.World.{World}
 use Rattle.ug_group_rules.specs.Machine.{System, with_loss, after_next, after_loss}
 use Rattle.ug_speaker.specs.Places.{change_at}
 use Rattle.ug_group_rules.specs.Rules.{group_rules, lane_reply}
-use Rattle.ug_subgroup.specs.Rows.{Rows}
+use Rattle.ug_groups.specs.Rows.{Rows}
 use Rattle.ug_groups.specs.declared.member.Member.{Member}
 use Rattle.ug_groups.specs.Members.{members_from, system, sub_at}
 use Rattle.ug_groups.specs.Kept.{IsKept}

@@ -21,8 +21,8 @@ use Rattle.ug_pack.specs.Ready.{key_order}
 use Rattle.ug_group_rules.specs.Packets.{same_out, wanted_rows}
 use Rattle.ug_group_rules.specs.Machine.{Subgroup}
 use Rattle.ug_group_rules.specs.Evaluations.{paths_heeded, all_heeded}
-use Rattle.ug_subgroup.specs.Standings.{desiring}
-use Rattle.ug_subgroup.specs.Rows.{Row, Rows, row_at, HasRow, with_sub, with_row, each_row, of_key}
+use Rattle.ug_groups.specs.Standings.{desiring}
+use Rattle.ug_groups.specs.Rows.{Row, Rows, row_at, HasRow, with_sub, with_row, each_row, of_key}
 use Rattle.ug_groups.specs.declared.reach.Reach.{Reach}
 use Rattle.ug_groups.specs.declared.reach.Reach.TheVariants.{One, Alike}
 use Rattle.ug_groups.specs.declared.scope.Scope.{Scope}

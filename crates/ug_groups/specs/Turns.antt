@@ -10,7 +10,7 @@ use Rattle.ug_world.specs.Kept.{ArePeers}
 use Rattle.ug_group_rules.specs.Packets.{same_group}
 use Rattle.ug_group_rules.specs.Machine.{Turn, Leaves, Starts, Asks, Rekeys, Stays, with_turn, apart}
 use Rattle.ug_group_rules.specs.Evaluations.{has_key}
-use Rattle.ug_subgroup.specs.Rows.{Row, Rows, row_at, any_at, keys_in, with_next}
+use Rattle.ug_groups.specs.Rows.{Row, Rows, row_at, any_at, keys_in, with_next}
 use Rattle.ug_groups.specs.Entered.{asking, fresh_row}
 use Rattle.ug_groups.specs.declared.member.Member.{Member}
 use Rattle.ug_groups.specs.Members.{system, sub_at}

@@ -4,12 +4,12 @@ ghost use Rattle.std.specs.Prelude.{◌≡◌, Some, OnOk};
 ghost use Rattle.std.specs.List.{AllByRecursion};
 ghost use Rattle.ug_outbound.specs.declared.key.GroupKey as keys;
 ghost use Rattle.ug_pack.specs.Ready.{IsKeyOf};
-ghost use Rattle.ug_subgroup.specs.Standings.{desiring};
+ghost use Rattle.ug_groups.specs.Standings.{desiring};
 ghost use Rattle.ug_groups.specs.TableChanges.{HasKey, key_at, number_of, reached, with_changes};
 
+use crate::Subgroups;
 use crate::reach::Reach;
 use std::collections::BTreeMap;
-use ug_subgroup::Subgroups;
 use ug_types::{Key, NoMemory, OutAttrs};
 
 /// Keys in key order, each with the value with which it is desired from now on, or with none.

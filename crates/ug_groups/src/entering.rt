@@ -9,17 +9,17 @@ ghost use Rattle.ug_events.specs.Views.{event_of};
 ghost use Rattle.ug_world.specs.Good.{IsGoodWorld};
 ghost use Rattle.ug_world.specs.After.{after};
 ghost use Rattle.ug_world.specs.Verdicts.{verdict};
-ghost use Rattle.ug_subgroup.specs.Rows.{Rows, each_row, keys_in};
+ghost use Rattle.ug_groups.specs.Rows.{Rows, each_row, keys_in};
 ghost use Rattle.ug_groups.specs.TableChanges.{HaveKeys, IsList, IsOfPeer, IsUnder, keys_before, keys_decided, some_add_path};
 ghost use Rattle.ug_groups.specs.Entered.{AreKept, entering, retabled_row};
 
+use crate::Subgroups;
 use crate::scope::Scope;
 use crate::walking::{touch_all, touch_keys};
 use std::alloc::Global;
 use std::sync::ledger::Ledger;
 use ug_events::Event;
 use ug_group_rules::decides_for;
-use ug_subgroup::Subgroups;
 use ug_types::{Key, Name, NoMemory, Prefix, Steps};
 use ug_world::World;
 

@@ -2,14 +2,14 @@
 
 ghost use Rattle.std.specs.Prelude.{◌≡◌, ◌+◌, true, false, OnOk};
 ghost use Rattle.ug_group_rules.specs.Machine.{format_of, subgroup_at};
-ghost use Rattle.ug_subgroup.specs.Rows.{row_at, any_at, may_format_row};
+ghost use Rattle.ug_groups.specs.Rows.{row_at, any_at, may_format_row};
 ghost use Rattle.ug_groups.specs.Members.{system};
 ghost use Rattle.ug_groups.specs.Kept.{IsKept};
 ghost use Rattle.ug_groups.specs.Done.{IsAt};
 
+use crate::Subgroups;
 use crate::member::Member;
 use ug_group_rules::wanted_laws;
-use ug_subgroup::Subgroups;
 use ug_types::NoMemory;
 use ug_world::{World, sendable_laws};
 

@@ -3,18 +3,18 @@
 ghost use Rattle.std.specs.Prelude.{◌≡◌, ◌+◌, ◌≤◌, Some, length, IfOk, IfSome, OnOk};
 ghost use Rattle.ug_outbound.specs.declared.key.GroupKey as group_keys;
 ghost use Rattle.ug_world.specs.Good.{IsGoodWorld};
-ghost use Rattle.ug_subgroup.specs.Sent.{session_of};
-ghost use Rattle.ug_subgroup.specs.Rows.{Row, HasRow, row_at, with_row, with_next};
+ghost use Rattle.ug_groups.specs.Sent.{session_of};
+ghost use Rattle.ug_groups.specs.Rows.{Row, HasRow, row_at, with_row, with_next};
 ghost use Rattle.ug_groups.specs.TableChanges.{HasTableOf, IsFillable, asked_beside, key_at};
 ghost use Rattle.ug_groups.specs.Entered.{AreKept, asking, fresh_row, rekeyed_to, retabled_row};
 
+use crate::Subgroups;
 use crate::entering::know_order;
 use crate::reach::Reach;
 use crate::walking::touch_world;
 use std::alloc::Global;
 use std::sync::ledger::Ledger;
 use ug_outbound::GroupKey;
-use ug_subgroup::Subgroups;
 use ug_types::{NoMemory, Steps};
 use ug_world::World;
 

@@ -4,16 +4,16 @@ ghost use Rattle.std.specs.Prelude.{◌≡◌, ◌<◌, ◌≤◌, length, slice
 ghost use Rattle.ug_board.specs.Rules.{buffer_size};
 ghost use Rattle.ug_group_rules.specs.Machine as machine;
 ghost use Rattle.ug_group_rules.specs.Machine.{has_unlost};
-ghost use Rattle.ug_subgroup.specs.Rows.{Rows};
+ghost use Rattle.ug_groups.specs.Rows.{Rows};
 ghost use Rattle.ug_group_rules.specs.Rules.{at_rest};
 ghost use Rattle.ug_groups.specs.Members.{system, members_from};
 ghost use Rattle.ug_groups.specs.Kept.{IsKept};
 ghost use Rattle.ug_groups.specs.Steps.{IsStepped, WereKept, IsLost, IsNoted};
 
+use crate::Subgroups;
 use crate::leaving::leave;
 use crate::member::{Member, begin, forget, has_unlost};
 use ug_board::LaneSaid;
-use ug_subgroup::Subgroups;
 use ug_types::PeerId;
 use ug_world::World;
 
@@ -67,7 +67,7 @@ pub fn next(
 }
 
 /// Notes the loss of a session. In the present one nothing more is handed out. It takes no memory.
-#[tactic(auto, using(crate::proofs::Lists::get_none))]
+#[tactic(auto, using(crate::proofs::ListFacts::get_none))]
 pub fn lose(
     world: &World,
     subgroups: &mut Subgroups,

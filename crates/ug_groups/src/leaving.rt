@@ -1,15 +1,15 @@
 //! A peer leaves its subgroup.
 
 ghost use Rattle.std.specs.Prelude.{◌≡◌, None, Some};
-ghost use Rattle.ug_subgroup.specs.Rows.{Sits};
+ghost use Rattle.ug_groups.specs.Rows.{Sits};
 ghost use Rattle.ug_speaker.specs.Places.{change_at};
 ghost use Rattle.ug_groups.specs.Changes.{with_sub, left_rows};
 ghost use Rattle.ug_groups.specs.Members.{sub_at};
 ghost use Rattle.ug_groups.specs.Kept.{AreSeated};
 
+use crate::Subgroups;
 use crate::member::Member;
 use crate::places::{seat_at, sub_at};
-use ug_subgroup::Subgroups;
 use ug_types::PeerId;
 
 /// A peer leaves: what it hasn't taken isn't sent. A subgroup without members is gone. It takes no memory.

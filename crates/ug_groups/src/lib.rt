@@ -1,34 +1,75 @@
-//! The machine of update groups: peers of one group key share subgroups, with one Adj-RIB-Out and one queue of packets each.
+//! Update groups: peers of one group key share subgroups, with one Adj-RIB-Out and one queue of formatted packets each, from which
+//! each takes at its own pace. One subgroup (`subgroup`), all of them by number (`numbered`), and the machine (`groups`).
 #![tactic(auto)]
 
+mod account;
 mod asking;
+mod classes;
+mod comings;
+mod desires;
 mod desiring;
 mod entering;
+mod entry;
 mod formatting;
 mod fresh;
 mod groups;
+mod handed;
+mod holding;
 mod job;
+mod known;
 mod lanes;
 mod leaving;
 mod marking;
 mod member;
+mod members;
 mod merging;
+mod numbered;
+mod packet;
+mod phases;
 mod places;
+mod plain;
+mod point;
+mod points;
 mod quiet;
 mod reach;
+mod rib_out;
+mod routed;
+mod routing;
 mod said;
+mod saying;
+mod scans;
 mod scope;
 mod settling;
+mod side;
 mod slowing;
 mod state;
+mod states;
+mod subgroup;
+mod sweeps;
+mod table;
+mod tables;
 mod taking;
+mod telling;
+mod told;
 mod touching;
 mod turning;
 mod walking;
 
+pub use account::{hold_value, release};
 pub use entering::enter;
 pub use fresh::{add_fresh, rekey_to};
 pub use groups::Groups;
+pub use handed::Handed;
 pub use job::GroupJob;
+pub use numbered::Subgroups;
+pub use packet::Packet;
+pub use point::Point;
+pub use rib_out::RibOut;
+pub use routed::Routed;
 pub use said::GroupSaid;
+pub use saying::Saying;
+pub use side::Side;
 pub use state::GroupState;
+pub use subgroup::Subgroup;
+pub use table::Table;
+pub use told::Told;

@@ -7,7 +7,7 @@ ghost use Rattle.ug_world.specs.declared.peer_state.PeerState as peers;
 ghost use Rattle.ug_world.specs.Touches.{is_about};
 ghost use Rattle.ug_speaker.specs.Speech.{is_request};
 ghost use Rattle.ug_group_rules.specs.Machine.{handed_now, mark_at, marks_at, seat_at};
-ghost use Rattle.ug_subgroup.specs.Rows.{Rows};
+ghost use Rattle.ug_groups.specs.Rows.{Rows};
 ghost use Rattle.ug_groups.specs.Members.{members_from, system};
 
 use crate::member::Member;

@@ -3,14 +3,14 @@
 ghost use Rattle.std.specs.Prelude.{◌≡◌, ◌==◌, map, true, false, OnOk};
 ghost use Rattle.std.specs.Option.{option_map};
 ghost use Rattle.ug_group_rules.specs.Machine.{merge};
-ghost use Rattle.ug_subgroup.specs.Rows.{row_at, any_at, may_merge_rows};
+ghost use Rattle.ug_groups.specs.Rows.{row_at, any_at, may_merge_rows};
 ghost use Rattle.ug_groups.specs.Changes.{moved_sub, moved_member};
 ghost use Rattle.ug_groups.specs.Members.{system};
 ghost use Rattle.ug_groups.specs.Kept.{IsKept};
 ghost use Rattle.ug_groups.specs.Done.{IsAt};
 
+use crate::Subgroups;
 use crate::member::Member;
-use ug_subgroup::Subgroups;
 use ug_types::NoMemory;
 use ug_world::World;
 
@@ -35,7 +35,7 @@ pub fn merge(
 }
 
 /// Those who sat in one subgroup sit in another.
-#[tactic(auto, using(crate::proofs::Lists::map_step, crate::proofs::Lists::map_end))]
+#[tactic(auto, using(crate::proofs::ListFacts::map_step, crate::proofs::ListFacts::map_end))]
 fn move_all(from: u32, to: u32, members: &mut [Member])
     ensures { members.new ≡ map (moved_member from to) members.old }
 {

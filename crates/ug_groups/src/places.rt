@@ -8,7 +8,7 @@ ghost use Rattle.ug_groups.specs.Members.{sub_at};
 use crate::member::Member;
 
 /// The subgroup in which the peer at a place sits.
-#[tactic(auto, using(crate::proofs::Lists::get_is, crate::proofs::Lists::get_none))]
+#[tactic(auto, using(crate::proofs::ListFacts::get_is, crate::proofs::ListFacts::get_none))]
 pub fn sub_at(members: &[Member], place: usize) -> Option<u32>
     ensures { result ≡ sub_at place members.now }
 {
@@ -19,7 +19,7 @@ pub fn sub_at(members: &[Member], place: usize) -> Option<u32>
 }
 
 /// It sits in that subgroup now, or nowhere.
-#[tactic(auto, using(crate::proofs::Lists::set_is, crate::proofs::Lists::end_is))]
+#[tactic(auto, using(crate::proofs::ListFacts::set_is, crate::proofs::ListFacts::end_is))]
 pub fn seat_at(members: &mut [Member], place: usize, sub: Option<u32>)
     ensures { members.new ≡ change_at (with_sub sub) place members.old }
 {

@@ -2,17 +2,17 @@
 
 ghost use Rattle.std.specs.Prelude.{◌≡◌, ◌+◌, ◌*◌, ◌-◌, ◌^◌, ◌<◌, ◌≤◌, nat_lt, not, ◌&&◌, ◌==◌, length};
 ghost use Rattle.ug_group_rules.specs.Machine.{owes, are_quiet};
-ghost use Rattle.ug_subgroup.specs.Rows.{must_part_row, some_row, some_merge};
+ghost use Rattle.ug_groups.specs.Rows.{must_part_row, some_row, some_merge};
 ghost use Rattle.ug_group_rules.specs.Rules.{due, rest_due};
 ghost use Rattle.std.specs.Option.{option_map};
 ghost use Rattle.ug_groups.specs.Members.{seat_in, members_from, sub_at};
 ghost use Rattle.ug_groups.specs.Kept.{AreSeated};
 ghost use Rattle.ug_groups.specs.Steps.{WereKept};
 
+use crate::Subgroups;
 use crate::member::Member;
 use crate::places::sub_at;
 use crate::settling::is_ordered;
-use ug_subgroup::Subgroups;
 use ug_types::PeerId;
 use ug_world::World;
 

@@ -2,11 +2,11 @@
 
 ghost use Rattle.std.specs.Prelude.{◌≡◌, ℕ, true, false, not, ◌&&◌, IfSome, IfNone};
 ghost use Rattle.ug_group_rules.specs.Machine.{is_turn};
-ghost use Rattle.ug_subgroup.specs.Rows.{may_format_row, must_part_row, some_row, some_merge};
+ghost use Rattle.ug_groups.specs.Rows.{may_format_row, must_part_row, some_row, some_merge};
 ghost use Rattle.ug_groups.specs.Jobs.{is_work_due};
 
+use crate::Subgroups;
 use crate::job::GroupJob;
-use ug_subgroup::Subgroups;
 use ug_world::World;
 
 /// Whether no subgroups have to merge, and none has to part.

@@ -3,17 +3,17 @@
 ghost use Rattle.std.specs.Prelude.{◌≡◌, ◌+◌, ◌≤◌, ◌<◌, true, false, length, Some, OnOk, IfOk};
 ghost use Rattle.ug_group_rules.specs.Machine.{slow_of, subgroup_at};
 ghost use Rattle.ug_queue.specs.Queues.{place_of};
-ghost use Rattle.ug_subgroup.specs.Rows.{Row, row_at, any_at, must_part_row};
+ghost use Rattle.ug_groups.specs.Rows.{Row, row_at, any_at, must_part_row};
 ghost use Rattle.ug_groups.specs.Changes.{seat_listed};
 ghost use Rattle.ug_groups.specs.Fronts.{is_first, AreCollected};
 ghost use Rattle.ug_groups.specs.Members.{system};
 ghost use Rattle.ug_groups.specs.Kept.{AreSeated, IsKept};
 ghost use Rattle.ug_groups.specs.Done.{IsAt};
 
+use crate::Subgroups;
 use crate::member::Member;
 use crate::places::{seat_at, sub_at};
 use std::alloc::Global;
-use ug_subgroup::Subgroups;
 use ug_types::{NoMemory, PeerId, PeerList, Sequence};
 use ug_world::World;
 

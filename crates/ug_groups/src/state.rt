@@ -14,6 +14,7 @@ ghost use Rattle.ug_group_rules.specs.Machine.{start, legal, after_job, after_ne
 ghost use Rattle.ug_group_rules.specs.Evaluations.{evaluations};
 ghost use Rattle.ug_group_rules.specs.Rules.{group_rules, lane_reply, due, purpose};
 
+use crate::Subgroups;
 use crate::formatting::format;
 use crate::job::{GroupJob, Work};
 use crate::lanes::{lose, may_lose, next};
@@ -30,7 +31,6 @@ use std::mem;
 use std::sync::ledger::Ledger;
 use ug_board::LaneSaid;
 use ug_events::Event;
-use ug_subgroup::Subgroups;
 use ug_types::{MarkList, NoMemory, PeerId, Steps};
 use ug_world::{World, sendable_laws};
 

@@ -13,13 +13,13 @@ ghost use Rattle.ug_groups.specs.Members.{system};
 ghost use Rattle.ug_groups.specs.Kept.{IsKept};
 ghost use Rattle.ug_groups.specs.Turns.{named_by, HasMoreRoom};
 
+use crate::Subgroups;
 use crate::entering::enter;
 use crate::member::Member;
 use crate::turning::turn;
 use std::alloc::Global;
 use std::sync::ledger::Ledger;
 use ug_events::Event;
-use ug_subgroup::Subgroups;
 use ug_types::{Name, NoMemory, PeerId, Steps};
 use ug_world::World;
 

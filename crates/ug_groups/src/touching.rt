@@ -7,13 +7,13 @@ ghost use Rattle.ug_outbound.specs.declared.key.GroupKey as keys;
 ghost use Rattle.ug_group_rules.specs.Evaluations.{paths_heeded};
 ghost use Rattle.ug_groups.specs.TableChanges.{HasKey, IsOwnKey, changes_to, key_at, number_of, reached, with_changes};
 
+use crate::Subgroups;
 use crate::asking::{each_out, first_out};
 use crate::desiring::{desire, desire_each};
 use crate::reach::Reach;
 use std::alloc::Global;
 use std::sync::ledger::Ledger;
 use ug_outbound::GroupKey;
-use ug_subgroup::Subgroups;
 use ug_types::{Key, NoMemory, Path, Prefix, Steps};
 use ug_world::World;
 

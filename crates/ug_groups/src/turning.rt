@@ -9,13 +9,14 @@ ghost use Rattle.ug_world.specs.Good.{IsGoodWorld};
 ghost use Rattle.ug_world.specs.declared.peer_state.PeerState as peers;
 ghost use Rattle.ug_outbound.specs.declared.key.GroupKey as keys;
 ghost use Rattle.ug_group_rules.specs.Machine.{Leaves, Starts, Asks, Rekeys, first_joinable};
-ghost use Rattle.ug_subgroup.specs.Sent.{session_of};
-ghost use Rattle.ug_subgroup.specs.Rows.{Row, HasRow, row_at, subs_of};
+ghost use Rattle.ug_groups.specs.Sent.{session_of};
+ghost use Rattle.ug_groups.specs.Rows.{Row, HasRow, row_at, subs_of};
 ghost use Rattle.ug_groups.specs.Entered.{AreKept, asking};
 ghost use Rattle.ug_groups.specs.Members as seats;
 ghost use Rattle.ug_groups.specs.Kept.{AreSeated};
 ghost use Rattle.ug_groups.specs.Turns.{named_by, turn_at, turn_going, asked_by, opened_rows, opened_at, IsBeside, IsTurned, IsAlone, IsSplit};
 
+use crate::Subgroups;
 use crate::fresh::{add_fresh, rekey_to};
 use crate::leaving::leave;
 use crate::member::Member;
@@ -24,7 +25,6 @@ use std::alloc::Global;
 use std::sync::ledger::Ledger;
 use ug_events::Event;
 use ug_outbound::{GroupKey, key_of};
-use ug_subgroup::Subgroups;
 use ug_types::{NoMemory, PeerId, PeerList, Steps};
 use ug_world::World;
 

@@ -5,15 +5,15 @@ ghost use Rattle.std.specs.List.{sum_by};
 ghost use Rattle.ug_outbound.specs.declared.key.GroupKey as group_keys;
 ghost use Rattle.ug_world.specs.Good.{IsGoodWorld};
 ghost use Rattle.ug_group_rules.specs.Evaluations.{all_heeded};
-ghost use Rattle.ug_subgroup.specs.Rows.{keys_in};
+ghost use Rattle.ug_groups.specs.Rows.{keys_in};
 ghost use Rattle.ug_groups.specs.TableChanges.{AreBefore, AreKeys, HasKey, HaveKeys, by_keys, changes_in, changes_of, each_by_key, heeded_in, key_at, number_of, reached, with_changes};
 
+use crate::Subgroups;
 use crate::reach::Reach;
 use crate::scope::Scope;
 use crate::touching::touch;
 use std::alloc::Global;
 use std::sync::ledger::Ledger;
-use ug_subgroup::Subgroups;
 use ug_types::{Key, NoMemory, Steps};
 use ug_world::World;
 

@@ -14,7 +14,9 @@ ghost use Rattle.ug_commands.specs.Files.{AppendsThenStatus, PicksJust};
 ghost use Rattle.ug_commands.specs.Checked.{IsChecked};
 ghost use Rattle.ug_commands.specs.Listed.{IsListed};
 ghost use Rattle.ug_run.specs.Commands.{is_fed, IsOne, IsRunOf};
-ghost use Rattle.ug_run.specs.Drawn.{IsSelfRun};
+ghost use Rattle.ug_run.specs.Drawn.{drawn_world, IsSelfRun};
+ghost use Rattle.ug_group_rules.specs.Rules.{group_rules, group_speech};
+ghost use Rattle.ug_main.specs.Counting.{CountsEvents, CountsRun};
 
 use std::alloc::Global;
 use std::io::{self, ErrorKind, Write};
@@ -26,10 +28,9 @@ use std::sync::ledger::{Blank, Ledger};
 use std::thread::Threads;
 use std::{env, fs};
 use ug_edge::{HostSite, Sink, Site, StdoutSink};
-use ug_plain::Plain;
+use ug_groups::Groups as UpdateGroups;
 use ug_report::Status;
 use ug_run::{Done, answer_alone, serve};
-use ug_speaker::Speaker;
 use ug_types::Steps;
 
 /// Runs the command that the arguments are, over the files of the system, and ends with the number of its status. Lanes
@@ -47,7 +48,7 @@ fn main(rt: HostRuntime) -> ExitCode {
     if let Some(status) = answer_alone(rt.alloc(), words.as_slice(), &mut site, &mut report) {
         return ExitCode::from(status.number());
     }
-    let done = run::<Brand, Plain, _, _, _>(
+    let status = begin::<Brand, _, _, _>(
         &rt,
         rt.alloc(),
         words.as_slice(),
@@ -55,7 +56,7 @@ fn main(rt: HostRuntime) -> ExitCode {
         &mut report,
         Blank::new(1),
     );
-    ExitCode::from(done.status.number())
+    ExitCode::from(status.number())
 }
 
 /// Three files that stand where standard streams were closed, or behind the streams.
@@ -111,25 +112,43 @@ fn all_but_first(alloc: Global, args: env::Args) -> Result<Vec<String>, Status>
     Ok(words)
 }
 
-/// A run, with a counter of its own. What it gives back, and what the site and the report came to, is all that `serve` says
-/// of these, whatever the machine behind it.
-fn run<L: Ledger, S: Speaker, R: Threads + Wait + Sync, E: Site, K: Sink>(
+/// Runs a command with sessions, with a counter of its own, and answers its status.
+fn begin<L: Ledger, R: Threads + Wait + Sync, E: Site, K: Sink>(
     rt: &R,
     alloc: Global,
     words: &[String],
     site: &mut E,
     report: &mut K,
     blank: Blank,
-) -> Done<E::Wire, S>
+) -> Status
     requires name { blank.name ≡ L.name }
     requires parts { blank.parts ≡ L.parts }
     requires some { 0 < blank.parts }
+{
+    let mut steps = Steps::<L>::new(blank);
+    run(rt, alloc, words, site, report, &mut steps).status
+}
+
+/// The run of the shipped program: `serve` over update groups. What it gives back, and what the site and the report came
+/// to, is all that `serve` says of these.
+///
+/// An event is a legal job only where the machine is settled: no two subgroups may merge, no slow member has to move, and
+/// after each `coalesce` events nothing is left to format but behind a full queue. The counter rises by the runs of the
+/// outbound rules, once a group key and path, exactly.
+fn run<R: Threads + Wait + Sync, E: Site, K: Sink, L: Ledger>(
+    rt: &R,
+    alloc: Global,
+    words: &[String],
+    site: &mut E,
+    report: &mut K,
+    steps: &mut Steps<L>,
+) -> Done<E::Wire, UpdateGroups>
     ensures one { (command : OneCommand) → command_of (map string_bytes words.now) ≡ Some (One command) →
-        IsOne S.Machine.rules S.speech command.events (file_told (E.files site.old) command.events) (E.picks site.old).names (E.picks site.new).names result.status
+        IsOne group_rules group_speech command.events (file_told (E.files site.old) command.events) (E.picks site.old).names (E.picks site.new).names result.status
         (map (λ wire. record { sessions = E.Wire.sessions wire; faults = E.Wire.faults wire }) result.wires.items) result.history.items
         (E.picks site.new).is_open (E.left site.new) (K.held report.old) (K.held report.new) (Rose (K.faults report.old) (K.faults report.new)) }
     ensures run { (command : RunCommand) → command_of (map string_bytes words.now) ≡ Some (Run command) →
-        IsRunOf S.Machine.rules S.speech command (file_told (E.files site.old) command.config) (file_told (E.files site.old) command.events) (E.picks site.old).names (E.picks site.new).names result.status
+        IsRunOf group_rules group_speech command (file_told (E.files site.old) command.config) (file_told (E.files site.old) command.events) (E.picks site.old).names (E.picks site.new).names result.status
         (map (λ wire. record { sessions = E.Wire.sessions wire; faults = E.Wire.faults wire }) result.wires.items) result.history.items (map E.Wire.made_for result.wires.items) (E.made site.old) (E.made site.new)
         (E.picks site.new).is_open (E.left site.new) (K.held report.old) (K.held report.new) (Rose (K.faults report.old) (K.faults report.new)) }
     ensures checked { (command : CheckCommand) → command_of (map string_bytes words.now) ≡ Some (Check command) →
@@ -137,7 +156,14 @@ fn run<L: Ledger, S: Speaker, R: Threads + Wait + Sync, E: Site, K: Sink>(
     ensures listed { (command : GroupsCommand) → command_of (map string_bytes words.now) ≡ Some (Groups command) →
         IsListed (file_told (E.files site.old) command.config) result.status (K.held report.old) (K.held report.new) (Rose (K.faults report.old) (K.faults report.new)) }
     ensures drawn { (command : SelfRunCommand) → command_of (map string_bytes words.now) ≡ Some (SelfRun command) →
-        IsSelfRun S.Machine.rules S.speech command.number result.status result.history.items (K.held report.old) (K.held report.new) (Rose (K.faults report.old) (K.faults report.new)) }
+        IsSelfRun group_rules group_speech command.number result.status result.history.items (K.held report.old) (K.held report.new) (Rose (K.faults report.old) (K.faults report.new)) }
+    // The runs of the outbound rules are counted.
+    ensures one_counted { (command : OneCommand) → command_of (map string_bytes words.now) ≡ Some (One command) →
+        CountsEvents one_world (row_of result.status).completed result.history.items steps.old steps.new }
+    ensures run_counted { (command : RunCommand) → command_of (map string_bytes words.now) ≡ Some (Run command) →
+        CountsRun (file_told (E.files site.old) command.config) (row_of result.status).completed result.history.items steps.old steps.new }
+    ensures drawn_counted { (command : SelfRunCommand) → command_of (map string_bytes words.now) ≡ Some (SelfRun command) →
+        CountsEvents drawn_world (row_of result.status).completed result.history.items steps.old steps.new }
     // A file that the site says is missing was read by nobody, and the status says so.
     ensures check_missing { (command : CheckCommand) → command_of (map string_bytes words.now) ≡ Some (Check command) →
         file_told (E.files site.old) command.stream ≡ Missing → (row_of result.status).may_be_unread ≡ true }
@@ -153,15 +179,15 @@ fn run<L: Ledger, S: Speaker, R: Threads + Wait + Sync, E: Site, K: Sink>(
         AreMadeFor (E.made site.old) (E.made site.new) command.dir (names_in one_world) (map E.Wire.made_for result.wires.items) }
     ensures check_unmade { (command : CheckCommand) → command_of (map string_bytes words.now) ≡ Some (Check command) → E.made site.new ≡ E.made site.old }
     ensures groups_unmade { (command : GroupsCommand) → command_of (map string_bytes words.now) ≡ Some (Groups command) → E.made site.new ≡ E.made site.old }
-    ensures check_idle { (command : CheckCommand) → command_of (map string_bytes words.now) ≡ Some (Check command) → (result.wires.items ≡ []) × (result.history.items ≡ []) }
-    ensures groups_idle { (command : GroupsCommand) → command_of (map string_bytes words.now) ≡ Some (Groups command) → (result.wires.items ≡ []) × (result.history.items ≡ []) }
+    ensures check_idle { (command : CheckCommand) → command_of (map string_bytes words.now) ≡ Some (Check command) → (result.wires.items ≡ []) × (result.history.items ≡ []) × (steps.new ≡ steps.old) }
+    ensures groups_idle { (command : GroupsCommand) → command_of (map string_bytes words.now) ≡ Some (Groups command) → (result.wires.items ≡ []) × (result.history.items ≡ []) × (steps.new ≡ steps.old) }
     // `selfrun` leaves the site alone: nothing is read, and no wire is made.
     ensures drawn_alone { (command : SelfRunCommand) → command_of (map string_bytes words.now) ≡ Some (SelfRun command) → (site.new ≡ site.old) × (result.wires.items ≡ []) }
     // Words that are no command.
     ensures usage { (result.status ≡ Status.Usage) ↔ (is_command (map string_bytes words.now) ≡ false) }
     ensures no_command { is_command (map string_bytes words.now) ≡ false →
         AppendsThenStatus (K.held report.old) (K.held report.new) (Rose (K.faults report.old) (K.faults report.new)) [] (status_text Status.Usage) }
-    ensures idle { is_command (map string_bytes words.now) ≡ false → (result.wires.items ≡ []) × (result.history.items ≡ []) }
+    ensures idle { is_command (map string_bytes words.now) ≡ false → (result.wires.items ≡ []) × (result.history.items ≡ []) × (steps.new ≡ steps.old) }
     ensures unmade { is_command (map string_bytes words.now) ≡ false → E.made site.new ≡ E.made site.old }
     ensures unread { is_command (map string_bytes words.now) ≡ false → E.left site.new ≡ E.left site.old }
     ensures unpicked { is_command (map string_bytes words.now) ≡ false → E.picks site.new ≡ E.picks site.old }
@@ -173,8 +199,7 @@ fn run<L: Ledger, S: Speaker, R: Threads + Wait + Sync, E: Site, K: Sink>(
     ensures all_wired { (result.status ≡ Status.SiteFault → ⊥) → E.wire_faults site.new ≡ E.wire_faults site.old }
     ensures ended { is_fed (command_of (map string_bytes words.now)) ≡ true → (row_of result.status).completed ≡ true → IsEnded (E.left site.new) }
 {
-    let mut steps = Steps::<L>::new(blank);
-    serve::<S, R, E, K, L>(rt, alloc, words, site, report, &mut steps)
+    serve::<UpdateGroups, R, E, K, L>(rt, alloc, words, site, report, steps)
 }
 
 /// Says the status of a run that could not begin.

@@ -112,7 +112,8 @@ impl<P> Line<P> {
 
     /// Whether no member of the other is one of this.
     pub fn is_apart(&self, other: &Line<P>) -> bool
-        ensures { IsTrue result → (m : ℕ) → IsMember other.now m → place_of self.now m ≡ None }
+        ensures apart { IsTrue result → (m : ℕ) → IsMember other.now m → place_of self.now m ≡ None }
+        ensures meets { result ≡ false → (m : ℕ) × IsMember other.now m × IsMember self.now m }
     {
         for member in other.cursors.keys() {
             if self.has(*member) {

@@ -84,7 +84,8 @@ impl<P> Queue<P> {
 
     /// Whether they have no member in common.
     pub fn is_apart(&self, other: &Queue<P>) -> bool
-        ensures { IsTrue result → (m : ℕ) → IsMember other.now m → place_of self.now m ≡ None }
+        ensures apart { IsTrue result → (m : ℕ) → IsMember other.now m → place_of self.now m ≡ None }
+        ensures meets { result ≡ false → (m : ℕ) × IsMember other.now m × IsMember self.now m }
     {
         self.line.is_apart(&other.line)
     }

@@ -1,7 +1,7 @@
 use Rattle.std.proofs.Common.{◌∷◌, [], ◌++◌, sym, ◌∙◌, ap, subst}
 use Rattle.std.specs.List.{AllByRecursion}
 use Rattle.ug_pack.specs.Ready.{IsKeyOf}
-use Rattle.ug_subgroup.specs.Rows.{Rows}
+use Rattle.ug_groups.specs.Rows.{Rows}
 use Rattle.ug_groups.specs.TableChanges.{Changes, number_of, reached, with_changes}
 use Rattle.ug_groups.proofs.KeyLists.{one-more, all-between}
 use Rattle.ug_groups.proofs.Reached.{still-key, reached-none, reached-append}

@@ -2,7 +2,7 @@ use Rattle.std.proofs.Common.{◌<◌, ◌+◌, ℕ, List, Vec, Global, length, 
 use Rattle.ug_outbound.specs.declared.key.GroupKey.{GroupKey}
 use Rattle.ug_outbound.specs.Tables.{Tables}
 use Rattle.ug_world.specs.Touches.{decides_for}
-use Rattle.ug_subgroup.specs.Rows.{keys_in}
+use Rattle.ug_groups.specs.Rows.{keys_in}
 use Rattle.ug_groups.proofs.Walked.{AreKept, row-there, kept-one, kept-none}
 use Rattle.ug_groups.proofs.entering.decided.Goals as goal
 use Rattle.ug_groups.proofs.entering.decided.Goals.{then-decides_for+in_ok-push, else-decides_for}

@@ -1,6 +1,6 @@
 use Rattle.ug_outbound.specs.declared.key.GroupKey.{GroupKey}
 use Rattle.ug_world.specs.Touches.{decides_for}
-use Rattle.ug_subgroup.specs.Rows.{keys_in}
+use Rattle.ug_groups.specs.Rows.{keys_in}
 use Rattle.ug_groups.proofs.Walked.{AreKept}
 use Rattle.ug_groups.proofs.entering.decided.Given as goal
 

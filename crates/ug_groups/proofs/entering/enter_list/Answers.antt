@@ -3,7 +3,7 @@ use Rattle.std.proofs.lemmas.Result.{on_ok_weaker}
 use Rattle.ug_events.specs.Views.{event_of}
 use Rattle.ug_world.specs.Good.{IsGoodWorld}
 use Rattle.ug_world.proofs.GoodWorlds.{good-after}
-use Rattle.ug_subgroup.specs.Rows.{keys_in}
+use Rattle.ug_groups.specs.Rows.{keys_in}
 use Rattle.ug_groups.specs.TableChanges.{HaveKeys, keys_decided}
 use Rattle.ug_groups.proofs.RowsEntered.{list-entered, list-cost}
 use Rattle.ug_groups.proofs.entering.enter_list.Goals as goal

@@ -4,7 +4,7 @@ use Rattle.std.proofs.lemmas.Result.{on_ok_weaker}
 use Rattle.ug_events.specs.Views.{event_of}
 use Rattle.ug_world.specs.Good.{IsGoodWorld}
 use Rattle.ug_world.proofs.GoodWorlds.{good-after}
-use Rattle.ug_subgroup.specs.Rows.{keys_in}
+use Rattle.ug_groups.specs.Rows.{keys_in}
 use Rattle.ug_groups.specs.TableChanges.{IsOwnKey, some_add_path}
 use Rattle.ug_groups.proofs.PrefixEvents.{before-all}
 use Rattle.ug_groups.proofs.RowsEntered.{prefix-entered, prefix-cost}

@@ -1,6 +1,6 @@
 use Rattle.std.proofs.Common.{◌<◌, length, sym, ◌∙◌, arith}
 use Rattle.ug_outbound.specs.declared.key.GroupKey.{GroupKey}
-use Rattle.ug_subgroup.specs.Rows.{keys_in}
+use Rattle.ug_groups.specs.Rows.{keys_in}
 use Rattle.ug_groups.proofs.Walked.{row-there, test-there, test-behind}
 use Rattle.ug_groups.proofs.entering.some_add_path.Goals as goal
 

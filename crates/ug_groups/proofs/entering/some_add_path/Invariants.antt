@@ -1,5 +1,5 @@
 use Rattle.std.proofs.Common.{◌≡◌, drop}
-use Rattle.ug_subgroup.specs.Rows.{keys_in}
+use Rattle.ug_groups.specs.Rows.{keys_in}
 use Rattle.ug_groups.specs.TableChanges.{some_add_path}
 use Rattle.ug_groups.proofs.entering.some_add_path.Given as goal
 

@@ -1,7 +1,7 @@
 use Rattle.std.proofs.Common.{◌≡◌, ◌+◌, sym, subst, false}
 use Rattle.std.proofs.lemmas.Result.{on_ok_weaker}
 use Rattle.ug_group_rules.specs.Machine.{format_of, subgroup_at}
-use Rattle.ug_subgroup.specs.Rows.{Rows, with_row, formatted_row}
+use Rattle.ug_groups.specs.Rows.{Rows, with_row, formatted_row}
 use Rattle.ug_groups.specs.Members.{system}
 use Rattle.ug_groups.specs.Done.{IsAt}
 use Rattle.ug_groups.proofs.Formatted.{formattable, formatted-done}

@@ -1,5 +1,5 @@
 use Rattle.std.proofs.Common.{List, slice_get, sym, ap, subst, ◌∙◌, arith}
-use Rattle.ug_subgroup.specs.Rows.{Rows}
+use Rattle.ug_groups.specs.Rows.{Rows}
 use Rattle.ug_groups.specs.declared.member.Member.{Member}
 use Rattle.std.proofs.lemmas.Bool.{eq-eqb}
 use Rattle.ug_speaker.specs.Counts.{sessions_at}

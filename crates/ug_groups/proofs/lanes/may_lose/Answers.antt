@@ -4,7 +4,7 @@ use Rattle.ug_speaker.specs.Counts.{has}
 use Rattle.ug_group_rules.specs.Machine.{has_unlost}
 use Rattle.ug_groups.specs.declared.member.Member.{Member}
 use Rattle.ug_groups.specs.Members.{member_of}
-use Rattle.ug_groups.proofs.Lists.{get_none, get-inside}
+use Rattle.ug_groups.proofs.ListFacts.{get_none, get-inside}
 use Rattle.ug_groups.proofs.MemberViews.{member-get}
 use Rattle.ug_groups.proofs.lanes.may_lose.Goals as goal
 

@@ -1,7 +1,7 @@
 use Rattle.std.proofs.Common.{◌≡◌, ℕ, ◌+◌, ◌<◌, List, Some, slice_get, sym, ap, subst, length, arith, slice_index_or, slice_set}
-use Rattle.ug_subgroup.specs.Rows.{Rows, with_row}
+use Rattle.ug_groups.specs.Rows.{Rows, with_row}
 use Rattle.ug_groups.specs.declared.member.Member.{Member}
-use Rattle.ug_groups.proofs.Lists.{get_none, get-inside, get-alike, set-inside}
+use Rattle.ug_groups.proofs.ListFacts.{get_none, get-inside, get-alike, set-inside}
 use Rattle.ug_groups.proofs.Stepping.{had, peer-is, rests-none, rests-unbegun, rests-unseated, rests-taken, begins-by, taken, handed-room, hands-by}
 use Rattle.ug_board.specs.declared.steps.LaneSaid.TheVariants.{Begun, Hand}
 use Rattle.ug_groups.specs.Kept.{HasRoom}

@@ -1,7 +1,7 @@
 use Rattle.std.proofs.Common.{◌<◌, List, sym, subst, length, slice_index_or}
 use Rattle.ug_groups.specs.declared.member.Member.{Member}
 use Rattle.ug_groups.specs.Steps.{IsNoted}
-use Rattle.ug_groups.proofs.Lists.{get-inside, set-inside}
+use Rattle.ug_groups.proofs.ListFacts.{get-inside, set-inside}
 use Rattle.ug_groups.proofs.Lost.{noted-by}
 use Rattle.ug_groups.proofs.lanes.note.Goals as goal
 

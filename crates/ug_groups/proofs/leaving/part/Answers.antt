@@ -1,5 +1,5 @@
 use Rattle.std.proofs.Common.{sym, subst, is_some, ◌≡◌, true}
-use Rattle.ug_subgroup.specs.Rows.{Rows, row_at, left_row}
+use Rattle.ug_groups.specs.Rows.{Rows, row_at, left_row}
 use Rattle.ug_groups.proofs.RowsAt.{row-stays}
 use Rattle.ug_groups.proofs.leaving.part.Goals as goal
 

@@ -1,5 +1,5 @@
 use Rattle.std.proofs.Common.{sym, ◌∙◌}
-use Rattle.ug_groups.proofs.Lists.{get_is}
+use Rattle.ug_groups.proofs.ListFacts.{get_is}
 use Rattle.ug_groups.proofs.MarkedPeers.{handed-none, handed-some}
 use Rattle.ug_groups.proofs.marking.handed_now.Goals as goal
 

@@ -5,7 +5,7 @@ use Rattle.ug_world.specs.declared.peer_state.PeerState.{PeerState}
 use Rattle.ug_world.specs.Touches.{is_about}
 use Rattle.ug_speaker.specs.Speech.{is_request}
 use Rattle.ug_group_rules.specs.Machine.{marks_at}
-use Rattle.ug_subgroup.specs.Rows.{Rows}
+use Rattle.ug_groups.specs.Rows.{Rows}
 use Rattle.ug_groups.specs.Members.{system}
 use Rattle.ug_groups.proofs.marking.marks_of_asker.Given as goal
 

@@ -1,6 +1,6 @@
 use Rattle.std.proofs.Common.{sym, subst, false, List}
 use Rattle.ug_group_rules.specs.Machine.{merge}
-use Rattle.ug_subgroup.specs.Rows.{Rows, with_row, without_row, absorbing_row}
+use Rattle.ug_groups.specs.Rows.{Rows, with_row, without_row, absorbing_row}
 use Rattle.ug_groups.specs.declared.member.Member.{Member}
 use Rattle.ug_groups.specs.Members.{system}
 use Rattle.ug_groups.specs.Done.{IsAt}

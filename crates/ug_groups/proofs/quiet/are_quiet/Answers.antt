@@ -2,7 +2,7 @@ use Rattle.std.proofs.Common.{◌+◌, Bool, sym, ap, ◌∙◌, arith, drop, sl
 use Rattle.std.specs.Prelude.{◌&&◌}
 use Rattle.ug_group_rules.specs.Machine.{are_quiet}
 use Rattle.ug_groups.specs.Members.{members_from}
-use Rattle.ug_groups.proofs.Lists.{get_is}
+use Rattle.ug_groups.proofs.ListFacts.{get_is}
 use Rattle.ug_groups.proofs.Stepping.{had}
 use Rattle.ug_groups.proofs.Quieted.{quiet-step}
 use Rattle.ug_groups.proofs.quiet.are_quiet.Goals as goal

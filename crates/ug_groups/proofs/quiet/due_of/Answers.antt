@@ -1,5 +1,5 @@
 use Rattle.std.proofs.Common.{ℕ, ◌≤◌, sym, ap, subst, arith, slice_get}
-use Rattle.ug_groups.proofs.Lists.{get_is}
+use Rattle.ug_groups.proofs.ListFacts.{get_is}
 use Rattle.ug_groups.proofs.Stepping.{had}
 use Rattle.ug_groups.proofs.Quieted.{due-step, left-few}
 use Rattle.ug_groups.proofs.quiet.due_of.Goals as goal

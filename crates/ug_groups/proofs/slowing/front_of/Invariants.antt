@@ -1,5 +1,5 @@
 use Rattle.std.proofs.Common.{◌≡◌, Some}
-use Rattle.ug_subgroup.specs.Rows.{Row, row_at}
+use Rattle.ug_groups.specs.Rows.{Row, row_at}
 use Rattle.ug_groups.specs.Fronts.{AreCollected}
 use Rattle.ug_groups.proofs.slowing.front_of.Given as goal
 

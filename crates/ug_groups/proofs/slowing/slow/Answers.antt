@@ -1,5 +1,5 @@
 use Rattle.std.proofs.Common.{◌≡◌, sym, subst, Some}
-use Rattle.ug_subgroup.specs.Rows.{Rows, row_at}
+use Rattle.ug_groups.specs.Rows.{Rows, row_at}
 use Rattle.ug_groups.proofs.Slowed.{parting, together, calm_row, calm-is, slowed-number, slowed-by}
 use Rattle.ug_groups.proofs.slowing.slow.Goals as goal
 

@@ -1,6 +1,6 @@
 use Rattle.std.proofs.Common.{◌∙◌}
 use Rattle.std.proofs.lemmas.Result.{on_ok_weaker}
-use Rattle.ug_subgroup.specs.Rows.{keys_in}
+use Rattle.ug_groups.specs.Rows.{keys_in}
 use Rattle.ug_groups.specs.TableChanges.{changes_in, with_changes}
 use Rattle.ug_groups.proofs.Reached.{changes-key}
 use Rattle.ug_groups.proofs.ByKeys.{by-each}

@@ -4,7 +4,7 @@ use Rattle.ug_group_rules.specs.Machine.{System}
 use Rattle.ug_groups.specs.declared.member.Member.{Member}
 use Rattle.std.specs.Prelude.{◌&&◌, not}
 use Rattle.ug_group_rules.specs.Machine.{owes, are_quiet}
-use Rattle.ug_subgroup.specs.Rows.{must_part_row, some_row, some_merge}
+use Rattle.ug_groups.specs.Rows.{must_part_row, some_row, some_merge}
 use Rattle.ug_groups.specs.Members.{members_from}
 use Rattle.ug_groups.proofs.SystemTests.{drained-is}
 use Rattle.ug_groups.proofs.state.GroupState.is_drained.Goals as goal

@@ -1,7 +1,7 @@
 use Rattle.std.proofs.Common.{List, sym, subst, arith}
 use Rattle.ug_groups.specs.declared.member.Member.{Member}
 use Rattle.ug_groups.specs.Kept.{IsKept}
-use Rattle.ug_groups.proofs.Lists.{put-back}
+use Rattle.ug_groups.proofs.ListFacts.{put-back}
 use Rattle.ug_groups.proofs.state.GroupState.lose.Goals as goal
 
 pub invariant_of-self : goal.invariant_of-self

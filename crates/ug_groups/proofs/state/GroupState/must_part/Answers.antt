@@ -2,7 +2,7 @@ use Rattle.std.proofs.Common.{sym, ap, ◌∙◌}
 use Rattle.ug_group_rules.specs.Machine as machine
 use Rattle.ug_group_rules.specs.Machine.{System}
 use Rattle.ug_outbound.specs.declared.settings.Local.{Local}
-use Rattle.ug_subgroup.specs.Rows.{row_at, any_at, must_part_row}
+use Rattle.ug_groups.specs.Rows.{row_at, any_at, must_part_row}
 use Rattle.ug_groups.proofs.SystemTests.{must-part-is}
 use Rattle.ug_groups.proofs.state.GroupState.must_part.Goals as goal
 

@@ -1,5 +1,5 @@
 use Rattle.std.proofs.Common.{false, sym, ap, subst, ◌∙◌}
-use Rattle.ug_subgroup.specs.Rows.{Rows}
+use Rattle.ug_groups.specs.Rows.{Rows}
 use Rattle.ug_groups.specs.Members.{system}
 use Rattle.ug_groups.specs.Kept.{IsKept}
 use Rattle.ug_groups.proofs.FreshMembers.{first-kept, first-view}

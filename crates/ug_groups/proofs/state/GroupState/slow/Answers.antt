@@ -3,7 +3,7 @@ use Rattle.ug_group_rules.specs.Machine as machine
 use Rattle.ug_group_rules.specs.Machine.{System}
 use Rattle.ug_groups.specs.declared.member.Member.{Member}
 use Rattle.ug_groups.specs.Members.{system}
-use Rattle.ug_groups.proofs.Lists.{put-back}
+use Rattle.ug_groups.proofs.ListFacts.{put-back}
 use Rattle.ug_groups.proofs.StateJobs.{same-kept, same-view, slow-open, slow-may}
 use Rattle.ug_groups.proofs.state.GroupState.slow.Goals as goal
 

@@ -1,0 +1,30 @@
+use Rattle.std.specs.Prelude.{slice_get}
+use Rattle.std.proofs.Common.{sym, ap, ◌∙◌}
+use Rattle.ug_adjout_rules.specs.Tables.{rows_after}
+use Rattle.ug_groups.specs.Holders.{rows_of}
+use Rattle.ug_groups.proofs.TableHolders.{held_next, one_held, shorter, all_held}
+use Rattle.ug_groups.proofs.Holders.{used_live}
+use Rattle.ug_groups.proofs.holding.hold_all.Goals as goal
+
+pub share-requires-clause-live : goal.share-requires-clause-live
+share-requires-clause-live g c =
+    let rows = rows_of c.args.side c.args.adj.now in
+    let is = ap (λ o. slice_get (rows_after g.K.Ord.cmp o rows) 0) (sym c.as_ref.ensures.value) ∙ sym c.in-Some.ensures in
+    used_live c.loop-row.pool c.in-Some.row.1 (held_next g.met.K.Ord.total g.met.K.OutKey.exact c.args.pool.now c.loop-row.pool rows c.loop-row.at c.in-Some.row c.loop-row.invariant c.requires.sorted is)
+
+pub loop-row-smaller : goal.loop-row-smaller
+loop-row-smaller g c =
+    let rows = rows_of c.args.side c.args.adj.now in
+    let is = ap (λ o. slice_get (rows_after g.K.Ord.cmp o rows) 0) (sym c.as_ref.ensures.value) ∙ sym c.in-Some.ensures in
+    shorter g.met.K.Ord.total g.met.K.OutKey.exact c.args.pool.now c.loop-row.pool rows c.loop-row.at c.in-Some.row c.loop-row.invariant c.requires.sorted is
+
+pub loop-row-preserved : goal.loop-row-preserved
+loop-row-preserved g c =
+    let rows = rows_of c.args.side c.args.adj.now in
+    let is = ap (λ o. slice_get (rows_after g.K.Ord.cmp o rows) 0) (sym c.as_ref.ensures.value) ∙ sym c.in-Some.ensures in
+    one_held g.met.K.Ord.total g.met.K.OutKey.exact c.args.pool.now c.loop-row.pool rows c.loop-row.at c.in-Some.row c.loop-row.invariant c.requires.sorted is c.share.new.self c.share.ensures
+
+pub returns-clause-uses : goal.returns-clause-uses
+returns-clause-uses g c =
+    let rows = rows_of c.args.side c.args.adj.now in
+    all_held g.K.Ord.cmp c.args.pool.now c.loop-row.pool rows c.loop-row.at c.loop-row.invariant (ap (λ o. slice_get (rows_after g.K.Ord.cmp o rows) 0) (sym c.as_ref.ensures.value) ∙ sym c.in_default.ensures)

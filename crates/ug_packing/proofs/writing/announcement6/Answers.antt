@@ -1,8 +1,0 @@
-use Rattle.std.proofs.Common.{sym, arith}
-use Rattle.std.proofs.lemmas.Grind.{common_steps}
-use Rattle.ug_message.specs.Spelling.{routes}
-use Rattle.ug_update.proofs.Texts6.{ipv6_announcement}
-use Rattle.ug_packing.proofs.writing.announcement6.Goals as goal
-
-pub returns : goal.returns
-returns c = λ a hop front. sym (ipv6_announcement a (routes c.args.add_path c.args.keys.now) c.write_routes.new.out.items (grind (arith, common_steps)))

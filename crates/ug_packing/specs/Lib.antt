@@ -1,4 +1,0 @@
-pub mod Packing
-pub mod Seen
-pub mod Frames
-pub mod Placed

@@ -1,6 +1,0 @@
-use Rattle.ug_subgroup.specs.Sent.{session_of}
-use Rattle.ug_subgroup.proofs.PlainPackets.{sent_as, sent_ends}
-use Rattle.ug_subgroup.proofs.plain.refresh_ends.Goals as goal
-
-pub returns-clause-sent : goal.returns-clause-sent
-returns-clause-sent c = sent_as (session_of c.args.key.now) c.in_ok-packet.packet _ c.in_ok-packet.ensures (sent_ends c.args.key.now c.args.made c.in_ok-mark.mark c.in_ok-mark.ensures.plain c.in_ok-mark.ensures.text)

@@ -1,5 +1,0 @@
-use Rattle.std.specs.Prelude.{[]}
-use Rattle.ug_subgroup.proofs.states.is_level.Goals as goal
-
-pub returns : goal.returns
-returns c = c.is_level.ensures (record { slots = [] })

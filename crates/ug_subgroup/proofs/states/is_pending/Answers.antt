@@ -1,5 +1,0 @@
-use Rattle.std.specs.Prelude.{[]}
-use Rattle.ug_subgroup.proofs.states.is_pending.Goals as goal
-
-pub returns : goal.returns
-returns c = c.is_pending.ensures (record { slots = [] })

@@ -1,5 +1,0 @@
-use Rattle.std.specs.Prelude.{[]}
-use Rattle.ug_subgroup.proofs.states.owes.Goals as goal
-
-pub returns : goal.returns
-returns c = c.owes.ensures (record { slots = [] })

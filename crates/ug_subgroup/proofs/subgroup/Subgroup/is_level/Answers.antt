@@ -1,8 +1,0 @@
-use Rattle.std.proofs.Common.{ap, ◌∙◌}
-use Rattle.ug_group_rules.specs.Machine.{is_level}
-use Rattle.ug_subgroup.specs.Standings.{seen}
-use Rattle.ug_subgroup.specs.Subgroups.{Grouped}
-use Rattle.ug_subgroup.proofs.subgroup.Subgroup.is_level.Goals as goal
-
-pub returns : goal.returns
-returns c pool = c.is_level.ensures pool ∙ ap (λ (g : Grouped). is_level (seen pool g.point)) c.self.view_is
