@@ -1,0 +1,4 @@
+pub mod Digits
+pub mod Places
+pub mod Kept
+pub mod Words

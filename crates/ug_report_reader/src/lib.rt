@@ -1,0 +1,12 @@
+//! What an auditor reads in a report: the marks of `sync`, and the sessions that were lost.
+#![tactic(auto)]
+
+mod line;
+mod number;
+mod peers;
+mod reading;
+mod stop;
+
+pub use line::read_entry;
+pub use reading::read_report;
+pub use stop::Stop;

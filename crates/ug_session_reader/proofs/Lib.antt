@@ -1,0 +1,4 @@
+pub mod Reading
+pub mod Listening
+pub mod Halting
+pub mod Refuting

@@ -1,0 +1,4 @@
+pub mod Lines
+pub mod Touched
+pub mod Timelines
+pub mod Standing
