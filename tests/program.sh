@@ -2,6 +2,7 @@
 # Runs the program on real files: what it ends with, what it says, and which files it leaves. PROGRAM is the program, or
 # else out/ug_main.
 cd "$(dirname "$0")/.." || exit 1
+source tests/counting.sh
 program=${PROGRAM:-$PWD/out/ug_main}
 [ -x "$program" ] || { echo "no program at $program"; echo "0 passed, 1 failed"; exit 1; }
 examples=$PWD/examples
@@ -14,18 +15,6 @@ mkdir there
 printf 'paths 10.0.0.0/8 id=1 from=local nh=0.0.0.0 origin=igp as=-\n' > events
 (cat events; echo 'withdraw 10.0.0.0/8') > gone
 (cat gone; echo 'withdraw 10.0.0.0/8') > gone-twice
-passed=0
-failed=0
-
-# note NAME RESULT..: counts a test that passed where the result is ok.
-note() {
-    if [ "$2" = ok ]; then
-        passed=$((passed + 1))
-    else
-        failed=$((failed + 1))
-        echo "$*"
-    fi
-}
 
 # run WORDS..: runs the program, and keeps its exit number, its report and what it says of errors.
 run() {

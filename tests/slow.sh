@@ -2,28 +2,16 @@
 # Runs `run` with a thread for each session to three peers that share, one of which (p1) is read through a pipe that nobody
 # reads for a while. The others are told everything in the meantime; the slow one is told what it lacks when it is read, and
 # shares again. Each table is the same at the end. Then, with one thread, one peer leaves its subgroup and comes back many times.
-# PROGRAM is the program, or else out/ug_main. TIMES is how often each run is
-# made.
+# PROGRAM is the program, or else out/ug_main. TIMES is how often each run with threads is made.
 export LC_ALL=C
 cd "$(dirname "$0")/.." || exit 1
+source tests/counting.sh
 program=${PROGRAM:-$PWD/out/ug_main}
 [ -x "$program" ] || { echo "no program at $program"; echo "0 passed, 1 failed"; exit 1; }
 times=${TIMES:-3}
 work=$(mktemp -d)
 trap 'rm -rf "$work"' EXIT
 cd "$work" || exit 1
-passed=0
-failed=0
-
-# note NAME RESULT..: counts a test that passed where the result is ok.
-note() {
-    if [ "$2" = ok ]; then
-        passed=$((passed + 1))
-    else
-        failed=$((failed + 1))
-        echo "$*"
-    fi
-}
 
 # peer NAME NUMBER
 peer() {
