@@ -3,7 +3,8 @@
 # `coalesce` 4096 and 1, with the routes after the sessions and before them, and with --workers 0 and 1. Prints for each the
 # time, the processors' time, the peak memory and the bytes written; then how the time grows from 100,000 to 400,000 prefixes,
 # to 8 peers of one group with `coalesce` 4096. Of RUNS runs (3) the shortest counts. What is written goes to TMPDIR, up to a
-# gigabyte a run. PEERS, GROUPS_OF, COALESCE and PREFIXES are other numbers than these.
+# gigabyte a run. PEERS, GROUPS_OF, COALESCE, PREFIXES and WORKERS are other
+# numbers than these, and ORDERS other orders than `after before`. GROWTH=no leaves out the growth.
 set -e
 source "$(dirname "$0")/measure.sh"
 runs=${RUNS:-3}
@@ -66,14 +67,15 @@ for peers in ${PEERS:-1 8 32 64}; do
     for groups in ${GROUPS_OF:-1 4}; do
         [ "$groups" -le "$peers" ] || continue
         for coalesce in ${COALESCE:-4096 1}; do
-            for order in after before; do
-                for workers in 0 1; do
+            for order in ${ORDERS:-after before}; do
+                for workers in ${WORKERS:-0 1}; do
                     one_run "$prefixes" "$peers" "$groups" "$coalesce" "$order" "$workers"
                 done
             done
         done
     done
 done
+[ "${GROWTH:-yes}" = yes ] || exit 0
 for order in after before; do
     for workers in 0 1; do
         one_run $((prefixes / 2)) 8 1 4096 "$order" "$workers" > /dev/null

@@ -7,4 +7,4 @@ program=${PROGRAM:-$PWD/out/ug_main}
 work=$(mktemp -d)
 trap 'rm -rf "$work"' EXIT
 "${CC:-cc}" -shared -fPIC -O1 -o "$work/memory.so" tests/memory.c -ldl || exit 1
-python3 tests/memory.py "$program" "$work/memory.so" ${CASES:-a-filter-later a-map-and-a-list a-refresh-between-marks an-ipv6-refresh-between-marks every-attribute filters paths-that-come-and-go splits-and-merges}
+python3 tests/memory.py "$program" "$work/memory.so" ${CASES:-a-filter-later a-map-and-a-list a-refresh-between-marks an-ipv6-refresh-between-marks every-attribute filters paths-that-come-and-go splits-and-merges slow-peers}

@@ -246,6 +246,43 @@ ends "groups of 64 peers in four policies" 0 "$(cat many-groups)"
 run groups too-many-peers
 ends "groups of 65 peers" 2 "status 2 config 7 peer"
 
+# ---- what is shared, and what works beside
+
+# 20,000 routes with the same 128 communities, told in messages of several hundred routes each.
+(head -n 3 "$examples/configurations/c1.toml"; printf 'coalesce = 4096\n'; tail -n +4 "$examples/configurations/c1.toml"; printf 'send_community = true\n') > sending
+awk 'BEGIN {
+    for (i = 0; i < 128; i++) communities = communities (i ? "," : "") "65001:" i
+    print "up p1"
+    for (i = 0; i < 20000; i++) printf "paths 10.%d.%d.0/24 id=1 from=local nh=0.0.0.0 origin=igp as=- comm=%s\n", int(i / 256), i % 256, communities
+}' > alike
+rm -rf there/*
+run run sending alike there --workers 0
+ends "run over routes with the same communities" 0 "accepted 20001 refused 0"
+# A copy of the attributes for each route would take 20 MB.
+said=$(ulimit -v 12000; "$program" check there/p1.1 2> errors | tail -n 1)
+[ "$said" = "messages 26 eors 1 rows 20000 rest 0" ] && note "check of routes that share their attributes" ok || note "check of routes that share their attributes" "$said"
+
+# How many threads there are while EVENTS is a pipe into which nothing more is written.
+threads() {
+    rm -rf there/*
+    mkfifo slowly
+    "$program" run "$examples/configurations/c1.toml" slowly there --workers "$1" > report 2> errors &
+    exec 7> slowly
+    printf 'up p1\n' >&7
+    for ((looks = 0; looks < 500; looks++)); do
+        [ -s there/p1.1 ] && break
+        sleep 0.02
+    done
+    said=$(ls /proc/$!/task | wc -l)
+    exec 7>&-
+    wait $!
+    rm slowly
+}
+threads 1
+[ "$said" = 2 ] && note "a thread beside that of the events for each peer" ok || note "a thread beside that of the events for each peer" "$said threads"
+threads 0
+[ "$said" = 1 ] && note "one thread without workers" ok || note "one thread without workers" "$said threads"
+
 # ---- what `run` takes at most
 
 head -n 2000000 lines > as-many-lines

@@ -145,7 +145,8 @@ impl Case {
     }
 }
 
-fn words_of(alloc: Global, text: &str) -> Result<Vec<String>, Wrong> {
+/// The words of a text, with its repetitions written out.
+pub fn words_of(alloc: Global, text: &str) -> Result<Vec<String>, Wrong> {
     let mut words = Vec::new(alloc);
     for word in text.split_whitespace() {
         words.push(written_out(alloc, word)?)?;

@@ -1,5 +1,6 @@
 //! Runs of cases over the outside in memory.
 
+use crate::auditing::tell_audit;
 use crate::case::Case;
 use crate::telling::tell;
 use crate::text::Text;
@@ -111,7 +112,10 @@ impl Runs {
     ) -> Result<(), Wrong> {
         for time in 0..case.times {
             let (done, report) = run(rt, alloc, words, case, most, steps)?;
-            let lines = tell(rt, alloc, case, &done, &report, steps)?;
+            let mut lines = tell(rt, alloc, case, &done, &report, steps)?;
+            if time == 0 {
+                tell_audit(rt, alloc, &mut lines, words, case, &done, &report, steps)?;
+            }
             let title = format!(in alloc; "by {words:?}, {most} bytes a read, time {time}")?;
             self.add(title, lines)?;
         }

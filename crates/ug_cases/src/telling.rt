@@ -14,7 +14,8 @@ use ug_board::{BoardSaid, BoardStep, LaneSaid, LaneStep};
 use ug_edge::{MemSink, MemWire};
 use ug_types::{PeerId, Steps};
 
-/// The number of the status, the report, and the sessions of each wire, as the case has them shown.
+/// The number of the status, and that the board was spent, where it was; the report, and the sessions of each wire, as the
+/// case has them shown.
 pub fn tell<L: Ledger, R: Threads + Wait + Sync>(
     rt: &R,
     alloc: Global,
@@ -24,7 +25,8 @@ pub fn tell<L: Ledger, R: Threads + Wait + Sync>(
     steps: &mut Steps<L>,
 ) -> Result<Vec<Told>, Wrong> {
     let mut lines = Vec::new(alloc);
-    let exit = format!(in alloc; "exit {}", done.status.number())?;
+    let spent = if done.spent { ", spent" } else { "" };
+    let exit = format!(in alloc; "exit {}{spent}", done.status.number())?;
     add_told(&mut lines, exit, false)?;
     tell_report(alloc, &mut lines, report.bytes(), case.without_marks)?;
     let wires = done.wires.as_slice();

@@ -2,7 +2,7 @@
 use Rattle.std.specs.Prelude.{ℕ, List, Option}
 use Rattle.std.specs.Borrow.{Bor}
 use Rattle.std.specs.Option.{option_map}
-use Rattle.ug_command_line.specs.Words.{SoFar, Command, One, Run, Check, Groups, SelfRun}
+use Rattle.ug_command_line.specs.Words.{SoFar, Command, One, Run, Check, Groups, SelfRun, Audit}
 use Rattle.ug_command_line.specs.declared.so_far.WordsSoFar.{WordsSoFar}
 use Rattle.ug_command_line.specs.declared.command.Command as commands
 use Rattle.ug_command_line.specs.declared.command.Command.TheVariants as command
@@ -21,6 +21,7 @@ so_far_seen s = record {
   first = word_seen s.first;
   second = word_seen s.second;
   third = word_seen s.third;
+  fourth = word_seen s.fourth;
 }
 
 abbrev pub seen : commands.Command → Command
@@ -29,6 +30,7 @@ seen (command.Run c) = Run (record { config = c.config.now; events = c.events.no
 seen (command.Check c) = Check (record { session = c.session; stream = c.stream.now })
 seen (command.Groups c) = Groups (record { config = c.config.now })
 seen (command.SelfRun c) = SelfRun (record { number = c.number })
+seen (command.Audit c) = Audit (record { config = c.config.now; events = c.events.now; report = c.report.now; dir = c.dir.now })
 
 abbrev pub command_seen : Option commands.Command → Option Command
 command_seen c = option_map seen c

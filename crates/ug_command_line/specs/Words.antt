@@ -16,6 +16,7 @@ verb_of word =
     else if same_bytes word (codes "check") then Some verbs.Check
     else if same_bytes word (codes "groups") then Some verbs.Groups
     else if same_bytes word (codes "selfrun") then Some verbs.SelfRun
+    else if same_bytes word (codes "audit") then Some verbs.Audit
     else None
 
 abbrev begins_with_dash : List ℕ → Bool
@@ -38,16 +39,18 @@ pub record SoFar : Type 0 where
   pub first : Option (List ℕ)
   pub second : Option (List ℕ)
   pub third : Option (List ℕ)
+  pub fourth : Option (List ℕ)
 
 abbrev pub nothing_said : SoFar
-nothing_said = record { may_be_option = true; wants_value = false; add_path = false; extended = false; ipv6 = false; workers = None; first = None; second = None; third = None }
+nothing_said = record { may_be_option = true; wants_value = false; add_path = false; extended = false; ipv6 = false; workers = None; first = None; second = None; third = None; fourth = None }
 
--- a positional word, of which no command has more than three
+-- a positional word, of which no command has more than four
 abbrev pub with_positional : List ℕ → SoFar → Option SoFar
 with_positional word s =
     if not (is_some s.first) then Some (record s { first = Some word })
     else if not (is_some s.second) then Some (record s { second = Some word })
     else if not (is_some s.third) then Some (record s { third = Some word })
+    else if not (is_some s.fourth) then Some (record s { fourth = Some word })
     else None
 
 -- an option of `check`, at most once
@@ -73,6 +76,7 @@ with_option verbs.Run word s = with_run_option word s
 with_option verbs.Check word s = with_check_option word s
 with_option verbs.Groups word s = None
 with_option verbs.SelfRun word s = None
+with_option verbs.Audit word s = None
 
 -- the value of `--workers`
 abbrev pub with_value : List ℕ → SoFar → Option SoFar
@@ -119,32 +123,40 @@ pub record GroupsCommand : Type 0 where
 pub record SelfRunCommand : Type 0 where
   pub number : ℕ
 
+-- `audit CONFIG EVENTS REPORT DIR`: the names of the files of a run, and of the folder of its sessions
+pub record AuditCommand : Type 0 where
+  pub config : List ℕ
+  pub events : List ℕ
+  pub report : List ℕ
+  pub dir : List ℕ
+
 pub data Command : Type 0 where
   One : OneCommand → Command
   Run : RunCommand → Command
   Check : CheckCommand → Command
   Groups : GroupsCommand → Command
   SelfRun : SelfRunCommand → Command
+  Audit : AuditCommand → Command
 
-abbrev pub one_by : Option (List ℕ) → Option (List ℕ) → Option (List ℕ) → Option Command
-one_by (Some events) (Some dir) None = Some (One (record { events = events; dir = dir }))
-one_by _ _ _ = None
+abbrev pub one_by : Option (List ℕ) → Option (List ℕ) → Option (List ℕ) → Option (List ℕ) → Option Command
+one_by (Some events) (Some dir) None None = Some (One (record { events = events; dir = dir }))
+one_by _ _ _ _ = None
 
 abbrev pub is_apart : Option Bool → Bool
 is_apart None = true
 is_apart (Some apart) = apart
 
-abbrev pub run_by : Bool → Option (List ℕ) → Option (List ℕ) → Option (List ℕ) → Option Command
-run_by apart (Some config) (Some events) (Some dir) = Some (Run (record { config = config; events = events; dir = dir; apart = apart }))
-run_by apart _ _ _ = None
+abbrev pub run_by : Bool → Option (List ℕ) → Option (List ℕ) → Option (List ℕ) → Option (List ℕ) → Option Command
+run_by apart (Some config) (Some events) (Some dir) None = Some (Run (record { config = config; events = events; dir = dir; apart = apart }))
+run_by apart _ _ _ _ = None
 
-abbrev pub check_by : Capabilities → Option (List ℕ) → Option (List ℕ) → Option (List ℕ) → Option Command
-check_by session (Some stream) None None = Some (Check (record { session = session; stream = stream }))
-check_by session _ _ _ = None
+abbrev pub check_by : Capabilities → Option (List ℕ) → Option (List ℕ) → Option (List ℕ) → Option (List ℕ) → Option Command
+check_by session (Some stream) None None None = Some (Check (record { session = session; stream = stream }))
+check_by session _ _ _ _ = None
 
-abbrev pub groups_by : Option (List ℕ) → Option (List ℕ) → Option (List ℕ) → Option Command
-groups_by (Some config) None None = Some (Groups (record { config = config }))
-groups_by _ _ _ = None
+abbrev pub groups_by : Option (List ℕ) → Option (List ℕ) → Option (List ℕ) → Option (List ℕ) → Option Command
+groups_by (Some config) None None None = Some (Groups (record { config = config }))
+groups_by _ _ _ _ = None
 
 -- a number of 1 to 20 decimal digits, below 2^64
 abbrev pub number_of : List ℕ → Option ℕ
@@ -154,9 +166,13 @@ abbrev pub selfrun_said : Option ℕ → Option Command
 selfrun_said None = None
 selfrun_said (Some number) = Some (SelfRun (record { number = number }))
 
-abbrev pub selfrun_by : Option (List ℕ) → Option (List ℕ) → Option (List ℕ) → Option Command
-selfrun_by (Some word) None None = selfrun_said (number_of word)
-selfrun_by _ _ _ = None
+abbrev pub selfrun_by : Option (List ℕ) → Option (List ℕ) → Option (List ℕ) → Option (List ℕ) → Option Command
+selfrun_by (Some word) None None None = selfrun_said (number_of word)
+selfrun_by _ _ _ _ = None
+
+abbrev pub audit_by : Option (List ℕ) → Option (List ℕ) → Option (List ℕ) → Option (List ℕ) → Option Command
+audit_by (Some config) (Some events) (Some report) (Some dir) = Some (Audit (record { config = config; events = events; report = report; dir = dir }))
+audit_by _ _ _ _ = None
 
 -- the session that the options speak of
 abbrev pub session_said : SoFar → Capabilities
@@ -164,11 +180,12 @@ session_said s = record { family = if s.ipv6 then V6 else V4; add_path = s.add_p
 
 -- the command that all words say
 abbrev pub said_by : Verb → SoFar → Option Command
-said_by verbs.One s = one_by s.first s.second s.third
-said_by verbs.Run s = if s.wants_value then None else run_by (is_apart s.workers) s.first s.second s.third
-said_by verbs.Check s = check_by (session_said s) s.first s.second s.third
-said_by verbs.Groups s = groups_by s.first s.second s.third
-said_by verbs.SelfRun s = selfrun_by s.first s.second s.third
+said_by verbs.One s = one_by s.first s.second s.third s.fourth
+said_by verbs.Run s = if s.wants_value then None else run_by (is_apart s.workers) s.first s.second s.third s.fourth
+said_by verbs.Check s = check_by (session_said s) s.first s.second s.third s.fourth
+said_by verbs.Groups s = groups_by s.first s.second s.third s.fourth
+said_by verbs.SelfRun s = selfrun_by s.first s.second s.third s.fourth
+said_by verbs.Audit s = audit_by s.first s.second s.third s.fourth
 
 abbrev pub command_by : List (List ℕ) → Verb → Option Command
 command_by words verb = option_and_then (said_by verb) (with_words verb words nothing_said)

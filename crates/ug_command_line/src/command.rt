@@ -1,15 +1,17 @@
 //! The command that words are.
 
-ghost use Rattle.std.specs.Prelude.{◌≡◌, map};
+ghost use Rattle.std.specs.Prelude.{◌≡◌, IfOk, None, Ok, false, map};
 ghost use Rattle.std.specs.String.{string_bytes};
 ghost use Rattle.std.specs.Option.{option_map};
-ghost use Rattle.ug_command_line.specs.Words.{command_of, said_by, one_by, run_by, check_by, groups_by, selfrun_by, is_apart, with_words, nothing_said};
+ghost use Rattle.ug_command_line.specs.Words.{command_of, is_command, said_by, one_by, run_by, check_by, groups_by, selfrun_by, audit_by, is_apart, with_words, nothing_said};
 ghost use Rattle.ug_command_line.specs.Views.{command_seen, so_far_seen, word_seen};
 
+use crate::matches::matched_words;
 use crate::number::number_of;
 use crate::so_far::WordsSoFar;
 use crate::verb::{Verb, verb_of};
-use ug_types::Capabilities;
+use std::alloc::Global;
+use ug_types::{Capabilities, NoMemory};
 
 /// `one EVENTS DIR`: the name of the events' file, and that of the folder for the wires.
 #[derive(Drop)]
@@ -47,6 +49,15 @@ pub struct SelfRunWords {
     pub number: u64,
 }
 
+/// `audit CONFIG EVENTS REPORT DIR`: the names of the files of a run, and of the folder of its sessions.
+#[derive(Drop)]
+pub struct AuditWords<'a> {
+    pub config: &'a str,
+    pub events: &'a str,
+    pub report: &'a str,
+    pub dir: &'a str,
+}
+
 /// A command.
 #[derive(Drop)]
 pub enum Command<'a> {
@@ -55,10 +66,32 @@ pub enum Command<'a> {
     Check(CheckWords<'a>),
     Groups(GroupsWords<'a>),
     SelfRun(SelfRunWords),
+    Audit(AuditWords<'a>),
 }
 
-/// The command that the words are, the first of them its name; none where they are no command.
-pub fn read_command(words: &[String]) -> Option<Command<'_>>
+/// The command that the words are, the first of them its name; none where they are no command. Our own check refuses those,
+/// before memory is asked for, and `clap` reads the others.
+pub fn read_command(alloc: Global, words: &[String]) -> Result<Option<Command<'_>>, NoMemory>
+    ensures read { IfOk result (λ command. command_seen command ≡ command_of (map string_bytes words.now)) }
+    ensures refused { is_command (map string_bytes words.now) ≡ false → result ≡ Ok None }
+{
+    let [name, ..] = words else {
+        return Ok(None);
+    };
+    let Some(verb) = verb_of(name.as_str()) else {
+        return Ok(None);
+    };
+    if command_in(words).is_none() {
+        return Ok(None);
+    }
+    let Some(said) = matched_words(alloc, words)? else {
+        unreachable!()
+    };
+    Ok(command_said(verb, said))
+}
+
+/// The same by our own check alone, which takes no memory.
+pub fn command_in(words: &[String]) -> Option<Command<'_>>
     ensures { command_seen result ≡ command_of (map string_bytes words.now) }
 {
     let [name, rest @ ..] = words else {
@@ -84,6 +117,7 @@ fn read_words(verb: Verb, words: &[String]) -> Option<WordsSoFar<'_>>
         first: None,
         second: None,
         third: None,
+        fourth: None,
     };
     for word in words {
         so_far = so_far.with_word(verb, word.as_str())?;
@@ -96,16 +130,29 @@ fn command_said(verb: Verb, said: WordsSoFar<'_>) -> Option<Command<'_>>
     ensures { command_seen result ≡ said_by verb (so_far_seen said.entry) }
 {
     match verb {
-        Verb::One => one(said.first, said.second, said.third),
+        Verb::One => one(said.first, said.second, said.third, said.fourth),
         Verb::Run => {
             if said.wants_value {
                 return None;
             }
-            run(is_apart(said.workers), said.first, said.second, said.third)
+            run(
+                is_apart(said.workers),
+                said.first,
+                said.second,
+                said.third,
+                said.fourth,
+            )
         }
-        Verb::Check => check(said.session(), said.first, said.second, said.third),
-        Verb::Groups => groups(said.first, said.second, said.third),
-        Verb::SelfRun => selfrun(said.first, said.second, said.third),
+        Verb::Check => check(
+            said.session(),
+            said.first,
+            said.second,
+            said.third,
+            said.fourth,
+        ),
+        Verb::Groups => groups(said.first, said.second, said.third, said.fourth),
+        Verb::SelfRun => selfrun(said.first, said.second, said.third, said.fourth),
+        Verb::Audit => audit(said.first, said.second, said.third, said.fourth),
     }
 }
 
@@ -123,11 +170,12 @@ fn one<'a>(
     first: Option<&'a str>,
     second: Option<&'a str>,
     third: Option<&'a str>,
+    fourth: Option<&'a str>,
 ) -> Option<Command<'a>>
-    ensures { command_seen result ≡ one_by (word_seen first.entry) (word_seen second.entry) (word_seen third.entry) }
+    ensures { command_seen result ≡ one_by (word_seen first.entry) (word_seen second.entry) (word_seen third.entry) (word_seen fourth.entry) }
 {
-    match (first, second, third) {
-        (Some(events), Some(dir), None) => Some(Command::One(OneWords { events, dir })),
+    match (first, second, third, fourth) {
+        (Some(events), Some(dir), None, None) => Some(Command::One(OneWords { events, dir })),
         _ => None,
     }
 }
@@ -137,11 +185,12 @@ fn run<'a>(
     first: Option<&'a str>,
     second: Option<&'a str>,
     third: Option<&'a str>,
+    fourth: Option<&'a str>,
 ) -> Option<Command<'a>>
-    ensures { command_seen result ≡ run_by apart (word_seen first.entry) (word_seen second.entry) (word_seen third.entry) }
+    ensures { command_seen result ≡ run_by apart (word_seen first.entry) (word_seen second.entry) (word_seen third.entry) (word_seen fourth.entry) }
 {
-    match (first, second, third) {
-        (Some(config), Some(events), Some(dir)) => Some(Command::Run(RunWords {
+    match (first, second, third, fourth) {
+        (Some(config), Some(events), Some(dir), None) => Some(Command::Run(RunWords {
             config,
             events,
             dir,
@@ -156,11 +205,12 @@ fn check<'a>(
     first: Option<&'a str>,
     second: Option<&'a str>,
     third: Option<&'a str>,
+    fourth: Option<&'a str>,
 ) -> Option<Command<'a>>
-    ensures { command_seen result ≡ check_by session (word_seen first.entry) (word_seen second.entry) (word_seen third.entry) }
+    ensures { command_seen result ≡ check_by session (word_seen first.entry) (word_seen second.entry) (word_seen third.entry) (word_seen fourth.entry) }
 {
-    match (first, second, third) {
-        (Some(stream), None, None) => Some(Command::Check(CheckWords { session, stream })),
+    match (first, second, third, fourth) {
+        (Some(stream), None, None, None) => Some(Command::Check(CheckWords { session, stream })),
         _ => None,
     }
 }
@@ -169,11 +219,12 @@ fn groups<'a>(
     first: Option<&'a str>,
     second: Option<&'a str>,
     third: Option<&'a str>,
+    fourth: Option<&'a str>,
 ) -> Option<Command<'a>>
-    ensures { command_seen result ≡ groups_by (word_seen first.entry) (word_seen second.entry) (word_seen third.entry) }
+    ensures { command_seen result ≡ groups_by (word_seen first.entry) (word_seen second.entry) (word_seen third.entry) (word_seen fourth.entry) }
 {
-    match (first, second, third) {
-        (Some(config), None, None) => Some(Command::Groups(GroupsWords { config })),
+    match (first, second, third, fourth) {
+        (Some(config), None, None, None) => Some(Command::Groups(GroupsWords { config })),
         _ => None,
     }
 }
@@ -182,13 +233,35 @@ fn selfrun<'a>(
     first: Option<&'a str>,
     second: Option<&'a str>,
     third: Option<&'a str>,
+    fourth: Option<&'a str>,
 ) -> Option<Command<'a>>
-    ensures { command_seen result ≡ selfrun_by (word_seen first.entry) (word_seen second.entry) (word_seen third.entry) }
+    ensures { command_seen result ≡ selfrun_by (word_seen first.entry) (word_seen second.entry) (word_seen third.entry) (word_seen fourth.entry) }
 {
-    match (first, second, third) {
-        (Some(word), None, None) => {
+    match (first, second, third, fourth) {
+        (Some(word), None, None, None) => {
             let number = number_of(word)?;
             Some(Command::SelfRun(SelfRunWords { number }))
+        }
+        _ => None,
+    }
+}
+
+fn audit<'a>(
+    first: Option<&'a str>,
+    second: Option<&'a str>,
+    third: Option<&'a str>,
+    fourth: Option<&'a str>,
+) -> Option<Command<'a>>
+    ensures { command_seen result ≡ audit_by (word_seen first.entry) (word_seen second.entry) (word_seen third.entry) (word_seen fourth.entry) }
+{
+    match (first, second, third, fourth) {
+        (Some(config), Some(events), Some(report), Some(dir)) => {
+            Some(Command::Audit(AuditWords {
+                config,
+                events,
+                report,
+                dir,
+            }))
         }
         _ => None,
     }

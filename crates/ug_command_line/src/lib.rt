@@ -2,10 +2,12 @@
 #![tactic(auto)]
 
 mod command;
+mod matches;
 mod number;
 mod so_far;
 mod verb;
 
 pub use command::{
-    CheckWords, Command, GroupsWords, OneWords, RunWords, SelfRunWords, read_command,
+    AuditWords, CheckWords, Command, GroupsWords, OneWords, RunWords, SelfRunWords, command_in,
+    read_command,
 };

@@ -21,6 +21,7 @@ pub(crate) struct WordsSoFar<'a> {
     pub(crate) first: Option<&'a str>,
     pub(crate) second: Option<&'a str>,
     pub(crate) third: Option<&'a str>,
+    pub(crate) fourth: Option<&'a str>,
 }
 
 impl<'a> WordsSoFar<'a> {
@@ -78,6 +79,12 @@ impl<'a> WordsSoFar<'a> {
                 ..self
             });
         }
+        if self.fourth.is_none() {
+            return Some(WordsSoFar {
+                fourth: Some(word),
+                ..self
+            });
+        }
         None
     }
 
@@ -85,7 +92,7 @@ impl<'a> WordsSoFar<'a> {
         ensures { option_map so_far_seen result ≡ with_option verb word.now (so_far_seen self.entry) }
     {
         match verb {
-            Verb::One | Verb::Groups | Verb::SelfRun => None,
+            Verb::One | Verb::Groups | Verb::SelfRun | Verb::Audit => None,
             Verb::Run => self.with_run_option(word),
             Verb::Check => self.with_check_option(word),
         }

@@ -11,6 +11,7 @@ pub(crate) enum Verb {
     Check,
     Groups,
     SelfRun,
+    Audit,
 }
 
 /// The command of that name.
@@ -31,6 +32,9 @@ pub(crate) fn verb_of(word: &str) -> Option<Verb>
     }
     if word == "selfrun" {
         return Some(Verb::SelfRun);
+    }
+    if word == "audit" {
+        return Some(Verb::Audit);
     }
     None
 }

@@ -57,3 +57,5 @@ IsChecked command file is_open left statuses.Usage before held failed = ⊥
 IsChecked command file is_open left (statuses.Config number field) before held failed = ⊥
 IsChecked command file is_open left statuses.SiteFault before held failed = ⊥
 IsChecked command file is_open left (statuses.Lost peer session) before held failed = ⊥
+IsChecked command file is_open left (statuses.Refuted peer session kind message key) before held failed = ⊥
+IsChecked command file is_open left (statuses.Unclear line) before held failed = ⊥

@@ -45,3 +45,5 @@ IsListed file statuses.Usage before held failed = ⊥
 IsListed file statuses.SiteFault before held failed = ⊥
 IsListed file (statuses.Lost peer session) before held failed = ⊥
 IsListed file (statuses.Malformed cause offset) before held failed = ⊥
+IsListed file (statuses.Refuted peer session kind message key) before held failed = ⊥
+IsListed file (statuses.Unclear line) before held failed = ⊥

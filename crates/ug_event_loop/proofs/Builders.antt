@@ -10,12 +10,12 @@ use Rattle.ug_events.specs.Events.{Saying}
 use Rattle.ug_events.specs.Reads.{Reads}
 use Rattle.ug_speaker.specs.Speech.{Speech}
 use Rattle.ug_speaker.specs.Owes.{StepsRight}
-use Rattle.ug_report.specs.Report.{Answer, answer_texts}
+use Rattle.ug_report.specs.Report.{AreOf64, Answer, answer_texts}
 use Rattle.ug_event_loop.specs.declared.came.Came.{Came}
 use Rattle.ug_event_loop.specs.declared.stop.Stop.{Stop}
 use Rattle.ug_event_loop.specs.declared.stop.Stop.TheVariants as stops
 use Rattle.ug_event_loop.specs.declared.tally.Tally.{Tally}
-use Rattle.ug_event_loop.specs.Turns.{GoesOn, AnswersAt, IsLegalAt, answer_of, is_taken, is_refused}
+use Rattle.ug_event_loop.specs.Turns.{GoesOn, AnswersAt, IsLegalAt, answer_of, marks_of, is_taken, is_refused}
 use Rattle.ug_event_loop.specs.Standing.{said_by, Stands, Stops, BuilderView, IsSameBuilder, BuilderStands, BuilderStops, TakesLines, StopsWithin}
 use Rattle.ug_event_loop.proofs.Standings.{stands-still, stops-still, stops-before, takes-line, takes-untold, takes-stopped, admits}
 
@@ -89,13 +89,13 @@ module _ {Opening State Job Said : Type 0} (rules : Rules Opening State Job Said
       seen_is : new.pass.seen ≡ mid.pass.seen
       seen_is = ap (λ (p : Held (Entry Job Said) Opening). p.seen) pass_is
 
-      pub builder-takes : AppendsPiece held held' (concat (answer_texts names tally'.lines (answer_of speech.marks came)))
+      pub builder-takes : AppendsPiece held held' (concat (answer_texts names tally'.lines (answer_of speech.marks came))) → AreOf64 (marks_of (answer_of speech.marks came))
           → new.tally ≡ tally' → tally'.accepted ≡ tally.accepted + is_taken came → tally'.refused ≡ tally.refused + is_refused came
           → TakesLines rules speech old held new held' (line ∷ [])
-      builder-takes told new_tally accepted' refused' first lines before stands =
+      builder-takes told counts new_tally accepted' refused' first lines before stands =
           stands_as new old.pass.root first (lines ++ said_by old.grammar line ∷ []) old.names mid.pass.seen before held' tally' root_is new_names seen_is new_tally
           (takes-line rules speech steps old.pass.root old.names old.pass.seen mid.pass.seen held old.tally (said_by old.grammar line) came answers_here legal_here held' tally'
-          (subst (λ (text : List ℕ). AppendsPiece held held' text) texts_are told) number_is
+          (subst (λ (text : List ℕ). AppendsPiece held held' text) texts_are told) counts number_is
           (accepted' ∙ ap (λ (t : Tally). t.accepted + is_taken came) tally_is) (refused' ∙ ap (λ (t : Tally). t.refused + is_refused came) tally_is)
           first lines before stands)
 

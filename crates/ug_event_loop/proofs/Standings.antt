@@ -19,7 +19,8 @@ use Rattle.ug_speaker.specs.Told.{world_at}
 use Rattle.ug_speaker.specs.Owes.{StepsRight}
 use Rattle.ug_speaker.specs.Story.{IsStory}
 use Rattle.ug_speaker.specs.StoryLaws.{story-between, story-line}
-use Rattle.ug_report.specs.Report.{Answer, answer_to, answer_texts, line_texts}
+use Rattle.ug_history_rules.specs.Deeds.{Each}
+use Rattle.ug_report.specs.Report.{AreOf64, Answer, answer_to, answer_texts, line_texts}
 use Rattle.ug_event_loop.specs.declared.came.Came.{Came}
 use Rattle.ug_event_loop.specs.declared.stop.Stop.{Stop}
 use Rattle.ug_event_loop.specs.declared.stop.Stop.TheVariants as stops
@@ -28,6 +29,10 @@ use Rattle.ug_event_loop.specs.Turns.{GoesOn, Answers, AnswersAt, IsLegalAt, ans
 use Rattle.ug_event_loop.specs.Standing.{AreLanes, IsTally, HasTaken, StandsAt, StopsAt, Stands, Stops}
 use Rattle.ug_event_loop.proofs.Worlds.{lanes-front, legal-front, last-more, story-marks, story-world}
 use Rattle.ug_event_loop.proofs.Telling.{texts-more, accepted-more, refused-more, taken-is, refused-is}
+
+each_more : (marks : List (List Mark)) (ms : List Mark) → Each AreOf64 marks → AreOf64 ms → Each AreOf64 (marks ++ ms ∷ [])
+each_more [] ms all one = (one, tt)
+each_more (m ∷ marks) ms all one = (all.0, each_more marks ms all.1 one)
 
 module _ {Opening State Job Said : Type 0} (rules : Rules Opening State Job Said) (speech : Speech Opening State Job Said) where
   -- what no line asks for
@@ -133,13 +138,14 @@ module _ {Opening State Job Said : Type 0} (rules : Rules Opening State Job Said
       here_concat = ap concat here_texts ∙ concat-append (line_texts names 1 W lines stands.marks) (answer_texts names (tally.lines + 1) (answer_of speech.marks came))
 
       pub stands-more : (held' : Option (List ℕ)) (tally' : Tally)
-          → AppendsPiece held held' (concat (answer_texts names (tally.lines + 1) (answer_of speech.marks came)))
+          → AppendsPiece held held' (concat (answer_texts names (tally.lines + 1) (answer_of speech.marks came))) → AreOf64 (marks_of (answer_of speech.marks came))
           → tally'.lines ≡ tally.lines + 1 → tally'.accepted ≡ tally.accepted + is_taken came → tally'.refused ≡ tally.refused + is_refused came
           → StandsAt rules speech opening first (lines ++ line ∷ []) names seen' before held' tally'
-      unfolding W
-      stands-more held' tally' told lines' accepted' refused' = record {
+      unfolding W more_marks
+      stands-more held' tally' told counts lines' accepted' refused' = record {
         marks = more_marks;
         taken = here_taken;
+        counts = each_more stands.marks (marks_of (answer_of speech.marks came)) stands.counts counts;
         reported =
             subst (λ (text : List ℕ). AppendsPiece before held' text) (sym here_concat)
             (AppendsPiece-more before held held' (concat (line_texts names 1 W lines stands.marks)) (concat (answer_texts names (tally.lines + 1) (answer_of speech.marks came))) stands.reported told);
@@ -181,7 +187,13 @@ module _ {Opening State Job Said : Type 0} (rules : Rules Opening State Job Said
   stands-still None first lines names seen seen' before held tally goes legal stands = absurd stands
   stands-still (Some opening) first lines names seen seen' before held tally goes legal stands = λ lanes.
       let was = stands (lanes-front seen goes.more (subst (λ (es : List (Entry Job Said)). AreLanes es) goes.parts lanes)) in
-      record { marks = was.marks; taken = taken_still opening first lines was.marks seen seen' was.taken goes (legal was.taken.legal); reported = was.reported; tallied = was.tallied }
+      record {
+        marks = was.marks;
+        taken = taken_still opening first lines was.marks seen seen' was.taken goes (legal was.taken.legal);
+        counts = was.counts;
+        reported = was.reported;
+        tallied = was.tallied;
+      }
 
   pub stops-still : (stop : Stop) (root : Option Opening) (first lines : List (Reads Saying)) (names : List (List ℕ)) (seen seen' : List (Entry Job Said)) (before held : Option (List ℕ))
       → GoesOn rules speech seen seen' → IsLegalAt rules speech root seen'
@@ -211,11 +223,11 @@ module _ {Opening State Job Said : Type 0} (rules : Rules Opening State Job Said
   module _ (steps : StepsRight rules speech) (root : Option Opening) (names : List (List ℕ)) (seen seen' : List (Entry Job Said)) (held : Option (List ℕ)) (tally : Tally) (line : Reads Saying) (came : Came Said)
       (answers : AnswersAt rules speech root line (answer_of speech.marks came) seen seen') (legal : IsLegalAt rules speech root seen → IsLegalAt rules speech root seen') where
     pub takes-line : (held' : Option (List ℕ)) (tally' : Tally)
-        → AppendsPiece held held' (concat (answer_texts names (tally.lines + 1) (answer_of speech.marks came)))
+        → AppendsPiece held held' (concat (answer_texts names (tally.lines + 1) (answer_of speech.marks came))) → AreOf64 (marks_of (answer_of speech.marks came))
         → tally'.lines ≡ tally.lines + 1 → tally'.accepted ≡ tally.accepted + is_taken came → tally'.refused ≡ tally.refused + is_refused came
         → (first lines : List (Reads Saying)) (before : Option (List ℕ))
         → Stands rules speech root first lines names seen before held tally → Stands rules speech root first (lines ++ line ∷ []) names seen' before held' tally'
-    takes-line held' tally' told lines' accepted' refused' first lines before stands =
+    takes-line held' tally' told counts lines' accepted' refused' first lines before stands =
         taken-from root answers legal stands
       where
         taken-from : (r : Option Opening) → AnswersAt rules speech r line (answer_of speech.marks came) seen seen' → (IsLegalAt rules speech r seen → IsLegalAt rules speech r seen')
@@ -223,7 +235,7 @@ module _ {Opening State Job Said : Type 0} (rules : Rules Opening State Job Said
         taken-from None answers legal stands = absurd stands
         taken-from (Some opening) answers legal stands = λ lanes.
             let was = stands (lanes-front seen (answers.quiet ++ answers.did) (subst (λ (es : List (Entry Job Said)). AreLanes es) answers.parts lanes)) in
-            stands-more steps opening first lines names seen seen' before held tally line came was answers (legal was.taken.legal) lanes held' tally' told lines' accepted' refused'
+            stands-more steps opening first lines names seen seen' before held tally line came was answers (legal was.taken.legal) lanes held' tally' told counts lines' accepted' refused'
 
     pub takes-untold : (first lines : List (Reads Saying)) (before : Option (List ℕ))
         → Stands rules speech root first lines names seen before held tally → Stops rules speech stops.NoMemory root first (lines ++ line ∷ []) names seen' before held
@@ -285,6 +297,7 @@ module _ {Opening State Job Said : Type 0} (rules : Rules Opening State Job Said
                   (story_more opening first was.taken.first_marks seen seen' line answer story answers));
               legal = legal;
             };
+            counts = tt;
             reported = AppendsPiece-none held;
             tallied = record { lines = was.tallied.lines; accepted = was.tallied.accepted; refused = was.tallied.refused };
           }

@@ -12,6 +12,7 @@ module _ {Opening State Job Said : Type 0} (rules : Rules Opening State Job Said
   nothing_taken opening names held = record {
     marks = [];
     taken = record { first_marks = []; aligned = refl; story = tt; legal = tt };
+    counts = tt;
     reported = AppendsPiece-none held;
     tallied = record { lines = refl; accepted = refl; refused = refl };
   }

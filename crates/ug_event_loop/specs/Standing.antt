@@ -17,7 +17,7 @@ use Rattle.ug_events.specs.Grammar.{line_of, routes_line_of}
 use Rattle.ug_world.specs.World.{World}
 use Rattle.ug_world.specs.Worlds.{last_world}
 use Rattle.ug_speaker.specs.Speech.{Speech}
-use Rattle.ug_report.specs.Report.{line_texts, accepted_count, refused_count}
+use Rattle.ug_report.specs.Report.{AreOf64, line_texts, accepted_count, refused_count}
 use Rattle.ug_speaker.specs.Story.{IsStory}
 use Rattle.ug_event_loop.specs.declared.grammar.Grammar.{Grammar}
 use Rattle.ug_event_loop.specs.declared.grammar.Grammar.TheVariants as grammars
@@ -59,10 +59,11 @@ module _ {Opening State Job Said : Type 0} (rules : Rules Opening State Job Said
     pub story : IsStory rules speech opening [] (first ++ lines) (first_marks ++ marks) seen
     pub legal : IsLegal rules opening seen
 
-  -- All these lines were taken, and the report says of them what it has to.
+  -- All these lines were taken, and the report says of them what it has to, with marks that count messages in 64 bits.
   pub record StandsAt (opening : Opening) (first lines : List (Reads Saying)) (names : List (List ℕ)) (seen : List (Entry Job Said)) (before held : Option (List ℕ)) (tally : Tally) : Type 0 where
     pub marks : List (List Mark)
     pub taken : HasTaken opening first lines marks seen
+    pub counts : Each AreOf64 marks
     pub reported : AppendsPiece before held (concat (line_texts names 1 (last_world (speech.first opening) first) lines marks))
     pub tallied : IsTally (last_world (speech.first opening) first) lines tally
 

@@ -11,6 +11,7 @@ ghost use Rattle.ug_event_loop.specs.Turns.{GoesOn, Answers, answer_of};
 ghost use Rattle.ug_event_loop.specs.Counts.{least_of, most_of, RisesBy, RisesWithin};
 
 use crate::came::Came;
+use crate::prepared::{Prepared, Settled};
 use std::alloc::Global;
 use std::sync::Wait;
 use std::sync::ledger::Ledger;
@@ -140,12 +141,13 @@ fn take_event<S: Speaker, L: Ledger>(
     }
 }
 
-/// Does what has to be done before the next event, as far as there is anything, and answers how many jobs that were.
+/// Does what has to be done before the next event, as far as there is anything, and answers how many jobs that were
+/// and how many packets a queue holds.
 pub(crate) fn settle<S: Speaker, R: Wait, L: Ledger>(
     rt: &R,
     board: &mut Board<S>,
     steps: &mut Steps<L>,
-) -> Result<usize, NoMemory>
+) -> Result<Settled, NoMemory>
     ensures opening { board.new.opening ≡ board.old.opening }
     ensures stays_spent { board.old.spent ≡ true → board.new.spent ≡ true }
     ensures adds { Adds (λ entry. entry.pass) 0 board.old.history board.new.history }
@@ -157,7 +159,9 @@ pub(crate) fn settle<S: Speaker, R: Wait, L: Ledger>(
     if board.is_spent() {
         return Err(NoMemory);
     }
-    prepare(rt, board, Work::Settling, steps)
+    let jobs = prepare(rt, board, Work::Settling, steps)?;
+    let room = board.machine().world().local().queue_limit;
+    Ok(Settled { jobs, room })
 }
 
 /// Settles, and then offers an event to the world.
@@ -185,17 +189,17 @@ pub(crate) fn offer<S: Speaker, R: Wait, L: Ledger>(
     take_event(alloc, board, event, steps)
 }
 
-/// Marks how much each live peer was told, where everything is told; else does what there is to be done for that.
+/// Does what there is to be done so that everything is told, and marks how much each live peer was told, where it is.
 pub(crate) fn mark<S: Speaker, R: Wait, L: Ledger>(
     rt: &R,
     board: &mut Board<S>,
     steps: &mut Steps<L>,
-) -> Result<Option<Came<S::Said>>, NoMemory>
+) -> Result<Prepared<Option<Came<S::Said>>>, NoMemory>
     ensures opening { board.new.opening ≡ board.old.opening }
     ensures stays_spent { board.old.spent ≡ true → board.new.spent ≡ true }
     ensures adds { Adds (λ entry. entry.pass) 0 board.old.history board.new.history }
-    ensures answers { IfOk result (λ marked. IfSome marked (λ came. Answers S.Machine.rules S.speech board.old.opening (Ok SaysSync) (answer_of S.speech.marks came) board.old.history board.new.history)) }
-    ensures waits { IfOk result (λ marked. IfNone marked (GoesOn S.Machine.rules S.speech board.old.history board.new.history)) }
+    ensures answers { IfOk result (λ marked. IfSome marked.value (λ came. Answers S.Machine.rules S.speech board.old.opening (Ok SaysSync) (answer_of S.speech.marks came) board.old.history board.new.history)) }
+    ensures waits { IfOk result (λ marked. IfNone marked.value (GoesOn S.Machine.rules S.speech board.old.history board.new.history)) }
     ensures stopped { OnErr result (GoesOn S.Machine.rules S.speech board.old.history board.new.history) }
     ensures legal { IsLegal S.Machine.rules board.new.opening board.new.history }
     ensures steps_least { RisesBy steps.old steps.new (least_of S.Machine.rules board.old.opening board.old.history) (least_of S.Machine.rules board.old.opening board.new.history) }
@@ -204,12 +208,13 @@ pub(crate) fn mark<S: Speaker, R: Wait, L: Ledger>(
     if board.is_spent() {
         return Err(NoMemory);
     }
-    prepare(rt, board, Work::Draining, steps)?;
+    let jobs = prepare(rt, board, Work::Draining, steps)?;
     if !board.machine().is_drained() {
-        return Ok(None);
+        return Ok(Prepared { jobs, value: None });
     }
     let said = do_job(board, S::sync_job(), steps)?;
-    Ok(Some(Came::Synced(said)))
+    let value = Some(Came::Synced(said));
+    Ok(Prepared { jobs, value })
 }
 
 /// Ends the work on the board.
@@ -229,19 +234,19 @@ fn close<S: Speaker, L: Ledger>(board: &mut Board<S>, steps: &mut Steps<L>) -> R
     Ok(())
 }
 
-/// Ends the work on the board, where everything is told, and answers whether it did; else does what there is to be done
-/// for that.
+/// Does what there is to be done so that everything is told, and ends the work on the board, where it is. It answers whether
+/// it did.
 pub(crate) fn conclude<S: Speaker, R: Wait, L: Ledger>(
     rt: &R,
     board: &mut Board<S>,
     steps: &mut Steps<L>,
-) -> Result<bool, NoMemory>
+) -> Result<Prepared<bool>, NoMemory>
     ensures opening { board.new.opening ≡ board.old.opening }
     ensures stays_spent { board.old.spent ≡ true → board.new.spent ≡ true }
     ensures adds { Adds (λ entry. entry.pass) 0 board.old.history board.new.history }
     ensures history { GoesOn S.Machine.rules S.speech board.old.history board.new.history }
-    ensures drained { IfOk result (λ told. told ≡ true → S.speech.drained (state_of S.Machine.rules board.new) ≡ true) }
-    ensures closed { IfOk result (λ told. told ≡ true → S.speech.closed (state_of S.Machine.rules board.new) ≡ true) }
+    ensures drained { IfOk result (λ told. told.value ≡ true → S.speech.drained (state_of S.Machine.rules board.new) ≡ true) }
+    ensures closed { IfOk result (λ told. told.value ≡ true → S.speech.closed (state_of S.Machine.rules board.new) ≡ true) }
     ensures legal { IsLegal S.Machine.rules board.new.opening board.new.history }
     ensures steps_least { RisesBy steps.old steps.new (least_of S.Machine.rules board.old.opening board.old.history) (least_of S.Machine.rules board.old.opening board.new.history) }
     ensures steps_most { OnOk result (RisesWithin steps.old steps.new (most_of S.Machine.rules board.old.opening board.old.history) (most_of S.Machine.rules board.old.opening board.new.history)) }
@@ -249,12 +254,12 @@ pub(crate) fn conclude<S: Speaker, R: Wait, L: Ledger>(
     if board.is_spent() {
         return Err(NoMemory);
     }
-    prepare(rt, board, Work::Draining, steps)?;
+    let jobs = prepare(rt, board, Work::Draining, steps)?;
     if !board.machine().is_drained() {
-        return Ok(false);
+        return Ok(Prepared { jobs, value: false });
     }
     close(board, steps)?;
-    Ok(true)
+    Ok(Prepared { jobs, value: true })
 }
 
 /// Ends the work on the board at once: unless the board is spent, it is closed then.

@@ -8,9 +8,9 @@ ghost use Rattle.ug_pieces.specs.Reporting.{AppendsFront};
 ghost use Rattle.ug_events.specs.Events.{Saying, IsEvent, Says, SaysSync};
 ghost use Rattle.ug_events.specs.Reads.{Reads};
 ghost use Rattle.ug_events.specs.Views.{event_of};
-ghost use Rattle.ug_report.specs.Report.{answer_texts};
+ghost use Rattle.ug_report.specs.Report.{AreOf64, answer_texts};
 ghost use Rattle.ug_sender.specs.Posts.{AreHere, AllRest, posts_of};
-ghost use Rattle.ug_event_loop.specs.Turns.{GoesOn, AnswersAt, IsLegalAt, IsEndedAt, IsClosedAt, answer_of};
+ghost use Rattle.ug_event_loop.specs.Turns.{GoesOn, AnswersAt, IsLegalAt, IsEndedAt, IsClosedAt, answer_of, marks_of};
 ghost use Rattle.ug_event_loop.specs.Counts.{least_at, most_at, RisesBy, RisesWithin};
 ghost use Rattle.ug_event_loop.specs.Standing.{said_by, is_due, IsPacedBy, IsPumpedBetween, IsSameBuilder, BuilderStands, TakesLines, StopsWithin};
 ghost use Rattle.ug_event_loop.specs.Reading.{StandsWithin};
@@ -38,7 +38,11 @@ use ug_turnstile::{Pass, Turnstile};
 use ug_types::{NameList, NoMemory, Steps};
 
 /// A builder. Contracts see its pass, which has number 0 and no turn, the names of the peers, the verbs that it knows,
-/// after how many accepted events the lanes that work here are pumped, and how many lines it took.
+/// after how many accepted events the lanes that work here are pumped at the latest, and how many lines it took.
+///
+/// The lanes that work here rest behind each accepted event. So they are pumped where there may be something for them: behind
+/// each so many events, and where `may_wait` is set, since a session began, or what was formatted filled a queue and the rest
+/// followed before this event.
 #[derive(Drop)]
 pub struct Builder<S: Speaker> {
     alloc: Global,
@@ -49,6 +53,7 @@ pub struct Builder<S: Speaker> {
     coalesce: u32,
     tally: Tally,
     pace: Pace,
+    may_wait: bool,
 }
 
 impl<S: Speaker> Model for Builder<S> {
@@ -89,7 +94,8 @@ impl<S: Speaker> Builder<S> {
                 accepted: 0,
                 refused: 0,
             },
-            pace: Pace::new(),
+            pace: Pace::new(coalesce),
+            may_wait: false,
         }
     }
 
@@ -116,6 +122,7 @@ impl<S: Speaker> Builder<S> {
             coalesce: _,
             tally: _,
             pace: _,
+            may_wait: _,
         } = self;
         (pass, names)
     }
@@ -139,13 +146,14 @@ impl<S: Speaker> Builder<S> {
         ensures steps_least { RisesBy steps.old steps.new (least_at S.Machine.rules self.old.pass.root self.old.pass.seen) (least_at S.Machine.rules self.old.pass.root self.new.pass.seen) }
         ensures steps_most { OnOk result (RisesWithin steps.old steps.new (most_at S.Machine.rules self.old.pass.root self.old.pass.seen) (most_at S.Machine.rules self.old.pass.root self.new.pass.seen)) }
     {
+        self.pace.step_back();
         for _ in rt.forever() {
             let rings = turnstile.back().rings();
             let marked = mark_in_turn(rt, turnstile, &mut self.pass, steps)?;
-            if let Some(came) = marked {
+            if let Some(came) = marked.value {
                 return Ok(came);
             }
-            wait_for(rt, turnstile, crew, rings);
+            wait_for(rt, turnstile, crew, &mut self.pace, rings, marked.jobs);
         }
         unreachable!()
     }
@@ -174,6 +182,7 @@ impl<S: Speaker> Builder<S> {
             Ok(Line::Blank) => Ok(Came::Passed),
             Ok(Line::Sync) => self.sync(rt, turnstile, crew, steps),
             Ok(Line::Happened(event)) => {
+                self.may_wait = self.may_wait || is_begin(&event);
                 offer_in_turn(rt, self.alloc, turnstile, &mut self.pass, event, steps)
             }
             Err(LineRefusal::Refused { number, inner }) => Ok(Came::Refused { number, inner }),
@@ -184,6 +193,7 @@ impl<S: Speaker> Builder<S> {
     /// Tells the report what the line of this number came to.
     fn tell<K: Sink>(&self, number: u64, came: &Came<S::Said>, report: &mut K) -> Result<(), Stop>
         ensures ok { OnOk result (AppendsPiece (K.held report.old) (K.held report.new) (concat (answer_texts self.now.names number (answer_of S.speech.marks came.now)))) }
+        ensures counts { OnOk result (AreOf64 (marks_of (answer_of S.speech.marks came.now))) }
         ensures starved { IsErrOf result Stop.NoMemory → K.held report.new ≡ K.held report.old }
         ensures failed { IsErrOf result Stop.Report → AppendsFront (K.held report.old) (K.held report.new) (concat (answer_texts self.now.names number (answer_of S.speech.marks came.now))) }
         ensures rose { IsErrOf result Stop.Report → Rose (K.faults report.old) (K.faults report.new) }
@@ -200,7 +210,8 @@ impl<S: Speaker> Builder<S> {
 
     /// What the report says of what the line of this number came to.
     fn text_of(&self, number: u64, came: &Came<S::Said>) -> Result<String, NoMemory>
-        ensures { IfOk result (λ text. string_bytes text ≡ concat (answer_texts self.now.names number (answer_of S.speech.marks came.now))) }
+        ensures text { IfOk result (λ text. string_bytes text ≡ concat (answer_texts self.now.names number (answer_of S.speech.marks came.now))) }
+        ensures counts { OnOk result (AreOf64 (marks_of (answer_of S.speech.marks came.now))) }
     {
         let mut text = String::new(self.alloc);
         match came {
@@ -315,15 +326,23 @@ impl<S: Speaker> Builder<S> {
         ensures steps_most { OnOk result (RisesWithin steps.old steps.new (most_at S.Machine.rules self.old.pass.root self.old.pass.seen) (most_at S.Machine.rules self.old.pass.root self.new.pass.seen)) }
     {
         for _ in rt.forever() {
-            let rings = turnstile.back().rings();
-            let jobs = settle_in_turn(rt, turnstile, &mut self.pass, steps)?;
-            pump_where(rt, turnstile, crew, is_due);
-            let has_more = self.pace.keep(rt, turnstile.back(), rings, jobs, is_due);
+            let settled = settle_in_turn(rt, turnstile, &mut self.pass, steps)?;
+            let may_wait = is_due || self.may_wait;
+            pump_where(rt, turnstile, crew, may_wait);
+            self.may_wait = is_due && (self.may_wait || settled.may_be_cut());
+            let has_more = self.pace.keep(rt, turnstile, crew.len(), settled, is_due);
             if !has_more {
                 return Ok(());
             }
         }
         unreachable!()
+    }
+
+    /// Rings for the lanes that work apart, where they weren't rung for since there was something new for them.
+    pub(crate) fn ring(&self, turnstile: &Turnstile<Board<S>>) {
+        if self.pace.is_ahead() {
+            turnstile.news().ring();
+        }
     }
 
     /// Takes an event before all lines, of which no report speaks. Behind it it settles, and the lanes that work here are
@@ -400,13 +419,15 @@ impl<S: Speaker> Builder<S> {
         ensures steps_least { RisesBy steps.old steps.new (least_at S.Machine.rules self.old.pass.root self.old.pass.seen) (least_at S.Machine.rules self.old.pass.root self.new.pass.seen) }
         ensures steps_most { OnOk result (RisesWithin steps.old steps.new (most_at S.Machine.rules self.old.pass.root self.old.pass.seen) (most_at S.Machine.rules self.old.pass.root self.new.pass.seen)) }
     {
+        self.pace.step_back();
         for _ in rt.forever() {
             let rings = turnstile.back().rings();
-            if conclude_in_turn(rt, turnstile, &mut self.pass, steps)? {
+            let concluded = conclude_in_turn(rt, turnstile, &mut self.pass, steps)?;
+            if concluded.value {
                 turnstile.news().ring();
                 return Ok(());
             }
-            wait_for(rt, turnstile, crew, rings);
+            wait_for(rt, turnstile, crew, &mut self.pace, rings, concluded.jobs);
         }
         unreachable!()
     }
@@ -438,7 +459,12 @@ fn is_multiple(accepted: u64, coalesce: u32) -> bool
     accepted % u64::from(coalesce.max(1)) == 0
 }
 
-/// Pumps the lanes that work here, where that is due, and rings for those that work apart.
+/// Whether a session begins with the event, if it is accepted.
+fn is_begin(event: &Event) -> bool {
+    matches!(event, Event::Up { .. })
+}
+
+/// Pumps the lanes that work here, where that is due.
 fn pump_where<R: Wait, W: Wire, S: Speaker>(
     rt: &R,
     turnstile: &Turnstile<Board<S>>,
@@ -451,25 +477,30 @@ fn pump_where<R: Wait, W: Wire, S: Speaker>(
     ensures left { is_due ≡ false → crew.new ≡ crew.old }
 {
     if is_due {
-        turnstile.news().ring();
         crew.pump_here(rt, turnstile);
     }
 }
 
-/// Rings for the lanes that work apart, and pumps those that work here; where that did nothing waits until a lane rang
-/// more often than that.
+/// Rings for the lanes that work apart, where there may be something new for them, and pumps those that work here; where that
+/// did nothing waits until a lane rang more often than that.
+///
+/// A lane that waits has taken all that there was when it was rung for. So it is rung for again only behind further jobs: else
+/// lanes that have nothing to do would wake each other as long as one of them is not done.
 fn wait_for<R: Wait, W: Wire, S: Speaker>(
     rt: &R,
     turnstile: &Turnstile<Board<S>>,
     crew: &mut Crew<W, S>,
+    pace: &mut Pace,
     rings: u64,
+    jobs: usize,
 )
     requires crew { AreHere turnstile.now.id (posts_of crew.old) }
     ensures posts { posts_of crew.new ≡ posts_of crew.old }
     ensures rest { AllRest S.Machine.rules crew.new }
 {
-    turnstile.news().ring();
-    if !crew.pump_here(rt, turnstile) {
+    let has_rung = pace.ring_behind(turnstile, jobs);
+    let has_done = crew.pump_here(rt, turnstile);
+    if !has_done && !(has_rung && pace.wait(rt, turnstile, crew.len()) > 0) {
         turnstile.back().wait(rt, rings);
     }
 }

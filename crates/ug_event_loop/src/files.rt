@@ -35,7 +35,8 @@ const MOST_LINES: usize = 2_000_000;
 
 const KEPT: usize = 4097;
 
-/// Reads a file to its end, of so many bytes at most, and takes the lines that a newline ends.
+/// Reads a file to its end, of so many bytes at most, and takes the lines that a newline ends. Before it reads, which may take long
+/// where more has yet to be written, lanes are told of what is new.
 fn read_ended<R: Wait, W: Wire, S: Speaker, L: Ledger, E: Source, K: Sink>(
     rt: &R,
     alloc: Global,
@@ -79,6 +80,7 @@ fn read_ended<R: Wait, W: Wire, S: Speaker, L: Ledger, E: Source, K: Sink>(
     };
     let mut total: usize = 0;
     loop {
+        builder.ring(turnstile);
         let count = match source.read(buffer.as_mut_slice()) {
             Ok(count) => count,
             Err(Failed) => return Err(Halt::Read),

@@ -10,6 +10,7 @@ mod files;
 mod grammar;
 mod lines;
 mod pace;
+mod prepared;
 mod reading;
 mod stop;
 mod tally;

@@ -9,6 +9,7 @@ ghost use Rattle.ug_event_loop.specs.Counts.{least_at, most_at, RisesBy, RisesWi
 
 use crate::board::{break_off, conclude, mark, offer, settle};
 use crate::came::Came;
+use crate::prepared::{Prepared, Settled};
 use std::alloc::Global;
 use std::sync::Wait;
 use std::sync::ledger::Ledger;
@@ -45,13 +46,13 @@ pub(crate) fn offer_in_turn<S: Speaker, R: Wait, L: Ledger>(
     came
 }
 
-/// Does what has to be done before the next event, and answers how many jobs that were.
+/// Does what has to be done before the next event, and answers how many jobs that were and how many packets a queue holds.
 pub(crate) fn settle_in_turn<S: Speaker, R: Wait, L: Ledger>(
     rt: &R,
     turnstile: &Turnstile<Board<S>>,
     pass: &mut Pass<Board<S>>,
     steps: &mut Steps<L>,
-) -> Result<usize, NoMemory>
+) -> Result<Settled, NoMemory>
     requires here { pass.old.turnstile ≡ turnstile.now.id }
     requires free { pass.old.holds ≡ false }
     requires number { pass.old.number ≡ 0 }
@@ -68,20 +69,20 @@ pub(crate) fn settle_in_turn<S: Speaker, R: Wait, L: Ledger>(
     settled
 }
 
-/// Marks how much each live peer was told, where everything is told.
+/// Does what there is to be done so that everything is told, and marks how much each live peer was told, where it is.
 pub(crate) fn mark_in_turn<S: Speaker, R: Wait, L: Ledger>(
     rt: &R,
     turnstile: &Turnstile<Board<S>>,
     pass: &mut Pass<Board<S>>,
     steps: &mut Steps<L>,
-) -> Result<Option<Came<S::Said>>, NoMemory>
+) -> Result<Prepared<Option<Came<S::Said>>>, NoMemory>
     requires here { pass.old.turnstile ≡ turnstile.now.id }
     requires free { pass.old.holds ≡ false }
     requires number { pass.old.number ≡ 0 }
     ensures same { IsSamePass pass.old pass.new }
     ensures free { pass.new.holds ≡ false }
-    ensures answers { IfOk result (λ marked. IfSome marked (λ came. AnswersAt S.Machine.rules S.speech pass.new.root (Ok SaysSync) (answer_of S.speech.marks came) pass.old.seen pass.new.seen)) }
-    ensures waits { IfOk result (λ marked. IfNone marked (GoesOn S.Machine.rules S.speech pass.old.seen pass.new.seen)) }
+    ensures answers { IfOk result (λ marked. IfSome marked.value (λ came. AnswersAt S.Machine.rules S.speech pass.new.root (Ok SaysSync) (answer_of S.speech.marks came) pass.old.seen pass.new.seen)) }
+    ensures waits { IfOk result (λ marked. IfNone marked.value (GoesOn S.Machine.rules S.speech pass.old.seen pass.new.seen)) }
     ensures stopped { OnErr result (GoesOn S.Machine.rules S.speech pass.old.seen pass.new.seen) }
     ensures legal { IsLegalAt S.Machine.rules S.speech pass.new.root pass.new.seen }
     ensures steps_least { RisesBy steps.old steps.new (least_at S.Machine.rules pass.old.root pass.old.seen) (least_at S.Machine.rules pass.old.root pass.new.seen) }
@@ -93,20 +94,21 @@ pub(crate) fn mark_in_turn<S: Speaker, R: Wait, L: Ledger>(
     marked
 }
 
-/// Ends the work on the board, where everything is told, and answers whether it did.
+/// Does what there is to be done so that everything is told, and ends the work on the board, where it is. It answers whether
+/// it did.
 pub(crate) fn conclude_in_turn<S: Speaker, R: Wait, L: Ledger>(
     rt: &R,
     turnstile: &Turnstile<Board<S>>,
     pass: &mut Pass<Board<S>>,
     steps: &mut Steps<L>,
-) -> Result<bool, NoMemory>
+) -> Result<Prepared<bool>, NoMemory>
     requires here { pass.old.turnstile ≡ turnstile.now.id }
     requires free { pass.old.holds ≡ false }
     requires number { pass.old.number ≡ 0 }
     ensures same { IsSamePass pass.old pass.new }
     ensures free { pass.new.holds ≡ false }
     ensures history { GoesOn S.Machine.rules S.speech pass.old.seen pass.new.seen }
-    ensures ended { IfOk result (λ told. told ≡ true → IsEndedAt S.Machine.rules S.speech pass.new.root pass.new.seen) }
+    ensures ended { IfOk result (λ told. told.value ≡ true → IsEndedAt S.Machine.rules S.speech pass.new.root pass.new.seen) }
     ensures legal { IsLegalAt S.Machine.rules S.speech pass.new.root pass.new.seen }
     ensures steps_least { RisesBy steps.old steps.new (least_at S.Machine.rules pass.old.root pass.old.seen) (least_at S.Machine.rules pass.old.root pass.new.seen) }
     ensures steps_most { OnOk result (RisesWithin steps.old steps.new (most_at S.Machine.rules pass.old.root pass.old.seen) (most_at S.Machine.rules pass.old.root pass.new.seen)) }

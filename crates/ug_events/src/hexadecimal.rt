@@ -8,8 +8,7 @@ ghost use Rattle.ug_events.specs.Views.{Gives};
 use crate::refusal::LineRefusal;
 use hex::FromHexError;
 use std::alloc::Global;
-use ug_prefixlist::{OrfMessage, OrfRefusal, read_orf};
-use ug_refresh::read_refresh;
+use ug_prefixlist::{OrfMessage, OrfRefusal, read_orf, read_refresh};
 
 /// The bytes of a text of hexadecimal digits, of either case and even in number.
 fn bytes_of(alloc: Global, word: &[u8]) -> Result<Vec<u8>, LineRefusal>

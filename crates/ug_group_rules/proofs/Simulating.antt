@@ -45,6 +45,9 @@ module _ (opening : World) (h : List GroupEntry) (p : ℕ) (s : PeerState) (cour
           never_back = sat.stream.right.never_back;
           one_end = sat.stream.one;
           whole = sat.stream.right.whole;
+          in_turn = sat.stream.right.in_turn;
+          no_marks = sat.stream.right.no_marks;
+          not_due = sat.stream.after;
           stale = λ k dropped. (sat.stream.stale k dropped).0;
           rests = sat.stream.rests;
           begun = sat.stream.begun;

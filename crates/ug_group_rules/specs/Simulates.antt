@@ -14,7 +14,7 @@ use Rattle.ug_world.specs.World.{World, key_in}
 use Rattle.ug_world.specs.Worlds.{past}
 use Rattle.ug_adjout_rules.specs.Tables.{has, value_at}
 use Rattle.ug_pack.specs.Ready.{key_order}
-use Rattle.ug_speaker.specs.Right.{EndsInWhole, announces, ends_of_rib, is_refreshing}
+use Rattle.ug_speaker.specs.Right.{AreFor, EndsInWhole, IsInTurn, announces, ends_of_rib, is_refreshing}
 use Rattle.ug_group_rules.specs.declared.phase.Phase.TheVariants.{Quiet, Open}
 use Rattle.ug_group_rules.specs.Packets.{Packet, message_to, wanted_rows}
 use Rattle.ug_group_rules.specs.Machine.{Subgroup, is_owed}
@@ -38,7 +38,11 @@ pub record Simulates (p : ℕ) (s : PeerState) (worlds : List World) (w : World)
   -- (d) one End-of-RIB is there or due, and at it the table is whole
   pub one_end : ends_of_rib all + (if x.ending then 1 else 0) ≡ 1
   pub whole : EndsInWhole p s.sessions worlds all
-  -- in a refresh (RFC 7313) what the peer would drop at its end is forced, and the marks fit the phase
+  -- the marks of refreshes (RFC 7313) are in turn, and only a peer with enhanced refresh has some; none is open while
+  -- End-of-RIB is due; what the peer would drop at the end of one is forced; and they fit the phase
+  pub in_turn : IsInTurn nothing_read false false all
+  pub no_marks : AreFor s.peer s.peer.enhanced_refresh all
+  pub not_due : x.phase ≡ Open → x.ending ≡ false
   pub stale : (k : Key) → (reading_from nothing_read all).stale k ≡ true → has key_order x.out.forced k ≡ true
   pub rests : x.phase ≡ Quiet → is_refreshing false all ≡ false
   pub begun : x.phase ≡ Open → is_refreshing false all ≡ true

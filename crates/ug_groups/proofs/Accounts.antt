@@ -227,7 +227,7 @@ same_pool pool (Err x) = refl
 
 -- ---- the row of one that is there
 
-row_at_is : (pool : Pooled OutAttrs) (xs : Entries) (g : ℕ) (rows : Rows) → rows_in pool xs ≡ rows → row_at g rows ≡ option_map (row_in pool) (value_of g xs)
+pub row_at_is : (pool : Pooled OutAttrs) (xs : Entries) (g : ℕ) (rows : Rows) → rows_in pool xs ≡ rows → row_at g rows ≡ option_map (row_in pool) (value_of g xs)
 row_at_is pool xs g rows is = ap (λ (rs : Rows). row_at g rs) (sym is) ∙ value_map (row_in pool) xs g
 
 pub if_in : (P : Row → Type 0) (pool : Pooled OutAttrs) (xs : Entries) (g : ℕ) (rows : Rows) → rows_in pool xs ≡ rows → HasRow g rows P → IfSome (value_of g xs) (λ e. P (row_in pool e))

@@ -69,3 +69,4 @@ pub mod AllPrefixes
 pub mod RowsEntered
 pub mod FreshRows
 pub mod Crosses
+mod ClassSweeps

@@ -1,6 +1,6 @@
 -- A search among the entries is one among the numbers.
 use Rattle.std.proofs.Common.{◌≡◌, ℕ, zero, suc, ◌+◌, Bool, true, false, cond, List, [], ◌∷◌, Option, Some, None, refl, sym, ◌∙◌, ap, subst, arith, slice_get, get_or}
-use Rattle.std.specs.Prelude.{position, if◌then◌else◌}
+use Rattle.std.specs.Prelude.{position, if◌then◌else◌, drop, ◌-◌, ◌<◌, ◌≤◌}
 use Rattle.std.specs.List.{position_from}
 use Rattle.std.specs.Option.{option_map}
 use Rattle.std.proofs.lemmas.Iterator.Adapters.{position_from-zero}
@@ -60,6 +60,48 @@ module _ {T : Type 0} where
       by true t is later = let same : g ≡ n = cc in (0, y, (omega (arith, same)), refl, ap (λ (m : ℕ). test m y) (sym same) ∙ t)
       by false t is later = let found = later is in (suc found.0, found.1, (let e = found.2 in omega (arith, e)), found.3, found.4)
 
+  pub first_before : (test : ℕ → T → Bool) (g n : ℕ) (xs : List (Option T)) → first_of test g xs ≡ Some n → (h : ℕ) (x : T) → value_of h xs ≡ Some x → g + h < n → test (g + h) x ≡ false
+  first_before test g n [] is h x there less = absurd cc
+  first_before test g n (None ∷ xs) is zero x there less = absurd cc
+  first_before test g n (None ∷ xs) is (suc h) x there less = let number : g + 1 + h ≡ g + suc h = omega arith in ap (λ (m : ℕ). test m x) (sym number) ∙ first_before test (g + 1) n xs is h x there (omega (arith, less))
+  first_before test g n (Some y ∷ xs) is h x there less = by (test g y) refl is h there less (first_before test (g + 1) n xs)
+    where
+      by : (b : Bool) → test g y ≡ b → (if b then Some g else first_of test (g + 1) xs) ≡ Some n → (h : ℕ) → value_of h (Some y ∷ xs) ≡ Some x → g + h < n
+          → (first_of test (g + 1) xs ≡ Some n → (h : ℕ) (x : T) → value_of h xs ≡ Some x → g + 1 + h < n → test (g + 1 + h) x ≡ false) → test (g + h) x ≡ false
+      by true t is h there less later = let same : g ≡ n = cc in absurd (omega (arith, same, less))
+      by false t is zero there less later = let number : g + 0 ≡ g = omega arith in let same : y ≡ x = cc in ap (λ (m : ℕ). test m x) number ∙ ap (test g) (sym same) ∙ t
+      by false t is (suc h) there less later = let number : g + 1 + h ≡ g + suc h = omega arith in ap (λ (m : ℕ). test m x) (sym number) ∙ later is h x there (omega (arith, less))
+
+  -- ---- the first that passes from a number on
+
+  nothing_in : (k : ℕ) (xs : List (Option T)) → xs ≡ [] → value_of k xs ≡ None
+  nothing_in zero [] e = refl
+  nothing_in (suc k) [] e = refl
+  nothing_in k (o ∷ xs) e = absurd cc
+
+  value_drop : (f h : ℕ) (xs : List (Option T)) → value_of (f + h) xs ≡ value_of h (drop f xs)
+  value_drop zero h xs = let number : 0 + h ≡ h = omega arith in ap (λ (m : ℕ). value_of m xs) number
+  value_drop (suc f) h [] = nothing_in (suc f + h) [] refl ∙ sym (nothing_in h [] refl)
+  value_drop (suc f) h (o ∷ xs) = let number : suc f + h ≡ suc (f + h) = omega arith in ap (λ (m : ℕ). value_of m (o ∷ xs)) number ∙ value_drop f h xs
+
+  pub from_there : (test : ℕ → T → Bool) (f n : ℕ) (xs : List (Option T)) → first_of test f (drop f xs) ≡ Some n → (f ≤ n) × (x : T) × (value_of n xs ≡ Some x)
+  from_there test f n xs is =
+      let found = first_some test f n (drop f xs) is in let number = found.2 in
+      (omega (arith, number), found.1, ap (λ (m : ℕ). value_of m xs) number ∙ value_drop f found.0 xs ∙ found.3)
+
+  value_behind : (f k : ℕ) (x : T) (xs : List (Option T)) → f + (k - f) ≡ k → value_of k xs ≡ Some x → value_of (k - f) (drop f xs) ≡ Some x
+  value_behind f k x xs number there = sym (value_drop f (k - f) xs) ∙ ap (λ (m : ℕ). value_of m xs) number ∙ there
+
+  pub from_before : (test : ℕ → T → Bool) (f n k : ℕ) (xs : List (Option T)) (x : T) → first_of test f (drop f xs) ≡ Some n → f ≤ k → k < n → value_of k xs ≡ Some x → test k x ≡ false
+  from_before test f n k xs x is le less there =
+      let number : f + (k - f) ≡ k = omega (arith, le) in
+      ap (λ (m : ℕ). test m x) (sym number) ∙ first_before test f n (drop f xs) is (k - f) x (value_behind f k x xs number there) (omega (arith, number, less))
+
+  pub from_none : (test : ℕ → T → Bool) (f k : ℕ) (xs : List (Option T)) (x : T) → first_of test f (drop f xs) ≡ None → f ≤ k → value_of k xs ≡ Some x → test k x ≡ false
+  from_none test f k xs x is le there =
+      let number : f + (k - f) ≡ k = omega (arith, le) in
+      ap (λ (m : ℕ). test m x) (sym number) ∙ first_none test f (drop f xs) is (k - f) x (value_behind f k x xs number there)
+
   -- ---- by place
 
   first_in : (ℕ × T → Bool) → List (ℕ × T) → Option ℕ
@@ -100,8 +142,11 @@ module _ {T : Type 0} where
       by false h = h
 
   -- the number of the entry where the search ends is that of the first that passes
+  pub number_first_from : (test : ℕ → T → Bool) (g : ℕ) (xs : List (Option T)) → number_at (position (on_row test) (numbered g xs)) (numbered g xs) ≡ first_of test g xs
+  number_first_from test g xs = ap (λ (o : Option ℕ). number_at o (numbered g xs)) (position_from-zero (on_row test) (numbered g xs)) ∙ placed (on_row test) (numbered g xs) ∙ first_listed test g xs
+
   pub number_first : (test : ℕ → T → Bool) (xs : List (Option T)) → number_at (position (on_row test) (numbered 0 xs)) (numbered 0 xs) ≡ first_of test 0 xs
-  number_first test xs = ap (λ (o : Option ℕ). number_at o (numbered 0 xs)) (position_from-zero (on_row test) (numbered 0 xs)) ∙ placed (on_row test) (numbered 0 xs) ∙ first_listed test 0 xs
+  number_first test xs = number_first_from test 0 xs
 
   -- ---- the place itself
 

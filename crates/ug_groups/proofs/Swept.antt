@@ -49,9 +49,9 @@ module _ (f : Row → Row) (rows : Rows) where
   pub sweep_start : IsSweep f rows rows 0
   sweep_start = record { size = refl; done = λ h less. absurd (omega (arith, less)); rest = λ h le. refl }
 
-  -- up to a number where a row is there, none is
-  pub sweep_step : (now later : Rows) (from g : ℕ) → IsSweep f rows now from → from ≤ g → ((k : ℕ) → from ≤ k → k < g → row_at k now ≡ None) → later ≡ with_row g f now → IsSweep f rows later (g + 1)
-  sweep_step now later from g sweep le skipped is = subst (λ (rs : Rows). IsSweep f rows rs (g + 1)) (sym is) (record {
+  -- up to a number whose row is changed, none would become another one by it
+  pub sweep_over : (now later : Rows) (from g : ℕ) → IsSweep f rows now from → from ≤ g → ((k : ℕ) → from ≤ k → k < g → option_map f (row_at k now) ≡ row_at k now) → later ≡ with_row g f now → IsSweep f rows later (g + 1)
+  sweep_over now later from g sweep le skipped is = subst (λ (rs : Rows). IsSweep f rows rs (g + 1)) (sym is) (record {
     size = change_length f now g ∙ sweep.size;
     done = done;
     rest = λ h above. change_other f now g h (λ same. absurd (omega (arith, same, above))) ∙ sweep.rest h (omega (arith, above, le));
@@ -62,22 +62,36 @@ module _ (f : Row → Row) (rows : Rows) where
         | inl same ↦ subst (λ (k : ℕ). row_at k (with_row g f now) ≡ option_map f (row_at k rows)) (sym same) (change_here f now g ∙ ap (option_map f) (sweep.rest g le))
         | inr apart ↦ change_other f now g h apart ∙ elim (cases_lt h from) [
           | inl below ↦ sweep.done h below
-          | inr above ↦
-              let none = skipped h above (before h g less apart) in
-              none ∙ ap (option_map f) (sym none ∙ sweep.rest h above)
+          | inr above ↦ sym (skipped h above (before h g less apart)) ∙ ap (option_map f) (sweep.rest h above)
         ]
       ]
         where
           before : (h g : ℕ) → h < g + 1 → (h ≡ g → ⊥) → h < g
           before h g less apart = grind (arith, less, apart)
 
-  pub sweep_end : (now : Rows) (from : ℕ) → IsSweep f rows now from → ((k : ℕ) → from ≤ k → k < length now → row_at k now ≡ None) → now ≡ each_row f rows
-  sweep_end now from sweep none = same_rows now (each_row f rows) (sweep.size ∙ sym (each_length f rows)) (λ h. at h ∙ sym (each_at f rows h))
+  -- up to a number where a row is there, none is
+  pub sweep_step : (now later : Rows) (from g : ℕ) → IsSweep f rows now from → from ≤ g → ((k : ℕ) → from ≤ k → k < g → row_at k now ≡ None) → later ≡ with_row g f now → IsSweep f rows later (g + 1)
+  sweep_step now later from g sweep le gone is = sweep_over now later from g sweep le (λ k low high. still k (gone k low high)) is
     where
+      still : (k : ℕ) → row_at k now ≡ None → option_map f (row_at k now) ≡ row_at k now
+      still k none = ap (option_map f) none ∙ sym none
+
+  pub sweep_all : (now : Rows) (from : ℕ) → IsSweep f rows now from → ((k : ℕ) → from ≤ k → k < length now → option_map f (row_at k now) ≡ row_at k now) → now ≡ each_row f rows
+  sweep_all now from sweep still = same_rows now (each_row f rows) (sweep.size ∙ sym (each_length f rows)) (λ h. at h ∙ sym (each_at f rows h))
+    where
+      past : (h : ℕ) → row_at h now ≡ None → option_map f (row_at h now) ≡ row_at h now
+      past h none = ap (option_map f) none ∙ sym none
+
       at : (h : ℕ) → row_at h now ≡ option_map f (row_at h rows)
       at h = elim (cases_lt h from) [
         | inl below ↦ sweep.done h below
         | inr above ↦
-            let gone : row_at h now ≡ None = elim (cases_lt h (length now)) [ inl within ↦ none h above within | inr over ↦ past_end now h over ] in
-            gone ∙ ap (option_map f) (sym gone ∙ sweep.rest h above)
+            let same : option_map f (row_at h now) ≡ row_at h now = elim (cases_lt h (length now)) [ inl within ↦ still h above within | inr over ↦ past h (past_end now h over) ] in
+            sym same ∙ ap (option_map f) (sweep.rest h above)
       ]
+
+  pub sweep_end : (now : Rows) (from : ℕ) → IsSweep f rows now from → ((k : ℕ) → from ≤ k → k < length now → row_at k now ≡ None) → now ≡ each_row f rows
+  sweep_end now from sweep gone = sweep_all now from sweep (λ k low high. still k (gone k low high))
+    where
+      still : (k : ℕ) → row_at k now ≡ None → option_map f (row_at k now) ≡ row_at k now
+      still k none = ap (option_map f) none ∙ sym none

@@ -1,5 +1,5 @@
 -- All rows are changed alike, one after the other.
-use Rattle.std.specs.Prelude.{◌≡◌, ℕ, ◌<◌, ◌≤◌, length, ◌==◌}
+use Rattle.std.specs.Prelude.{◌≡◌, ℕ, ◌<◌, ◌≤◌, length, ◌==◌, false}
 use Rattle.std.specs.Option.{option_map}
 use Rattle.ug_outbound.specs.declared.key.GroupKey.{GroupKey}
 use Rattle.ug_live.specs.Spread.{value_of}
@@ -18,3 +18,7 @@ pub record IsSweep (change : Row → Row) (rows now : Rows) (from : ℕ) : Type 
 -- those of the class are those of the key
 abbrev pub IsClassOf : Entries → ℕ → GroupKey → Type 0
 IsClassOf xs class key = (g : ℕ) (e : Entry) → value_of g xs ≡ Some e → (e.class == class) ≡ same_group (key_of e) key
+
+-- none from one number up to another one is of the class
+abbrev pub AreOthers : ℕ → ℕ → ℕ → Entries → Type 0
+AreOthers from to class xs = (k : ℕ) (e : Entry) → from ≤ k → k < to → value_of k xs ≡ Some e → (e.class == class) ≡ false

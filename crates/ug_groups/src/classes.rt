@@ -1,11 +1,14 @@
 //! Classes of keys: subgroups of equal keys are of one class.
 
-ghost use Rattle.std.specs.Prelude.{◌≡◌, [], ◌∷◌, ◌++◌, position, IfOk, OnOk};
+ghost use Rattle.std.specs.Prelude.{◌≡◌, ◌==◌, ◌<◌, ◌≤◌, [], ◌∷◌, ◌++◌, length, position, IsSome, IfSome, IfNone, IfOk, OnOk};
 ghost use Rattle.ug_group_rules.specs.Packets.{same_group};
+ghost use Rattle.ug_live.specs.Spread.{value_of};
 ghost use Rattle.ug_groups.specs.Entries.{key_of, AreClassed, IsClass};
 ghost use Rattle.ug_groups.specs.Scans.{has_class, firsts};
+ghost use Rattle.ug_groups.specs.Sweeps.{AreOthers};
 
 use crate::entry::Entry;
+use crate::scans::number_of;
 use std::alloc::Global;
 use ug_live::Live;
 use ug_outbound::GroupKey;
@@ -28,6 +31,25 @@ pub fn class_of(live: &Live<Entry>, key: &GroupKey, next: u64) -> u64
         Some(i) => entries[i].1.class,
         None => next,
     }
+}
+
+/// The place of the first that is of the class.
+fn place_of_class(entries: &[(u32, Entry)], class: u64) -> Option<usize>
+    ensures { result ≡ position (λ r. r.1.class == class) entries.now }
+{
+    entries.iter().position(|e| e.1.class == class)
+}
+
+/// The number of the first that is of the class, from this number on.
+pub fn first_of_class(live: &Live<Entry>, class: u64, from: u32) -> Option<u32>
+    ensures there { IfSome result (λ g. (from ≤ g) × IsSome (value_of g live.now)) }
+    ensures below { IfSome result (λ g. g < u32.MAX) }
+    ensures skipped { IfSome result (λ g. AreOthers from g class live.now) }
+    ensures none { IfNone result (AreOthers from (length live.now) class live.now) }
+{
+    let _next = live.next();
+    let entries = live.entries_from(from);
+    number_of(entries, place_of_class(entries, class))
 }
 
 /// Whether one of them is of the class.

@@ -12,6 +12,7 @@ ghost use Rattle.ug_groups.specs.Rows.{with_row, each_row, of_key, counted_row};
 ghost use Rattle.ug_groups.specs.Entries.{rows_in, IsKept};
 ghost use Rattle.ug_groups.specs.Sweeps.{IsClassOf};
 
+use crate::classes::first_of_class;
 use crate::entry::Entry;
 use crate::points;
 use ug_intern::{AttrId, Pool};
@@ -68,7 +69,7 @@ pub fn desire_each(
     ensures rows { OnOk result ((group : groups.GroupKey) → IsClassOf live.old class group → rows_in pool.new live.new ≡ each_row (of_key group (desiring key.now (valued_by pool.old id))) (rows_in pool.old live.old)) }
 {
     let mut from = 0;
-    while let Some(g) = live.first_from(from) {
+    while let Some(g) = first_of_class(live, class, from) {
         desire_if(live, pool, g, class, key, id)?;
         from = g + 1;
     }

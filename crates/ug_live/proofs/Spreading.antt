@@ -1,6 +1,6 @@
 -- Laws of the list that only grows.
 use Rattle.std.proofs.Common.{◌≡◌, ℕ, ◌+◌, ◌<◌, ◌≤◌, zero, suc, Bool, true, false, List, [], ◌∷◌, ◌++◌, length, Option, Some, None, refl, sym, ◌∙◌, ap, subst, arith}
-use Rattle.std.specs.Prelude.{◌==◌, if◌then◌else◌, slice_get, slice_set, remove}
+use Rattle.std.specs.Prelude.{◌==◌, if◌then◌else◌, slice_get, slice_set, remove, drop}
 use Rattle.std.proofs.Common.{inl, inr, ◌⊎◌}
 use Rattle.std.proofs.lemmas.Bool.{eqb-true, eq-eqb, cases_lt}
 use Rattle.std.proofs.lemmas.Option.{slice_get_within}
@@ -242,6 +242,52 @@ module _ {T : Type 0} where
           ∙ ap (λ (k : ℕ). (k, r.1) ∷ rows) (sym same)
       by false e front back =
           ap (λ (xs : List (Option T)). numbered g xs) (taken g n r rows false e) ∙ back (moved_end g n (r ∷ rows) (rise_next g (g + suc n) r rows e h))
+
+  -- ---- the rows from a number on
+
+  place_behind : (g i : ℕ) (r : ℕ × T) (rows : List (ℕ × T)) → IsPlace (r ∷ rows) g (suc i) → IsPlace rows g i
+  place_behind g i r rows place = record {
+    below = λ j s less e. place.below (suc j) s (omega (arith, less)) e;
+    above = λ j s le e. place.above (suc j) s (omega (arith, le)) e;
+  }
+
+  place_first : (g n i : ℕ) (rows : List (ℕ × T)) → Rise g (g + n) rows → IsPlace rows (g + 0) i → i ≤ length rows → i ≡ 0
+  place_first g n zero rows rise place bound = refl
+  place_first g n (suc i) [] rise place bound = absurd (omega (arith, bound))
+  place_first g n (suc i) (r ∷ rows) rise place bound = let low = place.below 0 r (omega arith) refl in let high = rise.0 in absurd (omega (arith, low, high))
+
+  drop_none : (rows : List (ℕ × T)) (i : ℕ) → rows ≡ [] → drop i rows ≡ []
+  drop_none [] zero e = refl
+  drop_none [] (suc i) e = refl
+  drop_none (r ∷ rows) i e = absurd cc
+
+  pub from_place : (f g n i : ℕ) (rows : List (ℕ × T)) → Rise g (g + n) rows → IsPlace rows (g + f) i → i ≤ length rows → drop i rows ≡ numbered (g + f) (drop f (spread_from g n rows))
+  from_place zero g n i rows rise place bound =
+      let first = place_first g n i rows rise place bound in let number : g ≡ g + 0 = omega arith in
+      ap (λ (k : ℕ). drop k rows) first ∙ sym (spread-numbered g n rows rise) ∙ ap (λ (k : ℕ). numbered k (spread_from g n rows)) number
+  from_place (suc f) g zero i [] rise place bound = drop_none [] i refl
+  from_place (suc f) g zero i (r ∷ rows) rise place bound = let low = rise.0 in let high = rise.1 in absurd (omega (arith, low, high))
+  from_place (suc f) g (suc n) i [] rise place bound =
+      let number : g + 1 + f ≡ g + suc f = omega arith in
+      from_place f (g + 1) n i [] tt (subst (λ (k : ℕ). IsPlace {T = T} [] k i) (sym number) place) bound ∙ ap (λ (k : ℕ). numbered k (drop f (spread_from (g + 1) n []))) number
+  from_place (suc f) g (suc n) i (r ∷ rows) rise place bound = by (r.0 == g) refl i place bound (λ j. from_place f (g + 1) n j rows) (from_place f (g + 1) n i (r ∷ rows))
+    where
+      number : g + 1 + f ≡ g + suc f
+      number = omega arith
+
+      by : (b : Bool) → (r.0 == g) ≡ b → (i : ℕ) → IsPlace (r ∷ rows) (g + suc f) i → i ≤ length (r ∷ rows)
+          → ((j : ℕ) → Rise (g + 1) (g + 1 + n) rows → IsPlace rows (g + 1 + f) j → j ≤ length rows → drop j rows ≡ numbered (g + 1 + f) (drop f (spread_from (g + 1) n rows)))
+          → (Rise (g + 1) (g + 1 + n) (r ∷ rows) → IsPlace (r ∷ rows) (g + 1 + f) i → i ≤ length (r ∷ rows) → drop i (r ∷ rows) ≡ numbered (g + 1 + f) (drop f (spread_from (g + 1) n (r ∷ rows))))
+          → drop i (r ∷ rows) ≡ numbered (g + suc f) (drop (suc f) (spread_from g (suc n) (r ∷ rows)))
+      by true e zero place bound front back = let high = place.above 0 r (omega arith) refl in let same = eqb-true r.0 g e in absurd (omega (arith, high, same))
+      by true e (suc j) place bound front back =
+          front j (moved_end g n rows (rise_behind g (g + suc n) r rows e rise)) (subst (λ (k : ℕ). IsPlace rows k j) (sym number) (place_behind (g + suc f) j r rows place)) (omega (arith, bound))
+          ∙ ap (λ (k : ℕ). numbered k (drop f (spread_from (g + 1) n rows))) number
+          ∙ ap (λ (xs : List (Option T)). numbered (g + suc f) (drop (suc f) xs)) (sym (taken g n r rows true e))
+      by false e i place bound front back =
+          back (moved_end g n (r ∷ rows) (rise_next g (g + suc n) r rows e rise)) (subst (λ (k : ℕ). IsPlace (r ∷ rows) k i) (sym number) place) bound
+          ∙ ap (λ (k : ℕ). numbered k (drop f (spread_from (g + 1) n (r ∷ rows)))) number
+          ∙ ap (λ (xs : List (Option T)). numbered (g + suc f) (drop (suc f) xs)) (sym (taken g n r rows false e))
 
   -- ---- where a search ends
 

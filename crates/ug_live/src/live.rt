@@ -1,6 +1,6 @@
 //! The values that are there, by number.
 
-ghost use Rattle.std.specs.Prelude.{◌≡◌, ◌<◌, ◌≤◌, [], ◌∷◌, ◌++◌, length, slice_set, Some, None, option_copied, IsSome, IfSome, IfNone, IfOk, IfErr, OnOk, OnErr};
+ghost use Rattle.std.specs.Prelude.{◌≡◌, ◌<◌, ◌≤◌, [], ◌∷◌, ◌++◌, length, drop, slice_set, Some, None, option_copied, IsSome, IfSome, IfNone, IfOk, IfErr, OnOk, OnErr};
 ghost use Rattle.std.specs.Borrow.{sem, Lends};
 ghost use Rattle.ug_live.specs.Spread.{AreRising, IsPlace, HasAt, HasNone, numbered, value_of, AreGone};
 ghost use Rattle.ug_live.specs.contracts.live.Live.{the_row};
@@ -77,6 +77,15 @@ impl<T> Live<T> {
         ensures { result.now ≡ numbered 0 self.now }
     {
         &self.entries
+    }
+
+    /// Those from this number on that are there, with their numbers, which rise.
+    pub fn entries_from(&self, from: u32) -> &[(u32, T)]
+        ensures { result.now ≡ numbered from (drop from self.now) }
+    {
+        let i = place(&self.entries, from);
+        let (_, behind) = self.entries.as_slice().split_at(i);
+        behind
     }
 
     /// The value of that number.

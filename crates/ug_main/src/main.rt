@@ -1,18 +1,21 @@
 //! The program: a run over the files of the system.
 #![tactic(auto)]
 
-ghost use Rattle.std.specs.Prelude.{◌≡◌, ◌<◌, ◌↔◌, drop, IfOk, IfErr, true, false, map, [], Some};
+ghost use Rattle.std.specs.Prelude.{◌≡◌, ◌<◌, ◌↔◌, ℕ, List, Option, drop, IfOk, IfErr, true, false, map, [], Some};
 ghost use Rattle.std.specs.String.{string_bytes};
 ghost use Rattle.std.specs.Vec.Iter.{into_iter_items};
-ghost use Rattle.ug_edge.specs.Told.{Rose, IsEnded, file_told, Missing};
+ghost use Rattle.ug_types.specs.declared.key.Key as keys;
+ghost use Rattle.ug_edge.specs.Told.{Rose, IsEnded, AppendsAll, FileText, file_told, Missing};
 ghost use Rattle.ug_report.specs.Report.{names_in};
 ghost use Rattle.ug_config.specs.One.{one_world};
-ghost use Rattle.ug_command_line.specs.Words.{OneCommand, RunCommand, CheckCommand, GroupsCommand, SelfRunCommand, One, Run, Check, Groups, SelfRun, command_of, is_command};
+ghost use Rattle.ug_command_line.specs.Words.{OneCommand, RunCommand, CheckCommand, GroupsCommand, SelfRunCommand, AuditCommand, One, Run, Check, Groups, SelfRun, Audit, command_of, is_command};
 ghost use Rattle.ug_run.specs.Wires.{AreMadeFor};
 ghost use Rattle.ug_report.specs.Statuses.{row_of, is_fixed, status_text};
 ghost use Rattle.ug_commands.specs.Files.{AppendsThenStatus, PicksJust};
 ghost use Rattle.ug_commands.specs.Checked.{IsChecked};
 ghost use Rattle.ug_commands.specs.Listed.{IsListed};
+ghost use Rattle.ug_audit.specs.Auditing.{IsAuditing};
+ghost use Rattle.ug_audit.specs.Right.{AreRight};
 ghost use Rattle.ug_run.specs.Commands.{is_fed, IsOne, IsRunOf};
 ghost use Rattle.ug_run.specs.Drawn.{drawn_world, IsSelfRun};
 ghost use Rattle.ug_group_rules.specs.Rules.{group_rules, group_speech};
@@ -145,18 +148,25 @@ fn run<R: Threads + Wait + Sync, E: Site, K: Sink, L: Ledger>(
 ) -> Done<E::Wire, UpdateGroups>
     ensures one { (command : OneCommand) → command_of (map string_bytes words.now) ≡ Some (One command) →
         IsOne group_rules group_speech command.events (file_told (E.files site.old) command.events) (E.picks site.old).names (E.picks site.new).names result.status
-        (map (λ wire. record { sessions = E.Wire.sessions wire; faults = E.Wire.faults wire }) result.wires.items) result.history.items
+        (map (λ wire. record { sessions = E.Wire.sessions wire; faults = E.Wire.faults wire }) result.wires.items) result.history.items result.spent
         (E.picks site.new).is_open (E.left site.new) (K.held report.old) (K.held report.new) (Rose (K.faults report.old) (K.faults report.new)) }
     ensures run { (command : RunCommand) → command_of (map string_bytes words.now) ≡ Some (Run command) →
         IsRunOf group_rules group_speech command (file_told (E.files site.old) command.config) (file_told (E.files site.old) command.events) (E.picks site.old).names (E.picks site.new).names result.status
-        (map (λ wire. record { sessions = E.Wire.sessions wire; faults = E.Wire.faults wire }) result.wires.items) result.history.items (map E.Wire.made_for result.wires.items) (E.made site.old) (E.made site.new)
+        (map (λ wire. record { sessions = E.Wire.sessions wire; faults = E.Wire.faults wire }) result.wires.items) result.history.items result.spent (map E.Wire.made_for result.wires.items) (E.made site.old) (E.made site.new)
         (E.picks site.new).is_open (E.left site.new) (K.held report.old) (K.held report.new) (Rose (K.faults report.old) (K.faults report.new)) }
     ensures checked { (command : CheckCommand) → command_of (map string_bytes words.now) ≡ Some (Check command) →
         IsChecked command (file_told (E.files site.old) command.stream) (E.picks site.new).is_open (E.left site.new) result.status (K.held report.old) (K.held report.new) (Rose (K.faults report.old) (K.faults report.new)) }
     ensures listed { (command : GroupsCommand) → command_of (map string_bytes words.now) ≡ Some (Groups command) →
         IsListed (file_told (E.files site.old) command.config) result.status (K.held report.old) (K.held report.new) (Rose (K.faults report.old) (K.faults report.new)) }
+    ensures audited { (command : AuditCommand) → command_of (map string_bytes words.now) ≡ Some (Audit command) →
+        IsAuditing command (file_told (E.files site.old)) (AppendsAll (E.picks site.old).names (E.picks site.new).names) result.status (K.held report.old) (K.held report.new) (Rose (K.faults report.old) (K.faults report.new)) }
+    // Where an audit says that all is right, the files that the site tells are, and where it refutes a session they aren't.
+    ensures audit_right { (command : AuditCommand) → command_of (map string_bytes words.now) ≡ Some (Audit command) → (told : List FileText) → E.files site.old ≡ Some told →
+        result.status ≡ Status.Ok → AreRight command told }
+    ensures audit_refuted { (command : AuditCommand) → command_of (map string_bytes words.now) ≡ Some (Audit command) → (told : List FileText) → E.files site.old ≡ Some told →
+        (peer : ℕ) (session : ℕ) (kind : ℕ) (message : ℕ) (key : Option keys.Key) → result.status ≡ Status.Refuted peer session kind message key → AreRight command told → ⊥ }
     ensures drawn { (command : SelfRunCommand) → command_of (map string_bytes words.now) ≡ Some (SelfRun command) →
-        IsSelfRun group_rules group_speech command.number result.status result.history.items (K.held report.old) (K.held report.new) (Rose (K.faults report.old) (K.faults report.new)) }
+        IsSelfRun group_rules group_speech command.number result.status result.history.items result.spent (K.held report.old) (K.held report.new) (Rose (K.faults report.old) (K.faults report.new)) }
     // The runs of the outbound rules are counted.
     ensures one_counted { (command : OneCommand) → command_of (map string_bytes words.now) ≡ Some (One command) →
         CountsEvents one_world (row_of result.status).completed result.history.items steps.old steps.new }
@@ -169,6 +179,8 @@ fn run<R: Threads + Wait + Sync, E: Site, K: Sink, L: Ledger>(
         file_told (E.files site.old) command.stream ≡ Missing → (row_of result.status).may_be_unread ≡ true }
     ensures groups_missing { (command : GroupsCommand) → command_of (map string_bytes words.now) ≡ Some (Groups command) →
         file_told (E.files site.old) command.config ≡ Missing → (row_of result.status).may_be_unread ≡ true }
+    ensures audit_missing { (command : AuditCommand) → command_of (map string_bytes words.now) ≡ Some (Audit command) →
+        file_told (E.files site.old) command.config ≡ Missing → (row_of result.status).may_be_unread ≡ true }
     // A command without sessions picks its one file once. What `one` and `run` pick they promise themselves.
     ensures check_picked { (command : CheckCommand) → command_of (map string_bytes words.now) ≡ Some (Check command) →
         PicksJust (E.picks site.old).names (E.picks site.new).names command.stream result.status }
@@ -179,8 +191,10 @@ fn run<R: Threads + Wait + Sync, E: Site, K: Sink, L: Ledger>(
         AreMadeFor (E.made site.old) (E.made site.new) command.dir (names_in one_world) (map E.Wire.made_for result.wires.items) }
     ensures check_unmade { (command : CheckCommand) → command_of (map string_bytes words.now) ≡ Some (Check command) → E.made site.new ≡ E.made site.old }
     ensures groups_unmade { (command : GroupsCommand) → command_of (map string_bytes words.now) ≡ Some (Groups command) → E.made site.new ≡ E.made site.old }
+    ensures audit_unmade { (command : AuditCommand) → command_of (map string_bytes words.now) ≡ Some (Audit command) → E.made site.new ≡ E.made site.old }
     ensures check_idle { (command : CheckCommand) → command_of (map string_bytes words.now) ≡ Some (Check command) → (result.wires.items ≡ []) × (result.history.items ≡ []) × (steps.new ≡ steps.old) }
     ensures groups_idle { (command : GroupsCommand) → command_of (map string_bytes words.now) ≡ Some (Groups command) → (result.wires.items ≡ []) × (result.history.items ≡ []) × (steps.new ≡ steps.old) }
+    ensures audit_idle { (command : AuditCommand) → command_of (map string_bytes words.now) ≡ Some (Audit command) → (result.wires.items ≡ []) × (result.history.items ≡ []) × (steps.new ≡ steps.old) }
     // `selfrun` leaves the site alone: nothing is read, and no wire is made.
     ensures drawn_alone { (command : SelfRunCommand) → command_of (map string_bytes words.now) ≡ Some (SelfRun command) → (site.new ≡ site.old) × (result.wires.items ≡ []) }
     // Words that are no command.

@@ -2,6 +2,7 @@ pub mod Order
 pub mod Lists
 pub mod Named
 pub mod Filters
+pub mod Requests
 pub mod OrfChanges
 pub mod OrfWalking
 pub mod OrfReading

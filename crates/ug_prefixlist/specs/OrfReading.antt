@@ -6,7 +6,7 @@ use Rattle.ug_types.specs.declared.family.Family.TheVariants.{V4}
 use Rattle.ug_types.specs.Ip.{IpPrefix, cleared, bytes_for}
 use Rattle.ug_prefixlist.specs.declared.entry.ListEntry.{ListEntry}
 use Rattle.ug_prefixlist.specs.Lists.{is_good}
-use Rattle.ug_refresh.specs.Requests.{length_field, kind_refusal, reserved_field, or_else}
+use Rattle.ug_prefixlist.specs.Requests.{length_field, kind_refusal, reserved_field, or_else}
 use Rattle.ug_prefixlist.specs.declared.orf_action.Action.{Action}
 use Rattle.ug_prefixlist.specs.declared.orf_action.Action.TheVariants.{Add, Remove, RemoveAll}
 use Rattle.ug_prefixlist.specs.OrfChanges.{OrfChange, OrfRequest}

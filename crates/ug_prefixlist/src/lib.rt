@@ -1,5 +1,5 @@
 //! Prefix lists: which prefixes a peer is sent, by its policy, and by the list that it sends itself, as outbound route
-//! filters (RFC 5292).
+//! filters (RFC 5292); and the messages by which a peer asks for its routes again.
 #![tactic(auto)]
 
 mod entry;
@@ -11,6 +11,7 @@ mod orf_apply;
 mod orf_message;
 mod orf_reading;
 mod orf_refusal;
+mod refresh_message;
 mod refusal;
 mod table;
 
@@ -23,5 +24,6 @@ pub use orf_apply::apply_orf;
 pub use orf_message::{OrfEntry, OrfList, OrfMessage};
 pub use orf_reading::read_orf;
 pub use orf_refusal::OrfRefusal;
+pub use refresh_message::{RefreshRefusal, read_refresh};
 pub use refusal::ListRefusal;
 pub use table::{ListTable, NamedList, find_named, is_permitted};

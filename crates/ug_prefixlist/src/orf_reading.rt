@@ -11,8 +11,8 @@ use crate::entry::ListEntry;
 use crate::orf_action::Action;
 use crate::orf_message::{OrfEntry, OrfList, OrfMessage};
 use crate::orf_refusal::OrfRefusal;
+use crate::refresh_message::{kind_refusal, length_field, reserved_field};
 use std::alloc::Global;
-use ug_refresh::{kind_refusal, length_field, reserved_field};
 use ug_types::{Family, Prefix, Sequence};
 
 /// The message that the bytes are. They are a ROUTE-REFRESH whose 23 bytes are followed by when-to-refresh (1

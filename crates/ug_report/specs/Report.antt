@@ -1,7 +1,7 @@
 -- The report: a line for each line of events that is refused, and for each mark; then the sessions that were lost, the
 -- counts, and the status.
-use Rattle.std.specs.Prelude.{ℕ, ◌+◌, ◌==◌, List, [], ◌∷◌, ◌++◌, map, slice_get, Option, Some, None, unwrap_or, Ok, Err, codes, if◌then◌else◌}
-use Rattle.std.specs.List.{concat, flat_map}
+use Rattle.std.specs.Prelude.{◌≡◌, ℕ, ◌+◌, ◌==◌, nat_lt, Bool, true, List, [], ◌∷◌, ◌++◌, map, slice_get, Option, Some, None, unwrap_or, Ok, Err, codes, if◌then◌else◌}
+use Rattle.std.specs.List.{concat, flat_map, list_all}
 use Rattle.std.specs.Fmt.{decimal}
 use Rattle.ug_types.specs.declared.mark.Mark.{Mark}
 use Rattle.ug_report.specs.declared.endings.Loss.{Loss}
@@ -74,6 +74,13 @@ name_at names p = unwrap_or (slice_get names p) []
 unfoldable pub mark_text : List ℕ → List (List ℕ) → Mark → List ℕ
 mark_text word names m =
     word ++ (codes " " ++ (decimal m.version ++ (codes " " ++ (name_at names m.peer ++ (codes " " ++ (decimal m.session ++ (codes " " ++ (decimal m.handed ++ codes "\n"))))))))
+
+-- the mark counts messages in 64 bits
+abbrev pub is_of_64 : Mark → Bool
+is_of_64 m = nat_lt m.handed 18446744073709551616
+
+abbrev pub AreOf64 : List Mark → Type 0
+AreOf64 ms = list_all is_of_64 ms ≡ true
 
 -- what the report says of what the line of this number came to
 abbrev pub answer_texts : List (List ℕ) → ℕ → Answer → List (List ℕ)

@@ -39,8 +39,8 @@ pub record Row : Type 0 where
   pub took_all : Bool
   pub may_be_unread : Bool
 
--- Where all went well and where the report failed there is no line; that of a lost session names a peer, which the run
--- tells.
+-- Where all went well and where the report failed there is no line; those of a lost or a refuted session name a peer, which
+-- the command tells, and so does an auditor that of a report.
 abbrev pub row_of : Status → Row
 row_of statuses.Ok = record { number = 0; line = []; is_fixed = true; completed = true; made_wires = true; took_all = true; may_be_unread = false }
 row_of statuses.Usage = record { number = 1; line = codes "status 1 usage\n"; is_fixed = true; completed = false; made_wires = false; took_all = false; may_be_unread = false }
@@ -54,6 +54,10 @@ row_of statuses.TooLong = record { number = 7; line = codes "status 7 too-long\n
 row_of (statuses.Lost peer session) = record { number = 8; line = []; is_fixed = false; completed = true; made_wires = true; took_all = true; may_be_unread = false }
 row_of (statuses.Malformed cause offset) =
     record { number = 9; line = malformed_text cause offset; is_fixed = false; completed = false; made_wires = false; took_all = false; may_be_unread = false }
+row_of (statuses.Refuted peer session kind message key) =
+    record { number = 10; line = []; is_fixed = false; completed = false; made_wires = false; took_all = false; may_be_unread = false }
+row_of (statuses.Unclear line) =
+    record { number = 11; line = []; is_fixed = false; completed = false; made_wires = false; took_all = false; may_be_unread = false }
 
 unfoldable pub status_text : Status → List ℕ
 status_text status = (row_of status).line

@@ -1,9 +1,9 @@
 //! What the report says of a line.
 
-ghost use Rattle.std.specs.Prelude.{◌≡◌, ◌++◌, map, OnOk};
+ghost use Rattle.std.specs.Prelude.{◌≡◌, ◌++◌, map, true, OnOk};
 ghost use Rattle.std.specs.List.{concat};
 ghost use Rattle.std.specs.String.{string_bytes};
-ghost use Rattle.ug_report.specs.Report.{refusal_name, inner_text, refusal_text, name_at, mark_text};
+ghost use Rattle.ug_report.specs.Report.{refusal_name, inner_text, refusal_text, name_at, mark_text, is_of_64, AreOf64};
 
 use ug_types::{Mark, Name, NoMemory, PeerId};
 
@@ -62,14 +62,16 @@ fn refusal_name(number: u8) -> &'static str
     }
 }
 
-/// Adds a line for each mark, which begins with this word. The names are those of the peers, in configured order.
+/// Adds a line for each mark, which begins with this word. The names are those of the peers, in configured order. Marks
+/// count messages in 64 bits, so that their lines are read again.
 pub fn write_marks(
     out: &mut String,
     word: &str,
     names: &[Name],
     marks: &[Mark],
 ) -> Result<(), NoMemory>
-    ensures { OnOk result (string_bytes out.new ≡ string_bytes out.old ++ concat (map (mark_text word.now names.now) marks.now)) }
+    ensures text { OnOk result (string_bytes out.new ≡ string_bytes out.old ++ concat (map (mark_text word.now names.now) marks.now)) }
+    ensures counts { OnOk result (AreOf64 marks.now) }
 {
     for mark in marks {
         write_mark(out, word, names, mark)?;
@@ -80,7 +82,8 @@ pub fn write_marks(
 /// Adds the line of a mark.
 #[tactic(auto, unfolding(crate::specs::Report::mark_text))]
 fn write_mark(out: &mut String, word: &str, names: &[Name], mark: &Mark) -> Result<(), NoMemory>
-    ensures { OnOk result (string_bytes out.new ≡ string_bytes out.old ++ mark_text word.now names.now mark.now) }
+    ensures text { OnOk result (string_bytes out.new ≡ string_bytes out.old ++ mark_text word.now names.now mark.now) }
+    ensures counts { OnOk result (is_of_64 mark.now ≡ true) }
 {
     let Mark {
         version,

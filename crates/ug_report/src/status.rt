@@ -3,7 +3,7 @@
 ghost use Rattle.std.specs.Prelude.{◌≡◌, true};
 ghost use Rattle.ug_report.specs.Statuses.{row_of, status_text, is_fixed};
 
-use ug_types::{ByteList, PeerId};
+use ug_types::{ByteList, Key, PeerId};
 
 /// How a run ended: as it should, or for which cause.
 #[derive(Debug, PartialEq, Eq, Drop)]
@@ -13,7 +13,10 @@ pub enum Status {
     /// The words are no command.
     Usage,
     /// The configuration is refused: the number of the refusal, and the way to the field.
-    Config { number: u8, field: ByteList },
+    Config {
+        number: u8,
+        field: ByteList,
+    },
     /// The events could not be read.
     ReadFault,
     /// The report could not be written.
@@ -25,9 +28,28 @@ pub enum Status {
     /// A limit of the input was passed.
     TooLong,
     /// All events were read, and a session was lost: the first, by its peer, counted from 0, and its number.
-    Lost { peer: PeerId, session: u32 },
+    Lost {
+        peer: PeerId,
+        session: u32,
+    },
     /// A stream has a fault: which, and where it lies, counted in bytes from the start of the stream.
-    Malformed { cause: u8, offset: u64 },
+    Malformed {
+        cause: u8,
+        offset: u64,
+    },
+    /// A session isn't right: which, and its first breach, by its kind, the message at which it is, counted from 1, and the
+    /// route that it is about, where it is about one.
+    Refuted {
+        peer: PeerId,
+        session: u32,
+        kind: u8,
+        message: u64,
+        key: Option<Key>,
+    },
+    /// A line of a report isn't clear: the first, counted from 1.
+    Unclear {
+        line: u64,
+    },
 }
 
 impl Status {
@@ -46,6 +68,8 @@ impl Status {
             Status::TooLong => 7,
             Status::Lost { .. } => 8,
             Status::Malformed { .. } => 9,
+            Status::Refuted { .. } => 10,
+            Status::Unclear { .. } => 11,
         }
     }
 
@@ -63,9 +87,11 @@ impl Status {
             Status::SiteFault => b"status 5 site\n",
             Status::NoMemory => b"status 6 memory\n",
             Status::TooLong => b"status 7 too-long\n",
-            Status::Config { .. } | Status::Lost { .. } | Status::Malformed { .. } => {
-                unreachable!()
-            }
+            Status::Config { .. }
+            | Status::Lost { .. }
+            | Status::Malformed { .. }
+            | Status::Refuted { .. }
+            | Status::Unclear { .. } => unreachable!(),
         }
     }
 }

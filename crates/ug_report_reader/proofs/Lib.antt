@@ -1,4 +1,7 @@
 pub mod Digits
 pub mod Places
-pub mod Kept
 pub mod Words
+pub mod Kept
+pub mod Cut
+pub mod Between
+pub mod Sourced

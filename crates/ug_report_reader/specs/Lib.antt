@@ -1,2 +1,4 @@
 pub mod Numbers
 pub mod Told
+pub mod Reading
+pub mod ReadingLaws

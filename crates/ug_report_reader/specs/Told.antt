@@ -1,5 +1,5 @@
 -- What is kept of a report, and why it tells nothing.
-use Rattle.std.specs.Prelude.{◌≡◌, ℕ, ◌+◌, List, [], ◌∷◌, ◌++◌, length}
+use Rattle.std.specs.Prelude.{◌≡◌, ℕ, ◌+◌, ◌<◌, List, [], ◌∷◌, ◌++◌, length, take}
 use Rattle.ug_audit_rules.specs.declared.entry.Entry.{Entry}
 use Rattle.ug_audit_rules.specs.declared.entry.Entry.TheVariants.{Passes, Sync, Lost, Unclear}
 use Rattle.ug_audit_rules.specs.Audited.{is_lost_in, marks_in}
@@ -27,6 +27,12 @@ pub record IsFirstUnclear (line : ℕ) (entries : List Entry) : Type 0 where
   pub clear : AreClear front
   pub line_is : line ≡ length front + 1
 
+-- the most lines of a report, blank ones included
+unfoldable pub most_lines : ℕ
+most_lines = 2000000
+
+-- Why lines tell nothing.
 abbrev pub IsStop : Stop → List Entry → Type 0
 IsStop stops.NoMemory entries = Unit {0}
-IsStop (stops.Unclear line) entries = IsFirstUnclear line entries
+IsStop stops.TooMany entries = (most_lines < length entries) × AreClear (take most_lines entries)
+IsStop (stops.Unclear line) entries = IsFirstUnclear line (take most_lines entries)

@@ -2,11 +2,13 @@
 #![tactic(auto)]
 
 mod line;
+mod lines;
 mod number;
 mod peers;
 mod reading;
+mod source;
 mod stop;
 
 pub use line::read_entry;
-pub use reading::read_report;
+pub use source::read_report;
 pub use stop::Stop;

@@ -1,59 +1,71 @@
-//! A whole report.
+//! A report as far as its bytes have come.
 
-ghost use Rattle.std.specs.Prelude.{◌≡◌, IfOk, IfErr, OnOk, true, false};
-ghost use Rattle.ug_audit_rules.specs.Reports.{entries_of, IsClear, AreClear};
-ghost use Rattle.ug_report_reader.specs.Told.{TellsAsMuch, Keeps, IsStop};
+ghost use Rattle.std.specs.Prelude.{◌≡◌, ◌++◌, [], ℕ, List, OnOk, IfErr};
+ghost use Rattle.ug_audit_rules.specs.Reports.{entries_of};
+ghost use Rattle.ug_world.specs.World as worlds;
+ghost use Rattle.ug_report_reader.specs.Told.{IsStop};
+ghost use Rattle.ug_report_reader.specs.Reading.{HasReadTo, HasTold, whole_entries};
 
-use crate::line::read_entry;
+use crate::lines::Told;
 use crate::stop::Stop;
 use std::alloc::Global;
-use ug_audit_rules::Entry;
-use ug_lines::next_line;
+use ug_text::cut_at;
 use ug_types::NoMemory;
 use ug_world::World;
 
-/// The marks and the losses that a report tells, in the order of its lines, by the world to which all lines of events
-/// lead; or the first line that isn't clear.
-pub fn read_report(alloc: Global, last: &World, report: &[u8]) -> Result<Vec<Entry>, Stop>
-    ensures clear { IfOk result (λ entries. AreClear (entries_of last.now report.now)) }
-    ensures told { IfOk result (λ entries. TellsAsMuch entries.items (entries_of last.now report.now)) }
-    ensures stopped { IfErr result (λ stop. IsStop stop (entries_of last.now report.now)) }
-{
-    let mut entries = Vec::new(alloc);
-    let mut number: u64 = 0;
-    let mut rest = report;
-    while let Some((line, behind)) = next_line(rest) {
-        number += 1;
-        rest = behind;
-        let entry = read_entry(last, line);
-        if is_unclear(entry) {
-            return Err(Stop::Unclear { line: number });
-        }
-        match keep(&mut entries, entry) {
-            Ok(()) => {}
-            Err(NoMemory) => return Err(Stop::NoMemory),
-        }
-    }
-    Ok(entries)
+/// What the whole lines told, and the bytes behind the last newline.
+#[derive(Drop)]
+pub struct Reading {
+    pub told: Told,
+    pub rest: Vec<u8>,
 }
 
-fn is_unclear(entry: Entry) -> bool
-    ensures clear { result ≡ false → IsClear entry }
-    ensures unclear { result ≡ true → entry ≡ Entry.Unclear }
-{
-    match entry {
-        Entry::Unclear => true,
-        Entry::Passes | Entry::Sync(_) | Entry::Lost { .. } => false,
+impl Reading {
+    /// Before any byte.
+    pub fn new(alloc: Global) -> Reading
+        ensures { (last : worlds.World) → HasReadTo last result [] }
+    {
+        Reading {
+            told: Told::new(alloc),
+            rest: Vec::new(alloc),
+        }
     }
-}
 
-/// Adds what a line tells, where it tells something.
-fn keep(entries: &mut Vec<Entry>, entry: Entry) -> Result<(), NoMemory>
-    ensures { OnOk result (Keeps entries.old.items entries.new.items entry) }
-{
-    match entry {
-        Entry::Passes | Entry::Unclear => {}
-        Entry::Sync(_) | Entry::Lost { .. } => entries.push(entry)?,
+    /// The bytes go on with this piece.
+    pub fn take_piece(&mut self, last: &World, piece: &[u8]) -> Result<(), Stop>
+        ensures read { OnOk result ((stream : List ℕ) → HasReadTo last.now self.old stream → HasReadTo last.now self.new (stream ++ piece.now)) }
+        ensures stopped { IfErr result (λ stop. (stream : List ℕ) → HasReadTo last.now self.old stream → IsStop stop (whole_entries last.now (stream ++ piece.now))) }
+    {
+        let mut left = piece;
+        while let Some((front, behind)) = cut_at(b'\n', left) {
+            match self.rest.extend_from_slice(front) {
+                Ok(()) => {}
+                Err(_) => return Err(Stop::NoMemory),
+            }
+            match self.told.take_line(last, &self.rest) {
+                Ok(()) => {}
+                Err(stop) => return Err(stop),
+            }
+            self.rest.clear();
+            left = behind;
+        }
+        match self.rest.extend_from_slice(left) {
+            Ok(()) => Ok(()),
+            Err(_) => Err(Stop::NoMemory),
+        }
     }
-    Ok(())
+
+    /// The bytes are over: what stands behind the last newline is a line, where there is something.
+    pub fn end(&mut self, last: &World) -> Result<(), Stop>
+        ensures read { OnOk result ((stream : List ℕ) → HasReadTo last.now self.old stream → HasTold self.new.told (entries_of last.now stream)) }
+        ensures stopped { IfErr result (λ stop. (stream : List ℕ) → HasReadTo last.now self.old stream → IsStop stop (entries_of last.now stream)) }
+    {
+        if self.rest.is_empty() {
+            return Ok(());
+        }
+        match self.told.take_line(last, &self.rest) {
+            Ok(()) => Ok(()),
+            Err(stop) => Err(stop),
+        }
+    }
 }

@@ -3,6 +3,8 @@
 pub enum Stop {
     /// Memory was wanting.
     NoMemory,
+    /// There are more lines than the limit, and those within it are clear.
+    TooMany,
     /// The first line that isn't clear, counted from 1.
     Unclear { line: u64 },
 }

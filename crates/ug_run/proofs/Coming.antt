@@ -21,7 +21,7 @@ use Rattle.ug_speaker.specs.Speech.{Speech}
 use Rattle.ug_speaker.specs.Owes.{IsOpening, IsSpeaker}
 use Rattle.ug_speaker.specs.Story.{IsSound}
 use Rattle.ug_report.specs.declared.endings.Loss.{Loss}
-use Rattle.ug_report.specs.Report.{names_in, loss_text, counts_text, accepted_count, refused_count, line_texts, end_text, losses_from, losses_status}
+use Rattle.ug_report.specs.Report.{AreOf64, names_in, loss_text, counts_text, accepted_count, refused_count, line_texts, end_text, losses_from, losses_status}
 use Rattle.ug_event_loop.specs.declared.grammar.Grammar.{Grammar}
 use Rattle.ug_event_loop.specs.declared.tally.Tally.{Tally}
 use Rattle.ug_event_loop.specs.declared.stop.Stop.TheVariants as stops
@@ -29,7 +29,7 @@ use Rattle.ug_event_loop.specs.declared.reading.End.{End}
 use Rattle.ug_event_loop.specs.declared.reading.End.TheVariants as ends
 use Rattle.ug_event_loop.specs.Standing.{said_by, AreLanes, IsTally, HasTaken, StandsAt, StopsAt, Stands, Stops, BuilderView, BuilderStands, BuilderStops}
 use Rattle.ug_event_loop.specs.Files.{lines_read, IsPastLimits}
-use Rattle.ug_event_loop.specs.Turns.{IsEndedAt}
+use Rattle.ug_event_loop.specs.Turns.{IsEndedAt, IsClosedAt}
 use Rattle.ug_event_loop.specs.Reading.{Outside, IsNotBegun, EndsAt}
 use Rattle.ug_commands.specs.Files.{IsPartOf, AgreesWithSite, AppendsThenStatus}
 use Rattle.ug_report.specs.Statuses.{row_of, status_text}
@@ -43,7 +43,7 @@ use Rattle.ug_run_rules.proofs.Lists.{each-front, each-join}
 use Rattle.ug_run_rules.proofs.Keeps.{closed-kept, each_wire_so}
 use Rattle.ug_run.specs.Ends.{last_text, IsFirst, IsConcluded, CompletesBy, IsFinished}
 use Rattle.ug_run.specs.Promise.{lines_counted, IsLimited, IsAhead, texts, whole_text, HasReport, IsFirstLoss, IsDoneBy, Concludes, IsRun}
-use Rattle.ug_run.proofs.Stories.{lines-sound, others-lanes, IsBehind, ended-all, story-all}
+use Rattle.ug_run.proofs.Stories.{lines-sound, others-lanes, IsBehind, ended-all, closed-all, story-all}
 
 -- ---- lines
 
@@ -97,6 +97,8 @@ module _ (names : List (List ℕ)) (w : World) (lines : List (Reads Saying)) (ma
   concluded_report all statuses.SiteFault h = absurd h
   concluded_report all statuses.TooLong h = absurd h
   concluded_report all (statuses.Malformed cause offset) h = absurd h
+  concluded_report all (statuses.Refuted peer session kind message key) h = absurd h
+  concluded_report all (statuses.Unclear line) h = absurd h
 
 concluded_first : (names : List (List ℕ)) (losses : List Loss) (accepted refused : ℕ) (mid held : Option (List ℕ)) (failed : Type 0) (status : Status)
     → IsConcluded names losses accepted refused mid held failed status → IsFirstLoss status losses
@@ -110,6 +112,8 @@ concluded_first names losses accepted refused mid held failed statuses.ReadFault
 concluded_first names losses accepted refused mid held failed statuses.SiteFault h = absurd h
 concluded_first names losses accepted refused mid held failed statuses.TooLong h = absurd h
 concluded_first names losses accepted refused mid held failed (statuses.Malformed cause offset) h = absurd h
+concluded_first names losses accepted refused mid held failed (statuses.Refuted peer session kind message key) h = absurd h
+concluded_first names losses accepted refused mid held failed (statuses.Unclear line) h = absurd h
 
 -- ---- what is kept where a run completed is kept where it didn't
 
@@ -153,7 +157,7 @@ module _ {Opening State Job Said : Type 0} (rules : Rules Opening State Job Said
     (unnoted : Bool) (crew : (complete : Bool) → (complete ≡ true → unnoted ≡ false) → EachLaneFrom (IsCrewed rules speech root history complete) 0 wires)
     (b : BuilderView Opening Job Said) (b_root : b.pass.root ≡ Some root) (b_names : b.names ≡ names_in w) (behind_b : IsBehind rules speech root history b.pass.seen)
     (files : Option (List FileText)) (name : List ℕ) (left left' : Option (List ℕ)) (picked : HasPicked files name left) (is_picked : Bool) (stays_picked : is_picked ≡ true)
-    (before mid held : Option (List ℕ)) (failed : Type 0) where
+    (before mid held : Option (List ℕ)) (failed : Type 0) (spent : Bool) (off : spent ≡ false → IsClosedAt rules speech false b.pass.root b.pass.seen) where
   abbrev seen : List (Entry Job Said)
   seen = b.pass.seen
 
@@ -165,6 +169,9 @@ module _ {Opening State Job Said : Type 0} (rules : Rules Opening State Job Said
 
   lanes_seen : AreLanes seen
   lanes_seen = each-front _ seen behind_b.later (subst (λ (h : List (Entry Job Said)). AreLanes h) behind_b.parts lanes)
+
+  closed_at : spent ≡ false → speech.closed (replay rules root seen) ≡ true
+  closed_at unspent = subst (λ (r : Option Opening). IsClosedAt rules speech false r seen) b_root (off unspent) refl
 
   closes : (ahead lines : List (Reads Saying)) (marks : List (List Mark)) (complete : Bool) (taken : HasTaken rules speech root ahead lines marks seen) → Each IsSound ahead → Each IsSound lines
       → (complete ≡ true → unnoted ≡ false) → (complete ≡ true → IsOver (replay rules root seen)) → IsClosed rules speech root (ahead ++ lines) (taken.first_marks ++ marks) complete wires history
@@ -192,12 +199,13 @@ module _ {Opening State Job Said : Type 0} (rules : Rules Opening State Job Said
       sound : Each IsSound lines
       noted : (row_of status).completed ≡ true → unnoted ≡ false
       over : (row_of status).completed ≡ true → IsOver (replay rules root seen)
+      counts : (row_of status).completed ≡ true → Each AreOf64 marks
 
     abbrev ConcludesWith : List (Reads Saying) → List Loss → Type 0
     ConcludesWith untaken losses = Concludes rules speech untaken losses wires history
 
     abbrev IsRunAt : Status → Type 0
-    IsRunAt status = IsRun rules speech w grammar first (file_told files name) status wires history is_picked left' before held failed
+    IsRunAt status = IsRun rules speech w grammar first (file_told files name) status wires history spent is_picked left' before held failed
 
     run_with : (status : Status) (ahead lines : List (Reads Saying)) (marks : List (List Mark)) (taken : HasTaken rules speech root ahead lines marks seen) → (asks : Asks status ahead lines marks)
         → (contents : List (List Content)) (lost : List (List ℕ)) → IsKept (speech.first root) (ahead ++ lines) (taken.first_marks ++ marks) (row_of status).completed wires contents lost
@@ -210,6 +218,7 @@ module _ {Opening State Job Said : Type 0} (rules : Rules Opening State Job Said
           rest = rest_of left';
           is_part = is_part;
           there = not_missing files name left picked;
+          opened = stays_picked;
           agrees = agrees_read is_picked left' read stays_picked;
           whole = asks.whole;
           limits = asks.limits;
@@ -222,6 +231,7 @@ module _ {Opening State Job Said : Type 0} (rules : Rules Opening State Job Said
           first_marks = taken.first_marks;
           marks = marks;
           aligned = taken.aligned;
+          counts = asks.counts;
           contents = contents;
           lost = lost;
           kept = subst (λ (v : World). IsKept v (ahead ++ lines) (taken.first_marks ++ marks) (row_of status).completed wires contents lost) root_is kept;
@@ -234,6 +244,7 @@ module _ {Opening State Job Said : Type 0} (rules : Rules Opening State Job Said
             first = root_is;
             closed = closes ahead lines marks (row_of status).completed taken asks.ahead_sound asks.sound asks.noted asks.over;
             ended = λ done. (ended-all rules speech root history speaks.steps legal lanes seen behind_b (asks.over done)).1;
+            stopped = λ unspent. closed-all rules speech root history speaks.steps legal lanes seen behind_b (closed_at unspent);
             losses = losses_are;
           };
         }
@@ -304,6 +315,7 @@ module _ {Opening State Job Said : Type 0} (rules : Rules Opening State Job Said
           sound = lines-sound grammar (lines_read true read);
           noted = λ _. none;
           over = λ _. over;
+          counts = λ _. stands.counts;
         }) (λ losses is. told_as status losses (same_losses losses (is done)) concluded)
 
         -- Everything was told, and then the report failed: what is kept is what a run that completed keeps.
@@ -324,6 +336,7 @@ module _ {Opening State Job Said : Type 0} (rules : Rules Opening State Job Said
               sound = lines-sound grammar (lines_read true read);
               noted = λ no. absurd cc;
               over = λ no. absurd cc;
+              counts = λ no. absurd cc;
             }) kept.0 kept.1 (kept-less (speech.first root) (first ++ lines) (stands.taken.first_marks ++ stands.marks) wires kept.0 kept.1 kept.2) (λ no. absurd cc)
             (told_as statuses.ReportFault (losses_from 0 kept.1) (same_losses (losses_from 0 kept.1) is) concluded)
 
@@ -340,6 +353,7 @@ module _ {Opening State Job Said : Type 0} (rules : Rules Opening State Job Said
           sound = lines-sound grammar (lines_read true read);
           noted = λ no. absurd cc;
           over = λ no. absurd cc;
+          counts = λ no. absurd cc;
         }) (λ losses is. (
           ends_starved b.names (last_world (speech.first root) first) (said (lines_read true read)) stands.marks losses b.tally stands.tallied before mid held failed stands.reported (ConcludesWith [] losses) line,
           tt,
@@ -356,6 +370,8 @@ module _ {Opening State Job Said : Type 0} (rules : Rules Opening State Job Said
         concludes none statuses.SiteFault h = absurd h
         concludes none statuses.TooLong h = absurd h
         concludes none (statuses.Malformed cause offset) h = absurd h
+        concludes none (statuses.Refuted peer session kind message key) h = absurd h
+        concludes none (statuses.Unclear line) h = absurd h
 
         by_losses : (u : Bool) → unnoted ≡ u → (status : Status)
             → CompletesBy b.names (losses_from 0 (all_losses 0 peers history)) b.tally.accepted b.tally.refused mid held failed u status → IsRunAt status
@@ -376,6 +392,7 @@ module _ {Opening State Job Said : Type 0} (rules : Rules Opening State Job Said
       sound = lines-sound grammar (lines_read false read);
       noted = λ no. absurd cc;
       over = λ no. absurd cc;
+      counts = λ no. absurd cc;
     }) (λ losses is. (then_status before mid held failed (concat (line_texts b.names 1 (last_world (speech.first root) first) (said (lines_read false read)) stands.marks)) (status_text statuses.ReadFault) stands.reported line, tt))
 
     -- it is too long
@@ -392,6 +409,7 @@ module _ {Opening State Job Said : Type 0} (rules : Rules Opening State Job Said
       sound = lines-sound grammar (lines_read whole read);
       noted = λ no. absurd cc;
       over = λ no. absurd cc;
+      counts = λ no. absurd cc;
     }) (λ losses is'. (then_status before mid held failed (concat (line_texts b.names 1 (last_world (speech.first root) first) (said (lines_read whole read)) stands.marks)) (status_text statuses.TooLong) stands.reported line, tt))
 
     -- memory was wanting, or the report could not be written, when some of the lines were taken
@@ -415,6 +433,7 @@ module _ {Opening State Job Said : Type 0} (rules : Rules Opening State Job Said
         sound = some_sound stop.some stop.more stop.parts;
         noted = λ no. absurd cc;
         over = λ no. absurd cc;
+        counts = λ no. absurd cc;
       }) (λ losses is. (
         (stop.reported.0, stop.reported.1, stop.reported.2, then_status before mid held failed (concat stop.reported.0) (status_text statuses.NoMemory) stop.reported.3 line),
         tt,
@@ -432,6 +451,7 @@ module _ {Opening State Job Said : Type 0} (rules : Rules Opening State Job Said
         sound = some_sound stop.some stop.more stop.parts;
         noted = λ no. absurd cc;
         over = λ no. absurd cc;
+        counts = λ no. absurd cc;
       }) (λ losses is. (
         subst (λ (h : Option (List ℕ)). HasReport b.names (last_world (speech.first root) first) stop.some stop.marks losses (ConcludesWith stop.more losses) statuses.ReportFault before h failed) (sym same) (inl stop.reported),
         tt,
@@ -451,6 +471,7 @@ module _ {Opening State Job Said : Type 0} (rules : Rules Opening State Job Said
       sound = tt;
       noted = λ no. absurd cc;
       over = λ no. absurd cc;
+      counts = λ no. absurd cc;
     }) (λ losses is. (
       ends_starved b.names (last_world (speech.first root) ahead) [] stands.marks losses b.tally stands.tallied before mid held failed stands.reported
           (ConcludesWith (lines_counted statuses.NoMemory grammar read (rest_of left')) losses) line,

@@ -34,10 +34,11 @@ use Rattle.ug_pieces.specs.Lines.{ended_from, rest_from, where_some}
 use Rattle.ug_event_loop.specs.Standing.{said_by}
 use Rattle.ug_event_loop.specs.Files.{most_lines, most_bytes}
 use Rattle.ug_event_loop.specs.Reading.{first_of}
+use Rattle.ug_event_loop.specs.declared.grammar.Grammar.{Grammar}
 use Rattle.ug_event_loop.specs.declared.grammar.Grammar.TheVariants.{Every}
 use Rattle.ug_selfrun.specs.Lines.{line_of, lines_of, accepted_by, accepted_events}
 use Rattle.ug_selfrun.specs.Standings.{LeavesTable, HoldsTable, HoldTables}
-use Rattle.ug_run.specs.Promise.{lines_counted, IsAhead, IsEarly, IsRun, IsPromised, EndsEarly, IsCounted, IsCountedFrom}
+use Rattle.ug_run.specs.Promise.{lines_counted, IsAhead, IsEarly, IsRun, IsPromised, EndsEarly, IsCounted, IsCountedFrom, IsStopped}
 use Rattle.ug_run.specs.Drawn.{IsSummed, IsDrawnRun}
 
 -- ---- the lines
@@ -169,11 +170,11 @@ never_early (inr (inl is)) = cc
 never_early (inr (inr is)) = cc
 
 module _ {Opening State Job Said : Type 0} (rules : Rules Opening State Job Said) (speech : Speech Opening State Job Said) where
-  module _ (speaks : IsSpeaker rules speech) (w : World) (events : List Event) (names names' : Option (List (List ℕ))) (wires : List WireState) (history : List (Entry Job Said)) (is_open : Bool) (left before held : Option (List ℕ)) (failed : Type 0) where
+  module _ (speaks : IsSpeaker rules speech) (w : World) (events : List Event) (names names' : Option (List (List ℕ))) (wires : List WireState) (history : List (Entry Job Said)) (spent : Bool) (is_open : Bool) (left before held : Option (List ℕ)) (failed : Type 0) where
     abbrev Held : Type 0
     Held = HoldTables (last_world w (lines_of (map event_of events))) 0 (last_world w (lines_of (map event_of events))).peers (map (λ (wire : WireState). wire.sessions) wires)
 
-    run_home : IsRun rules speech w Every (first_of events) (Bytes []) statuses.Ok (map told wires) history is_open left before held failed → Held × IsDrawnRun rules speech w (map event_of events) history
+    run_home : IsRun rules speech w Every (first_of events) (Bytes []) statuses.Ok (map told wires) history spent is_open left before held failed → Held × IsDrawnRun rules speech w (map event_of events) history
     run_home run =
         let parts = nothing_read run.read run.rest run.is_part in
         let counted : lines_counted statuses.Ok Every [] [] ≡ run.lines ++ run.untaken =
@@ -201,21 +202,30 @@ module _ {Opening State Job Said : Type 0} (rules : Rules Opening State Job Said
         ahead_is ahead (inl is) = is
         ahead_is ahead (inr is) = let no = is.0 in absurd cc
 
-    pub came_home : IsPromised rules speech w Every (first_of events) [] (Bytes []) names names' statuses.Ok (map told wires) history is_open left before held failed → Held × IsDrawnRun rules speech w (map event_of events) history
+    pub came_home : IsPromised rules speech w Every (first_of events) [] (Bytes []) names names' statuses.Ok (map told wires) history spent is_open left before held failed → Held × IsDrawnRun rules speech w (map event_of events) history
     came_home (inl early) = absurd (never_early early.early)
     came_home (inr run) = run_home run.1
 
   -- the same, where what the run was over is known by equations
-  pub came_back : (speaks : IsSpeaker rules speech) (w w' : World) (events : List Event) (es : List Happening) (file : FileTold) (status : Status) (names names' : Option (List (List ℕ))) (wires : List WireState) (history : List (Entry Job Said))
+  pub came_back : (speaks : IsSpeaker rules speech) (w w' : World) (events : List Event) (es : List Happening) (file : FileTold) (status : Status) (names names' : Option (List (List ℕ))) (wires : List WireState) (history : List (Entry Job Said)) (spent : Bool)
       (is_open : Bool) (left before held : Option (List ℕ)) (failed : Type 0) → w' ≡ w → map event_of events ≡ es → file ≡ Bytes [] → status ≡ statuses.Ok
-      → IsPromised rules speech w' Every (first_of events) [] file names names' status (map told wires) history is_open left before held failed
+      → IsPromised rules speech w' Every (first_of events) [] file names names' status (map told wires) history spent is_open left before held failed
       → HoldTables (last_world w (lines_of es)) 0 (last_world w (lines_of es)).peers (map (λ (wire : WireState). wire.sessions) wires) × IsDrawnRun rules speech w es history
-  came_back speaks w w' events es file status names names' wires history is_open left before held failed e f g h promised =
+  came_back speaks w w' events es file status names names' wires history spent is_open left before held failed e f g h promised =
       subst (λ (hs : List Happening). HoldTables (last_world w (lines_of hs)) 0 (last_world w (lines_of hs)).peers (map (λ (wire : WireState). wire.sessions) wires) × IsDrawnRun rules speech w hs history) f
-      (came_home speaks w events names names' wires history is_open left before held failed
-      (subst (λ (v : World). IsPromised rules speech v Every (first_of events) [] (Bytes []) names names' statuses.Ok (map told wires) history is_open left before held failed) e
-      (subst (λ (t : FileTold). IsPromised rules speech w' Every (first_of events) [] t names names' statuses.Ok (map told wires) history is_open left before held failed) g
-      (subst (λ (s : Status). IsPromised rules speech w' Every (first_of events) [] file names names' s (map told wires) history is_open left before held failed) h promised))))
+      (came_home speaks w events names names' wires history spent is_open left before held failed
+      (subst (λ (v : World). IsPromised rules speech v Every (first_of events) [] (Bytes []) names names' statuses.Ok (map told wires) history spent is_open left before held failed) e
+      (subst (λ (t : FileTold). IsPromised rules speech w' Every (first_of events) [] t names names' statuses.Ok (map told wires) history spent is_open left before held failed) g
+      (subst (λ (s : Status). IsPromised rules speech w' Every (first_of events) [] file names names' s (map told wires) history spent is_open left before held failed) h promised))))
+
+  -- what is known of the end of a run, whatever it came to
+  pub stopped_as : (w w' : World) (grammar : Grammar) (first : List (Reads Saying)) (events : List ℕ) (file : FileTold) (names names' : Option (List (List ℕ))) (status : Status) (wires : List WireTold) (history : List (Entry Job Said)) (spent : Bool)
+      (is_open : Bool) (left before held : Option (List ℕ)) (failed : Type 0) → w' ≡ w
+      → IsPromised rules speech w' grammar first events file names names' status wires history spent is_open left before held failed → IsStopped rules speech w spent history
+  stopped_as w w' grammar first events file names names' status wires history spent is_open left before held failed e (inl early) = inl early.none
+  stopped_as w w' grammar first events file names names' status wires history spent is_open left before held failed e (inr run) =
+      let done = run.1.done in
+      inr (record { root = done.root; first = done.first ∙ e; stopped = done.stopped })
 
   -- what a run counted that came to `Ok`, whatever was reported of it
   pub counted_as : (w w' : World) (run status : Status) (history : List (Entry Job Said)) (before after : ℕ) → w' ≡ w → ((status ≡ statuses.NoMemory → ⊥) → run ≡ statuses.Ok)

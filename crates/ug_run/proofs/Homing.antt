@@ -27,6 +27,7 @@ use Rattle.ug_event_loop.specs.declared.tally.Tally.{Tally}
 use Rattle.ug_event_loop.specs.declared.reading.End.{End}
 use Rattle.ug_event_loop.specs.declared.reading.End.TheVariants as ends
 use Rattle.ug_event_loop.specs.Standing.{BuilderView, IsPacedBy, IsSameBuilder, BuilderStands}
+use Rattle.ug_event_loop.specs.Turns.{IsClosedAt}
 use Rattle.ug_event_loop.specs.FreshLaws.{fresh-stands}
 use Rattle.ug_event_loop.specs.Reading.{Outside, first_of, EndsAt, HasEnded, IsRead}
 use Rattle.ug_run.specs.Lanes.{AreAtPosts, AreKept, fresh_lanes}
@@ -89,6 +90,8 @@ module _ (names : List (List ℕ)) (losses : List Loss) (accepted refused : ℕ)
   concluded_later statuses.SiteFault h = absurd h
   concluded_later statuses.TooLong h = absurd h
   concluded_later (statuses.Malformed cause offset) h = absurd h
+  concluded_later (statuses.Refuted peer session kind message key) h = absurd h
+  concluded_later (statuses.Unclear line) h = absurd h
 
   completes_later : (unnoted : Bool) (status : Status) → CompletesBy names losses accepted refused before held F unnoted status → CompletesBy names losses accepted refused before held G unnoted status
   completes_later false status h = concluded_later status h
@@ -121,6 +124,8 @@ module _ (names : List (List ℕ)) (losses : List Loss) (accepted refused : ℕ)
   concluded_causes statuses.SiteFault h = absurd h
   concluded_causes statuses.TooLong h = absurd h
   concluded_causes (statuses.Malformed cause offset) h = absurd h
+  concluded_causes (statuses.Refuted peer session kind message key) h = absurd h
+  concluded_causes (statuses.Unclear line) h = absurd h
 
   completes_causes : (unnoted : Bool) (status : Status) → CompletesBy names losses accepted refused before held F unnoted status → Causes status
   completes_causes false status h = concluded_causes status h
@@ -221,6 +226,11 @@ told_wires : {W Opening Job Said : Type 0} (sessions : W → Option (List (List 
 told_wires sessions faults [] = refl
 told_wires sessions faults (lane ∷ lanes) = ap (λ (ts : List WireTold). toldl sessions faults lane ∷ ts) (told_wires sessions faults lanes)
 
+-- what isn't spent in the end was never spent
+never_spent : (a b : Bool) → (a ≡ true → b ≡ true) → b ≡ false → a ≡ false
+never_spent true b then unspent = let spent : b ≡ true = then refl in absurd cc
+never_spent false b then unspent = refl
+
 some_is : {A : Type 0} (x y : A) → Some x ≡ Some y → x ≡ y
 some_is x y e = cc
 
@@ -276,9 +286,10 @@ module _ {W Opening State Job Said : Type 0} (rules : Rules Opening State Job Sa
       → (held : Option (List ℕ)) (F G : Type 0) → (F → G) → (status : Status)
       → IsFinished names' (losses_from 0 (all_losses 0 peers history')) tally.accepted tally.refused o'.held held F end unnoted status
       → (back : List W) → back ≡ map (λ (lane : LaneView W Opening Job Said). lane.wire) lanes
-      → IsRun rules speech w grammar first (file_told files name) status (map (told_one sessions faults) back) history is_picked o'.left o.held held G
+      → (spent : Bool) → (pass.spent ≡ true → spent ≡ true)
+      → IsRun rules speech w grammar first (file_told files name) status (map (told_one sessions faults) back) history spent is_picked o'.left o.held held G
   came-home w opens gate b0 passes wires is many all first sound names names_is grammar every old new old_is o o' end ended lanes same pass pass_is history hist kept unnoted unnoted_is files name picked is_picked stays
-      peers peers_is names' names'_is tally tally_is history' history'_is held F G f status finished back back_is =
+      peers peers_is names' names'_is tally tally_is history' history'_is held F G f status finished back back_is spent spends =
       let root_old : b0.root ≡ Some is.root = root-is made_for speech w gate b0 passes wires is in
       let root_new : new.pass.root ≡ Some is.root = ended.same.pass.2 ∙ (ap (λ (b : BuilderView Opening Job Said). b.pass.root) old_is ∙ root_old) in
       let at = back-at made_for speech w gate b0 passes wires is lanes same in
@@ -300,10 +311,11 @@ module _ {W Opening State Job Said : Type 0} (rules : Rules Opening State Job Sa
       unnoted
       (λ complete noted. crew-from rules speech sessions begun faults gate.id is.root history complete 0 lanes at kept agree (λ over. sym unnoted_is ∙ noted over))
       new root_new (ended.same.names ∙ (ap (λ (b : BuilderView Opening Job Said). b.names) old_is ∙ names_is)) behind_new
-      files name o.left o'.left picked is_picked stays o.held o'.held held G
+      files name o.left o'.left picked is_picked stays o.held o'.held held G spent
+      (λ unspent. subst (λ (u : Bool). IsClosedAt rules speech u new.pass.root new.pass.seen) (ap (λ (p : Held (Entry Job Said) Opening). p.spent) (sym pass_is) ∙ never_spent pass.spent spent spends unspent) ended.closed)
       done.read (part_read files name o.left o'.left done.read picked done.taken)
       peers (peers_is ∙ sym wires_all) old (ap (λ (b : BuilderView Opening Job Said). b.grammar) old_is) o.reads_failed o'.reads_failed o.writes_failed o'.writes_failed o.steps o'.steps end status done.so fine in
-      subst (λ (ts : List WireTold). IsRun rules speech w grammar first (file_told files name) status ts history is_picked o'.left o.held held G)
+      subst (λ (ts : List WireTold). IsRun rules speech w grammar first (file_told files name) status ts history spent is_picked o'.left o.held held G)
       (sym (ap (λ (ws : List W). map (told_one sessions faults) ws) back_is ∙ told_wires sessions faults lanes)) run
 
 -- A builder over the pass of a run that begins has the pace of the run's world.

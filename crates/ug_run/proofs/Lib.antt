@@ -10,3 +10,4 @@ pub mod Concluding
 pub mod Starting
 pub mod Homing
 pub mod Setting
+pub mod Audited

@@ -46,10 +46,11 @@ module _ {W : Type 0} (sessions : W → Option (List (List ℕ))) (begun faults 
 
   -- A run that ended before its first line.
   pub ends-early : {J R : Type 0} (w : World) (events : List ℕ) (file : FileTold) (names names' : Option (List (List ℕ))) (status : Status) (wires : List W) (history : List (Entry J R)) (is_open : Bool) (left before held : Option (List ℕ)) (failed : Type 0)
-      → IsEarly status → IsUnread events file names names' is_open left → length wires ≤ length w.peers → ((row_of status).made_wires ≡ true → length wires ≡ length w.peers) → AreNewWires sessions begun faults wires → history ≡ []
+      → IsEarly status → (status ≡ statuses.ReadFault → is_open ≡ false) → IsUnread events file names names' is_open left → length wires ≤ length w.peers → ((row_of status).made_wires ≡ true → length wires ≡ length w.peers) → AreNewWires sessions begun faults wires → history ≡ []
       → AppendsThenStatus before held failed [] (status_text status) → EndsEarly w events file names names' status (map seen_of wires) history is_open left before held failed
-  ends-early {J} {R} w events file names names' status wires history is_open left before held failed early unread few all new none report = record {
+  ends-early {J} {R} w events file names names' status wires history is_open left before held failed early unopened unread few all new none report = record {
     early = early;
+    unopened = unopened;
     unread = unread;
     few = rw (length-map wires seen_of) few;
     all = λ made. length-map wires seen_of ∙ all made;
@@ -93,12 +94,12 @@ module _ {W : Type 0} (sessions : W → Option (List (List ℕ))) (begun faults 
   -- the same, with the status and the wires as they are handed on
   pub early-home : {J R : Type 0} (w : World) (events : List ℕ) (file : FileTold) (names names' : Option (List (List ℕ))) (status mid given : Status) (wires back : List W) (history : List (Entry J R)) (is_open : Bool) (left before held : Option (List ℕ)) (failed : Type 0)
       → given ≡ mid → mid ≡ status → back ≡ wires → history ≡ []
-      → IsEarly status → IsUnread events file names names' is_open left → length wires ≤ length w.peers → ((row_of status).made_wires ≡ true → length wires ≡ length w.peers) → AreNewWires sessions begun faults wires
+      → IsEarly status → (status ≡ statuses.ReadFault → is_open ≡ false) → IsUnread events file names names' is_open left → length wires ≤ length w.peers → ((row_of status).made_wires ≡ true → length wires ≡ length w.peers) → AreNewWires sessions begun faults wires
       → AppendsThenStatus before held failed [] (status_text status) → EndsEarly w events file names names' given (map (seen_of sessions begun faults) back) history is_open left before held failed
-  early-home {J} {R} w events file names names' status mid given wires back history is_open left before held failed one other back_is none early unread few all new report =
+  early-home {J} {R} w events file names names' status mid given wires back history is_open left before held failed one other back_is none early unopened unread few all new report =
       subst (λ (s : Status). EndsEarly w events file names names' s (map (seen_of sessions begun faults) back) history is_open left before held failed) (sym (one ∙ other))
       (subst (λ (ws : List W). EndsEarly w events file names names' status (map (seen_of sessions begun faults) ws) history is_open left before held failed) (sym back_is)
-      (ends-early sessions begun faults w events file names names' status wires history is_open left before held failed early unread few all new none report))
+      (ends-early sessions begun faults w events file names names' status wires history is_open left before held failed early unopened unread few all new none report))
 
 -- no wire was made, and none is given back
 pub made-idle : {W : Type 0} (made_for : W → WireName) (wires : List W) (made : WiresMade) (dir : List ℕ) (names : List (List ℕ)) → wires ≡ [] → AreMadeFor made made dir names (map made_for wires)
@@ -138,10 +139,10 @@ unread-open name files mid_files old mid new left files_same same opened named p
 
 -- the file is the same, however the site tells of it
 pub same-files : {Opening State Job Said : Type 0} (rules : Rules Opening State Job Said) (speech : Speech Opening State Job Said) (w : World) (grammar : Grammar) (first : List (Reads Saying))
-    (old new : Option (List FileText)) (name : List ℕ) (status : Status) (wires : List WireTold) (history : List (Entry Job Said)) (is_picked : Bool) (left before held : Option (List ℕ)) (failed : Type 0) → new ≡ old
-    → IsRun rules speech w grammar first (file_told new name) status wires history is_picked left before held failed → IsRun rules speech w grammar first (file_told old name) status wires history is_picked left before held failed
-same-files rules speech w grammar first old new name status wires history is_picked left before held failed same run =
-    subst (λ (fs : Option (List FileText)). IsRun rules speech w grammar first (file_told fs name) status wires history is_picked left before held failed) same run
+    (old new : Option (List FileText)) (name : List ℕ) (status : Status) (wires : List WireTold) (history : List (Entry Job Said)) (spent : Bool) (is_picked : Bool) (left before held : Option (List ℕ)) (failed : Type 0) → new ≡ old
+    → IsRun rules speech w grammar first (file_told new name) status wires history spent is_picked left before held failed → IsRun rules speech w grammar first (file_told old name) status wires history spent is_picked left before held failed
+same-files rules speech w grammar first old new name status wires history spent is_picked left before held failed same run =
+    subst (λ (fs : Option (List FileText)). IsRun rules speech w grammar first (file_told fs name) status wires history spent is_picked left before held failed) same run
 
 -- a configuration that stands for no world ends no run that completed
 pub unset-completed : (file : FileTold) (status : Status) (P : Type 0) → IsUnconfigured file status → (row_of status).completed ≡ true → P
@@ -155,6 +156,8 @@ unset-completed file statuses.ReportFault P h done = absurd h
 unset-completed file statuses.SiteFault P h done = absurd h
 unset-completed file (statuses.Lost peer session) P h done = absurd h
 unset-completed file (statuses.Malformed cause offset) P h done = absurd h
+unset-completed file (statuses.Refuted peer session kind message key) P h done = absurd h
+unset-completed file (statuses.Unclear line) P h done = absurd h
 
 -- ---- what an answer says of its status
 

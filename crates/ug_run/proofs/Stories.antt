@@ -146,23 +146,43 @@ module _ {Opening State Job Said : Type 0} (rules : Rules Opening State Job Said
   ended_step steps (LaneTakes step) (JobSaid said) s legal lane ended = absurd legal
   ended_step steps (LaneTakes step) (LaneGot said) s legal lane ended = (steps.drained_after_lane step s legal.0 ended.0, steps.closed_after_lane step s legal.0 ∙ ended.1)
 
+  closed_step : (steps : StepsRight rules speech) (step : BoardStep Job) (said : BoardSaid Said) (s : State) → IsLegalStep rules step said s → IsLaneStep step → speech.closed s ≡ true → speech.closed (after_step rules step s) ≡ true
+  closed_step steps (DoJob job) said s legal lane closed = absurd lane
+  closed_step steps (LaneTakes step) (JobSaid said) s legal lane closed = absurd legal
+  closed_step steps (LaneTakes step) (LaneGot said) s legal lane closed = steps.closed_after_lane step s legal.0 ∙ closed
+
   ended_on : (steps : StepsRight rules speech) (s : State) (later : List (Entry Job Said)) → IsLegalFrom rules s later → Each (λ (entry : Entry Job Said). IsLaneStep entry.step) later → IsEnded s → IsEnded (replay_from rules s later)
   ended_on steps s [] legal lanes ended = ended
   ended_on steps s (entry ∷ later) legal lanes ended =
       ended_on steps (after_step rules entry.step s) later legal.1 lanes.1 (ended_step steps entry.step entry.said s legal.0 lanes.0 ended)
 
+  closed_on : (steps : StepsRight rules speech) (s : State) (later : List (Entry Job Said)) → IsLegalFrom rules s later → Each (λ (entry : Entry Job Said). IsLaneStep entry.step) later → speech.closed s ≡ true
+      → speech.closed (replay_from rules s later) ≡ true
+  closed_on steps s [] legal lanes closed = closed
+  closed_on steps s (entry ∷ later) legal lanes closed =
+      closed_on steps (after_step rules entry.step s) later legal.1 lanes.1 (closed_step steps entry.step entry.said s legal.0 lanes.0 closed)
+
   -- ---- the run
 
   module _ (steps : StepsRight rules speech) (legal : IsLegal rules root history) (lanes : AreLanes history) (seen : List (Entry Job Said)) (is : IsBehind seen) where
-    pub ended-all : IsEnded (replay rules root seen) → IsEnded (replay rules root history)
-    ended-all ended =
-        let there : replay rules root history ≡ replay_from rules (replay rules root seen) is.later =
-        ap (replay rules root) is.parts ∙ replay_from-append rules (rules.start root) seen is.later in
+    goes_on : replay rules root history ≡ replay_from rules (replay rules root seen) is.later
+    goes_on = ap (replay rules root) is.parts ∙ replay_from-append rules (rules.start root) seen is.later
+
+    lanes_later : Each (λ (entry : Entry Job Said). IsLaneStep entry.step) is.later
+    lanes_later =
         let back : AreLanes is.later = lanes-back seen is.later (subst (λ (h : List (Entry Job Said)). AreLanes h) is.parts lanes) in
-        let steps_all = each-with (λ (entry : Entry Job Said). of_pass 0 entry ≡ false → IsLaneStep entry.step) (λ (entry : Entry Job Said). of_pass 0 entry ≡ false)
-        (λ (entry : Entry Job Said). IsLaneStep entry.step) (λ entry lane other. lane other) is.later back is.others in
-        let legal_later = legal-back rules (rules.start root) seen is.later (subst (λ (h : List (Entry Job Said)). IsLegal rules root h) is.parts legal) in
-        subst (λ (s : State). IsEnded s) (sym there) (ended_on steps (replay rules root seen) is.later legal_later steps_all ended)
+        each-with (λ (entry : Entry Job Said). of_pass 0 entry ≡ false → IsLaneStep entry.step) (λ (entry : Entry Job Said). of_pass 0 entry ≡ false)
+        (λ (entry : Entry Job Said). IsLaneStep entry.step) (λ entry lane other. lane other) is.later back is.others
+
+    legal_later : IsLegalFrom rules (replay rules root seen) is.later
+    legal_later = legal-back rules (rules.start root) seen is.later (subst (λ (h : List (Entry Job Said)). IsLegal rules root h) is.parts legal)
+
+    pub ended-all : IsEnded (replay rules root seen) → IsEnded (replay rules root history)
+    ended-all ended = subst (λ (s : State). IsEnded s) (sym goes_on) (ended_on steps (replay rules root seen) is.later legal_later lanes_later ended)
+
+    -- no job may follow either where the builder saw that none may
+    pub closed-all : speech.closed (replay rules root seen) ≡ true → speech.closed (replay rules root history) ≡ true
+    closed-all closed = subst (λ (s : State). speech.closed s ≡ true) (sym goes_on) (closed_on steps (replay rules root seen) is.later legal_later lanes_later closed)
 
     pub story-all : (lines : List (Reads Saying)) (marks : List (List Mark)) → IsStory rules speech root [] lines marks seen → IsStory rules speech root [] lines marks history
     story-all lines marks story =

@@ -1,5 +1,5 @@
 -- What `selfrun` promises: a run over the workload of its number.
-use Rattle.std.specs.Prelude.{◌≡◌, ℕ, true, List, [], Option}
+use Rattle.std.specs.Prelude.{◌≡◌, ℕ, Bool, true, List, [], Option}
 use Rattle.ug_edge.specs.Told.{AppendsPiece}
 use Rattle.ug_pieces.specs.Reporting.{AppendsFront}
 use Rattle.ug_board.specs.Entry.{Entry}
@@ -17,6 +17,7 @@ use Rattle.ug_report.specs.declared.status.Status.{Status}
 use Rattle.ug_report.specs.declared.status.Status.TheVariants as statuses
 use Rattle.ug_gen.specs.Configuration.{workload_world}
 use Rattle.ug_gen.specs.Workload.{workload}
+use Rattle.ug_run.specs.Promise.{IsStopped}
 use Rattle.ug_selfrun.specs.Lines.{lines_of, accepted_events}
 use Rattle.ug_selfrun.specs.Summary.{HasText}
 
@@ -40,6 +41,8 @@ IsSummed number last accepted refused statuses.SiteFault before held failed = �
 IsSummed number last accepted refused statuses.TooLong before held failed = ⊥
 IsSummed number last accepted refused (statuses.Lost peer session) before held failed = ⊥
 IsSummed number last accepted refused (statuses.Malformed cause offset) before held failed = ⊥
+IsSummed number last accepted refused (statuses.Refuted peer session kind message key) before held failed = ⊥
+IsSummed number last accepted refused (statuses.Unclear line) before held failed = ⊥
 
 module _ {Opening State Job Said : Type 0} (rules : Rules Opening State Job Said) (speech : Speech Opening State Job Said) where
   -- The history is a legal one from an opening in this world; its events are those of these that are accepted, in order, and at
@@ -53,8 +56,9 @@ module _ {Opening State Job Said : Type 0} (rules : Rules Opening State Job Said
     pub closed : speech.closed (replay rules root history) ≡ true
 
   -- The report is that of the workload of this number: its counts, and where each peer stands in its last world. Unless memory was
-  -- wanting the history is that of a run over it.
-  pub record IsSelfRun (number : ℕ) (status : Status) (history : List (Entry Job Said)) (before held : Option (List ℕ)) (failed : Type 0) : Type 0 where
+  -- wanting the history is that of a run over it; and however it ended no job may follow, unless the board was spent.
+  pub record IsSelfRun (number : ℕ) (status : Status) (history : List (Entry Job Said)) (spent : Bool) (before held : Option (List ℕ)) (failed : Type 0) : Type 0 where
     pub summed : IsSummed number (last_world drawn_world (lines_of (drawn_events number))) (accepted_count drawn_world (lines_of (drawn_events number)))
         (refused_count drawn_world (lines_of (drawn_events number))) status before held failed
     pub ran : (status ≡ statuses.NoMemory → ⊥) → IsDrawnRun drawn_world (drawn_events number) history
+    pub stopped : IsStopped rules speech drawn_world spent history

@@ -33,6 +33,8 @@ module _ (names : List (List ℕ)) (losses : List Loss) (accepted refused : ℕ)
   IsConcluded statuses.SiteFault = ⊥
   IsConcluded statuses.TooLong = ⊥
   IsConcluded (statuses.Malformed cause offset) = ⊥
+  IsConcluded (statuses.Refuted peer session kind message key) = ⊥
+  IsConcluded (statuses.Unclear line) = ⊥
 
   -- the same, unless a loss was passed over for want of memory
   abbrev pub CompletesBy : Bool → Status → Type 0

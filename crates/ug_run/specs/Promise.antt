@@ -15,7 +15,7 @@ use Rattle.ug_world.specs.World.{World}
 use Rattle.ug_world.specs.Worlds.{last_world}
 use Rattle.ug_speaker.specs.Speech.{Speech}
 use Rattle.ug_report.specs.declared.endings.Loss.{Loss}
-use Rattle.ug_report.specs.Report.{names_in, line_texts, end_text, losses_from, losses_status}
+use Rattle.ug_report.specs.Report.{AreOf64, names_in, line_texts, end_text, losses_from, losses_status}
 use Rattle.ug_event_loop.specs.declared.grammar.Grammar.{Grammar}
 use Rattle.ug_event_loop.specs.Standing.{said_by}
 use Rattle.ug_event_loop.specs.Counts.{least_of, most_of}
@@ -48,6 +48,8 @@ IsLimited statuses.Usage read = ⊥
 IsLimited (statuses.Config number field) read = ⊥
 IsLimited statuses.SiteFault read = ⊥
 IsLimited (statuses.Malformed cause offset) read = ⊥
+IsLimited (statuses.Refuted peer session kind message key) read = ⊥
+IsLimited (statuses.Unclear line) read = ⊥
 
 -- ---- the report
 
@@ -75,6 +77,8 @@ module _ (names : List (List ℕ)) (w : World) (lines : List (Reads Saying)) (ma
   HasReport concludes (statuses.Config number field) before held failed = ⊥
   HasReport concludes statuses.SiteFault before held failed = ⊥
   HasReport concludes (statuses.Malformed cause offset) before held failed = ⊥
+  HasReport concludes (statuses.Refuted peer session kind message key) before held failed = ⊥
+  HasReport concludes (statuses.Unclear line) before held failed = ⊥
 
 -- No session was lost at `Ok`, and at `Lost` this is the first that was.
 abbrev pub IsFirstLoss : Status → List Loss → Type 0
@@ -88,6 +92,8 @@ IsFirstLoss statuses.Usage losses = Unit {0}
 IsFirstLoss (statuses.Config number field) losses = Unit {0}
 IsFirstLoss statuses.SiteFault losses = Unit {0}
 IsFirstLoss (statuses.Malformed cause offset) losses = Unit {0}
+IsFirstLoss (statuses.Refuted peer session kind message key) losses = Unit {0}
+IsFirstLoss (statuses.Unclear line) losses = Unit {0}
 
 -- The first lines were taken; where memory was wanting for one of them, those before it.
 abbrev pub IsAhead : Status → List (Reads Saying) → List (Reads Saying) → Type 0
@@ -112,10 +118,12 @@ IsUnread name file names names' is_open left =
     AppendsAll names names' [] ⊎ (AppendsAll names names' (name ∷ []) × (rest : List ℕ) × IsPartOf file [] rest × AgreesWithSite is_open left [] rest)
 
 -- Nobody was told anything: nothing of the file of events was read, each wire that was made is as it was made, nothing was
--- done, and the report has the status line alone. All wires were made but at `SiteFault` and where memory was wanting.
+-- done, and the report has the status line alone. All wires were made but at `SiteFault` and where memory was wanting. At
+-- `ReadFault` the file could not be picked, and none is read from.
 pub record EndsEarly {J R : Type 0} (w : World) (events : List ℕ) (file : FileTold) (names names' : Option (List (List ℕ))) (status : Status) (wires : List WireTold) (history : List (Entry J R))
     (is_open : Bool) (left before held : Option (List ℕ)) (failed : Type 0) : Type 0 where
   pub early : IsEarly status
+  pub unopened : status ≡ statuses.ReadFault → is_open ≡ false
   pub unread : IsUnread events file names names' is_open left
   pub few : length wires ≤ length w.peers
   pub all : (row_of status).made_wires ≡ true → length wires ≡ length w.peers
@@ -128,12 +136,14 @@ pub record EndsEarly {J R : Type 0} (w : World) (events : List ℕ) (file : File
 module _ {Opening State Job Said : Type 0} (rules : Rules Opening State Job Said) (speech : Speech Opening State Job Said) where
   -- What was done is what the history says: it is legal from an opening in this world, its events and marks are those of
   -- the lines, in their order, and each wire holds what its lane was handed. Where the run completed everything was told
-  -- at its end, no job may follow, and the lost sessions are those whose losses are entries.
-  pub record IsDoneBy (w : World) (lines : List (Reads Saying)) (marks : List (List Mark)) (completed : Bool) (wires : List WireTold) (lost : List (List ℕ)) (history : List (Entry Job Said)) : Type 0 where
+  -- at its end, no job may follow, and the lost sessions are those whose losses are entries. However it ended no job may
+  -- follow, unless the board was spent.
+  pub record IsDoneBy (w : World) (lines : List (Reads Saying)) (marks : List (List Mark)) (completed spent : Bool) (wires : List WireTold) (lost : List (List ℕ)) (history : List (Entry Job Said)) : Type 0 where
     pub root : Opening
     pub first : speech.first root ≡ w
     pub closed : IsClosed rules speech root lines marks completed wires history
     pub ended : completed ≡ true → speech.closed (replay rules root history) ≡ true
+    pub stopped : spent ≡ false → speech.closed (replay rules root history) ≡ true
     pub losses : completed ≡ true → lost ≡ all_losses 0 (length wires) history
 
   -- All lines were taken, and these are the losses of the history.
@@ -141,13 +151,14 @@ module _ {Opening State Job Said : Type 0} (rules : Rules Opening State Job Said
   Concludes untaken losses wires history = (untaken ≡ []) × (losses ≡ losses_from 0 (all_losses 0 (length wires) history))
 
   -- A run over a world, in which the first lines come before those of the file. `file` is what is told of the file of
-  -- events, `is_open` and `left` whether the site reads from it and what is left of it.
-  pub record IsRun (w : World) (grammar : Grammar) (first : List (Reads Saying)) (file : FileTold) (status : Status) (wires : List WireTold) (history : List (Entry Job Said))
+  -- events, `is_open` and `left` whether the site reads from it and what is left of it; `spent` whether the board was spent.
+  pub record IsRun (w : World) (grammar : Grammar) (first : List (Reads Saying)) (file : FileTold) (status : Status) (wires : List WireTold) (history : List (Entry Job Said)) (spent : Bool)
       (is_open : Bool) (left before held : Option (List ℕ)) (failed : Type 0) : Type 0 where
     pub read : List ℕ
     pub rest : List ℕ
     pub is_part : IsPartOf file read rest
     pub there : file ≡ Missing → ⊥
+    pub opened : is_open ≡ true
     pub agrees : AgreesWithSite is_open left read rest
     pub whole : (row_of status).completed ≡ true → rest ≡ []
     pub limits : IsLimited status read
@@ -162,13 +173,24 @@ module _ {Opening State Job Said : Type 0} (rules : Rules Opening State Job Said
     pub first_marks : List (List Mark)
     pub marks : List (List Mark)
     pub aligned : length first_marks ≡ length ahead
+    -- where the run completed they count messages in 64 bits, so that what the report says of them can be read again
+    pub counts : (row_of status).completed ≡ true → Each AreOf64 marks
     -- what the sessions hold, and which of them were lost
     pub contents : List (List Content)
     pub lost : List (List ℕ)
     pub kept : IsKept w (ahead ++ lines) (first_marks ++ marks) (row_of status).completed wires contents lost
     pub first_loss : IsFirstLoss status (losses_from 0 lost)
     pub report : HasReport (names_in w) (last_world w ahead) lines marks (losses_from 0 lost) (Concludes untaken (losses_from 0 lost) wires history) status before held failed
-    pub done : IsDoneBy w (ahead ++ lines) (first_marks ++ marks) (row_of status).completed wires lost history
+    pub done : IsDoneBy w (ahead ++ lines) (first_marks ++ marks) (row_of status).completed spent wires lost history
+
+  -- Nothing was done; or of what was done, from an opening in this world, no job may follow, unless the board was spent.
+  pub record IsStoppedFrom (w : World) (spent : Bool) (history : List (Entry Job Said)) : Type 0 where
+    pub root : Opening
+    pub first : speech.first root ≡ w
+    pub stopped : spent ≡ false → speech.closed (replay rules root history) ≡ true
+
+  abbrev pub IsStopped : World → Bool → List (Entry Job Said) → Type 0
+  IsStopped w spent history = (history ≡ []) ⊎ IsStoppedFrom w spent history
 
   -- What a run counted, from an opening in this world: no less than its jobs count at least, and where it completed no more
   -- than they count at most.
@@ -183,8 +205,8 @@ module _ {Opening State Job Said : Type 0} (rules : Rules Opening State Job Said
   IsCounted w completed history before after = ((history ≡ []) × (after ≡ before)) ⊎ IsCountedFrom w completed history before after
 
   -- What a run over a world promises. The file of events is picked once, and no other; `names` are those picked before it.
-  abbrev pub IsPromised : World → Grammar → List (Reads Saying) → List ℕ → FileTold → Option (List (List ℕ)) → Option (List (List ℕ)) → Status → List WireTold → List (Entry Job Said)
+  abbrev pub IsPromised : World → Grammar → List (Reads Saying) → List ℕ → FileTold → Option (List (List ℕ)) → Option (List (List ℕ)) → Status → List WireTold → List (Entry Job Said) → Bool
       → Bool → Option (List ℕ) → Option (List ℕ) → Option (List ℕ) → Type 0 → Type 0
-  IsPromised w grammar first events file names names' status wires history is_open left before held failed =
+  IsPromised w grammar first events file names names' status wires history spent is_open left before held failed =
       EndsEarly w events file names names' status wires history is_open left before held failed
-      ⊎ (AppendsAll names names' (events ∷ []) × IsRun w grammar first file status wires history is_open left before held failed)
+      ⊎ (AppendsAll names names' (events ∷ []) × IsRun w grammar first file status wires history spent is_open left before held failed)

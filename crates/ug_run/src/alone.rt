@@ -1,23 +1,28 @@
-//! The words that need no lanes: `check`, `groups`, and those that are no command.
+//! The words that need no lanes: `check`, `groups`, `audit`, and those that are no command.
 
-ghost use Rattle.std.specs.Prelude.{◌≡◌, ◌↔◌, [], map, true, false, Some, None, IfSome, IfNone};
+ghost use Rattle.std.specs.Prelude.{◌≡◌, ◌↔◌, ℕ, List, Option, [], map, true, false, Some, None, IfSome, IfNone};
 ghost use Rattle.std.specs.String.{string_bytes};
-ghost use Rattle.ug_edge.specs.Told.{Rose, IsEnded, file_told, Missing};
-ghost use Rattle.ug_command_line.specs.Words.{CheckCommand, GroupsCommand, Check, Groups, command_of, is_command};
+ghost use Rattle.ug_types.specs.declared.key.Key as keys;
+ghost use Rattle.ug_edge.specs.Told.{Rose, IsEnded, AppendsAll, FileText, file_told, Missing};
+ghost use Rattle.ug_command_line.specs.Words.{CheckCommand, GroupsCommand, AuditCommand, Check, Groups, Audit, command_of, is_command};
 ghost use Rattle.ug_report.specs.Statuses.{row_of, status_text};
 ghost use Rattle.ug_commands.specs.Files.{AppendsThenStatus, PicksJust};
 ghost use Rattle.ug_commands.specs.Checked.{IsChecked};
 ghost use Rattle.ug_commands.specs.Listed.{IsListed};
-ghost use Rattle.ug_run.specs.Commands.{has_sessions};
+ghost use Rattle.ug_audit.specs.Auditing.{IsAuditing};
+ghost use Rattle.ug_audit.specs.Right.{AreRight};
+ghost use Rattle.ug_run.specs.Commands.{has_sessions, is_fed};
 
 use std::alloc::Global;
-use ug_command_line::{Command, read_command};
+use ug_audit::audit;
+use ug_command_line::{Command, command_in, read_command};
 use ug_commands::{check, end, groups};
 use ug_edge::{Sink, Site};
 use ug_report::Status;
+use ug_types::NoMemory;
 
 /// How a command without sessions ended, or that the words are no command; `None` where they are `one`, `run` or `selfrun`,
-/// of which nothing was begun. No lane is there, and nobody is waited for: the call ends.
+/// of which nothing was begun, nor was memory asked for. No lane is there, and nobody is waited for: the call ends.
 pub fn answer_alone<E: Site, K: Sink>(
     alloc: Global,
     words: &[String],
@@ -38,6 +43,14 @@ pub fn answer_alone<E: Site, K: Sink>(
         PicksJust (E.picks site.old).names (E.picks site.new).names command.config status) }
     ensures groups_missing { (command : GroupsCommand) → command_of (map string_bytes words.now) ≡ Some (Groups command) →
         file_told (E.files site.old) command.config ≡ Missing → IfSome result (λ status. (row_of status).may_be_unread ≡ true) }
+    ensures audited { (command : AuditCommand) → command_of (map string_bytes words.now) ≡ Some (Audit command) → IfSome result (λ status.
+        IsAuditing command (file_told (E.files site.old)) (AppendsAll (E.picks site.old).names (E.picks site.new).names) status (K.held report.old) (K.held report.new) (Rose (K.faults report.old) (K.faults report.new))) }
+    ensures audit_right { (command : AuditCommand) → command_of (map string_bytes words.now) ≡ Some (Audit command) → (told : List FileText) → E.files site.old ≡ Some told →
+        result ≡ Some Status.Ok → AreRight command told }
+    ensures audit_refuted { (command : AuditCommand) → command_of (map string_bytes words.now) ≡ Some (Audit command) → (told : List FileText) → E.files site.old ≡ Some told →
+        (peer : ℕ) (session : ℕ) (kind : ℕ) (message : ℕ) (key : Option keys.Key) → result ≡ Some (Status.Refuted peer session kind message key) → AreRight command told → ⊥ }
+    ensures audit_missing { (command : AuditCommand) → command_of (map string_bytes words.now) ≡ Some (Audit command) →
+        file_told (E.files site.old) command.config ≡ Missing → IfSome result (λ status. (row_of status).may_be_unread ≡ true) }
     ensures usage { is_command (map string_bytes words.now) ≡ false → (result ≡ Some Status.Usage) × (site.new ≡ site.old) }
     ensures no_command { is_command (map string_bytes words.now) ≡ false →
         AppendsThenStatus (K.held report.old) (K.held report.new) (Rose (K.faults report.old) (K.faults report.new)) [] (status_text Status.Usage) }
@@ -46,14 +59,19 @@ pub fn answer_alone<E: Site, K: Sink>(
     ensures read { result ≡ Some Status.ReadFault → Rose (E.faults site.old) (E.faults site.new) }
     ensures unharmed { (result ≡ Some Status.ReadFault → ⊥) → E.faults site.new ≡ E.faults site.old }
     ensures report { result ≡ Some Status.ReportFault → Rose (K.faults report.old) (K.faults report.new) }
-    ensures ended { IfSome result (λ status. (row_of status).completed ≡ true → IsEnded (E.left site.new)) }
+    ensures ended { is_fed (command_of (map string_bytes words.now)) ≡ true → IfSome result (λ status. (row_of status).completed ≡ true → IsEnded (E.left site.new)) }
 {
-    match read_command(words) {
-        None => Some(end(report, Status::Usage)),
-        Some(Command::Check(words)) => {
+    if let Some(Command::One(_) | Command::Run(_) | Command::SelfRun(_)) = command_in(words) {
+        return None;
+    }
+    match read_command(alloc, words) {
+        Ok(Some(Command::Check(words))) => {
             Some(check(alloc, words.session, words.stream, site, report))
         }
-        Some(Command::Groups(words)) => Some(groups(alloc, words.config, site, report)),
-        Some(Command::One(_)) | Some(Command::Run(_)) | Some(Command::SelfRun(_)) => None,
+        Ok(Some(Command::Groups(words))) => Some(groups(alloc, words.config, site, report)),
+        Ok(Some(Command::Audit(words))) => Some(audit(alloc, words, site, report)),
+        Ok(Some(Command::One(_) | Command::Run(_) | Command::SelfRun(_))) => None,
+        Ok(None) => Some(end(report, Status::Usage)),
+        Err(NoMemory) => Some(end(report, Status::NoMemory)),
     }
 }

@@ -1,6 +1,6 @@
 //! The end of the work on a board.
 
-ghost use Rattle.std.specs.Prelude.{◌≡◌, ◌+◌, ◌≤◌, List, [], length, map, false};
+ghost use Rattle.std.specs.Prelude.{◌≡◌, ◌+◌, ◌≤◌, List, [], length, map, true, false};
 ghost use Rattle.std.specs.List.{list_any};
 ghost use Rattle.ug_board.specs.Entry.{Entry};
 ghost use Rattle.ug_run.specs.Lanes.{AreKept, AreAtPosts};
@@ -13,11 +13,12 @@ use ug_edge::Wire;
 use ug_speaker::Speaker;
 use ug_turnstile::{Pass, PassList, Turnstile};
 
-/// The history of a board that is closed, the wires of its lanes, in their order, and whether the loss of a session was not
-/// taken.
+/// The history of a board that is closed and whether it was spent, the wires of its lanes, in their order, and whether the
+/// loss of a session was not taken.
 #[derive(Drop)]
 pub struct Closed<W: Wire, S: Speaker> {
     pub history: HistoryList<S>,
+    pub spent: bool,
     pub wires: WireList<W>,
     pub unnoted: bool,
 }
@@ -42,6 +43,7 @@ pub fn close<W: Wire, S: Speaker>(
     requires passes_room { length lanes.items + 1 ≤ passes.spare }
     ensures history { IsHistoryOf S.Machine.rules builder lanes.items result.history.items }
     ensures only { (other : List (Entry S.Job S.Said)) → IsHistoryOf S.Machine.rules builder lanes.items other → other ≡ result.history.items }
+    ensures spent { builder.spent ≡ true → result.spent ≡ true }
     ensures wires { result.wires.items ≡ map (λ lane. lane.wire) lanes.items }
     ensures made_for { map W.made_for result.wires.items ≡ map (λ lane. lane.made_for) lanes.items }
     ensures unnoted { result.unnoted ≡ list_any (λ lane. lane.unnoted) lanes.items }
@@ -49,9 +51,12 @@ pub fn close<W: Wire, S: Speaker>(
 {
     let unnoted = part(lanes, &mut wires, &mut passes);
     put(&mut passes, builder);
-    let history = turnstile.close(passes).into_history();
+    let board = turnstile.close(passes);
+    let spent = board.is_spent();
+    let history = board.into_history();
     Closed {
         history,
+        spent,
         wires,
         unnoted,
     }

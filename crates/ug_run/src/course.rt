@@ -1,6 +1,6 @@
 //! A run over a world: its wires are made, the file of events is read beside the lanes, and everything comes back.
 
-ghost use Rattle.std.specs.Prelude.{◌≡◌, ◌+◌, ◌<◌, ◌≤◌, [], List, ℕ, map, take, length, true, Some, IfOk, IfErr, OnOk, IsErrOf};
+ghost use Rattle.std.specs.Prelude.{◌≡◌, ◌+◌, ◌<◌, ◌≤◌, [], List, ℕ, map, take, length, true, false, Some, IfOk, IfErr, OnOk, IsErrOf};
 ghost use Rattle.ug_edge.specs.Told.{Rose, IsEnded, HasPicked, file_told};
 ghost use Rattle.ug_events.specs.Views.{event_of};
 ghost use Rattle.ug_world.specs.World.{World};
@@ -35,12 +35,14 @@ use ug_turnstile::Turnstile;
 use ug_types::{NameList, NoMemory, Sequence, Steps};
 use ug_world::World;
 
-/// How a run ended, the wires that were made for it, in configured order, and what was done, step by step.
+/// How a run ended, the wires that were made for it, in configured order, what was done, step by step, and whether its
+/// board was spent: memory was wanting in the midst of a job, and no further job could be done.
 #[derive(Drop)]
 pub struct Done<W: Wire, S: Speaker> {
     pub status: Status,
     pub wires: WireList<W>,
     pub history: HistoryList<S>,
+    pub spent: bool,
 }
 
 impl<W: Wire, S: Speaker> Done<W, S> {
@@ -49,11 +51,13 @@ impl<W: Wire, S: Speaker> Done<W, S> {
         ensures status { result.status ≡ status }
         ensures wires { result.wires.items ≡ wires.items }
         ensures history { result.history.items ≡ [] }
+        ensures unspent { result.spent ≡ false }
     {
         Done {
             status,
             wires,
             history: Sequence::new(alloc),
+            spent: false,
         }
     }
 }
@@ -82,7 +86,7 @@ pub(crate) fn run_over<S: Speaker, R: Threads + Wait + Sync, E: Site, K: Sink, L
     requires opening { IsOpening plan.world }
     requires form { AreEvents (map event_of plan.first.items) }
     ensures promised { IsPromised S.Machine.rules S.speech plan.world plan.grammar (first_of plan.first.items) events.now (file_told (E.files site.old) events.now) (E.picks site.old).names (E.picks site.new).names result.status
-        (map (λ wire. record { sessions = E.Wire.sessions wire; faults = E.Wire.faults wire }) result.wires.items) result.history.items
+        (map (λ wire. record { sessions = E.Wire.sessions wire; faults = E.Wire.faults wire }) result.wires.items) result.history.items result.spent
         (E.picks site.new).is_open (E.left site.new) (K.held report.old) (K.held report.new) (Rose (K.faults report.old) (K.faults report.new)) }
     ensures made { AreMadeFor (E.made site.old) (E.made site.new) dir.now (names_in plan.world) (map E.Wire.made_for result.wires.items) }
     ensures read { result.status ≡ Status.ReadFault → Rose (E.faults site.old) (E.faults site.new) }
@@ -202,7 +206,7 @@ fn run_begun<S: Speaker, R: Threads + Wait + Sync, E: Site, K: Sink, L: Ledger>(
         → start.names.items ≡ names_in w → start.peers ≡ length w.peers → length w.peers ≡ length start.wires.items
         → HasPicked (E.files site.old) events (E.left site.old) → (E.picks site.old).is_open ≡ true
         → IsRun S.Machine.rules S.speech w start.grammar (first_of start.first.items) (file_told (E.files site.old) events) result.status
-        (map (λ wire. record { sessions = E.Wire.sessions wire; faults = E.Wire.faults wire }) result.wires.items) result.history.items
+        (map (λ wire. record { sessions = E.Wire.sessions wire; faults = E.Wire.faults wire }) result.wires.items) result.history.items result.spent
         (E.picks site.new).is_open (E.left site.new) (K.held report.old) (K.held report.new) (Rose (K.faults report.old) (K.faults report.new)) }
     ensures all { length result.wires.items ≡ length start.wires.items }
     ensures made_for { map E.Wire.made_for result.wires.items ≡ map E.Wire.made_for start.wires.items }
@@ -264,6 +268,7 @@ fn run_begun<S: Speaker, R: Threads + Wait + Sync, E: Site, K: Sink, L: Ledger>(
     let (pass, names) = builder.into_parts();
     let Closed {
         history,
+        spent,
         wires,
         unnoted,
     } = close(turnstile, pass, lanes, wires_home, passes_home);
@@ -284,6 +289,7 @@ fn run_begun<S: Speaker, R: Threads + Wait + Sync, E: Site, K: Sink, L: Ledger>(
         status,
         wires,
         history,
+        spent,
     }
 }
 

@@ -42,7 +42,7 @@ pub(crate) fn selfrun<S: Speaker, R: Threads + Wait + Sync, W: Wire, K: Sink, L:
     report: &mut K,
     steps: &mut Steps<L>,
 ) -> Done<W, S>
-    ensures drawn { IsSelfRun S.Machine.rules S.speech number result.status result.history.items (K.held report.old) (K.held report.new) (Rose (K.faults report.old) (K.faults report.new)) }
+    ensures drawn { IsSelfRun S.Machine.rules S.speech number result.status result.history.items result.spent (K.held report.old) (K.held report.new) (Rose (K.faults report.old) (K.faults report.new)) }
     ensures counted { IsCounted S.Machine.rules S.speech drawn_world (row_of result.status).completed result.history.items steps.old steps.new }
     ensures wires { result.wires.items ≡ [] }
     ensures report { result.status ≡ Status.ReportFault → Rose (K.faults report.old) (K.faults report.new) }
@@ -73,11 +73,13 @@ pub(crate) fn selfrun<S: Speaker, R: Threads + Wait + Sync, W: Wire, K: Sink, L:
         status,
         wires,
         history,
+        spent,
     } = done;
     Done {
         status: end_drawn(alloc, number, &last, status, wires.as_slice(), report),
         wires: Sequence::new(alloc),
         history,
+        spent,
     }
 }
 

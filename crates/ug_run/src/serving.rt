@@ -1,19 +1,22 @@
 //! The top call.
 
-ghost use Rattle.std.specs.Prelude.{◌≡◌, ◌<◌, ◌+◌, [], map, true, false, Some, Ok, IfOk, ◌↔◌};
+ghost use Rattle.std.specs.Prelude.{◌≡◌, ◌<◌, ◌+◌, ℕ, List, Option, [], map, true, false, Some, Ok, IfOk, ◌↔◌};
 ghost use Rattle.std.specs.String.{string_bytes};
-ghost use Rattle.ug_edge.specs.Told.{Rose, IsEnded, file_told, Missing};
+ghost use Rattle.ug_types.specs.declared.key.Key as keys;
+ghost use Rattle.ug_edge.specs.Told.{Rose, IsEnded, AppendsAll, FileText, file_told, Missing};
 ghost use Rattle.ug_events.specs.Views.{event_of};
 ghost use Rattle.ug_speaker.specs.Owes.{AreEvents};
 ghost use Rattle.ug_report.specs.Report.{names_in};
 ghost use Rattle.ug_config.specs.One.{one_world};
-ghost use Rattle.ug_command_line.specs.Words.{OneCommand, RunCommand, CheckCommand, GroupsCommand, SelfRunCommand, One, Run, Check, Groups, SelfRun, command_of, is_command};
+ghost use Rattle.ug_command_line.specs.Words.{OneCommand, RunCommand, CheckCommand, GroupsCommand, SelfRunCommand, AuditCommand, One, Run, Check, Groups, SelfRun, Audit, command_of, is_command};
 ghost use Rattle.ug_event_loop.specs.Reading.{first_of};
 ghost use Rattle.ug_run.specs.Wires.{AreMadeFor};
 ghost use Rattle.ug_report.specs.Statuses.{row_of, status_text};
 ghost use Rattle.ug_commands.specs.Files.{AppendsThenStatus, PicksJust};
 ghost use Rattle.ug_commands.specs.Checked.{IsChecked};
 ghost use Rattle.ug_commands.specs.Listed.{IsListed};
+ghost use Rattle.ug_audit.specs.Auditing.{IsAuditing};
+ghost use Rattle.ug_audit.specs.Right.{AreRight};
 ghost use Rattle.ug_run.specs.Promise.{IsCounted};
 ghost use Rattle.ug_run.specs.Commands.{up_p1, is_fed, IsOne, IsRunOf, IsCountedRun};
 ghost use Rattle.ug_run.specs.Drawn.{drawn_world, IsSelfRun};
@@ -25,6 +28,7 @@ use std::alloc::Global;
 use std::sync::Wait;
 use std::sync::ledger::Ledger;
 use std::thread::Threads;
+use ug_audit::audit;
 use ug_command_line::{Command, OneWords, RunWords, read_command};
 use ug_commands::{check, end, groups};
 use ug_config::one_world;
@@ -50,11 +54,13 @@ use ug_types::{Name, NoMemory, Sequence, Steps};
 /// receiver. `groups CONFIG` lists the groups of a configuration's peers. `selfrun NUMBER` runs over a world and events
 /// that are drawn from that number, with workers, over wires in memory: it reports how many events were accepted and
 /// refused, and for each peer that it is down, or the size of its private table in the last world, which its wire's bytes
-/// leave. Words that are no command are `Usage`, and leave the site unread.
+/// leave. `audit CONFIG EVENTS REPORT DIR` judges the sessions that a run left in DIR, and reports how each climbs, or the
+/// first breach. Words that are no command are `Usage`, and leave the site unread.
 ///
 /// `ReadFault`, `ReportFault` and `SiteFault` come only where that count of faults rose, `Config` exactly where the
 /// configuration is refused, `TooLong` only past a limit of a file, `Lost` only where a wire failed, and `Malformed` exactly
-/// where the stream's first fault is that one; want of memory can end a run at any point.
+/// where the stream's first fault is that one; want of memory can end a run at any point. `Refuted` comes exactly where that
+/// session is the first that isn't right, and `Unclear` where that line of a report is the first that tells nothing clear.
 pub fn serve<S: Speaker, R: Threads + Wait + Sync, E: Site, K: Sink, L: Ledger>(
     rt: &R,
     alloc: Global,
@@ -65,18 +71,25 @@ pub fn serve<S: Speaker, R: Threads + Wait + Sync, E: Site, K: Sink, L: Ledger>(
 ) -> Done<E::Wire, S>
     ensures one { (command : OneCommand) → command_of (map string_bytes words.now) ≡ Some (One command) →
         IsOne S.Machine.rules S.speech command.events (file_told (E.files site.old) command.events) (E.picks site.old).names (E.picks site.new).names result.status
-        (map (λ wire. record { sessions = E.Wire.sessions wire; faults = E.Wire.faults wire }) result.wires.items) result.history.items
+        (map (λ wire. record { sessions = E.Wire.sessions wire; faults = E.Wire.faults wire }) result.wires.items) result.history.items result.spent
         (E.picks site.new).is_open (E.left site.new) (K.held report.old) (K.held report.new) (Rose (K.faults report.old) (K.faults report.new)) }
     ensures run { (command : RunCommand) → command_of (map string_bytes words.now) ≡ Some (Run command) →
         IsRunOf S.Machine.rules S.speech command (file_told (E.files site.old) command.config) (file_told (E.files site.old) command.events) (E.picks site.old).names (E.picks site.new).names result.status
-        (map (λ wire. record { sessions = E.Wire.sessions wire; faults = E.Wire.faults wire }) result.wires.items) result.history.items (map E.Wire.made_for result.wires.items) (E.made site.old) (E.made site.new)
+        (map (λ wire. record { sessions = E.Wire.sessions wire; faults = E.Wire.faults wire }) result.wires.items) result.history.items result.spent (map E.Wire.made_for result.wires.items) (E.made site.old) (E.made site.new)
         (E.picks site.new).is_open (E.left site.new) (K.held report.old) (K.held report.new) (Rose (K.faults report.old) (K.faults report.new)) }
     ensures checked { (command : CheckCommand) → command_of (map string_bytes words.now) ≡ Some (Check command) →
         IsChecked command (file_told (E.files site.old) command.stream) (E.picks site.new).is_open (E.left site.new) result.status (K.held report.old) (K.held report.new) (Rose (K.faults report.old) (K.faults report.new)) }
     ensures listed { (command : GroupsCommand) → command_of (map string_bytes words.now) ≡ Some (Groups command) →
         IsListed (file_told (E.files site.old) command.config) result.status (K.held report.old) (K.held report.new) (Rose (K.faults report.old) (K.faults report.new)) }
+    ensures audited { (command : AuditCommand) → command_of (map string_bytes words.now) ≡ Some (Audit command) →
+        IsAuditing command (file_told (E.files site.old)) (AppendsAll (E.picks site.old).names (E.picks site.new).names) result.status (K.held report.old) (K.held report.new) (Rose (K.faults report.old) (K.faults report.new)) }
+    // Where an audit says that all is right, the files that the site tells are, and where it refutes a session they aren't.
+    ensures audit_right { (command : AuditCommand) → command_of (map string_bytes words.now) ≡ Some (Audit command) → (told : List FileText) → E.files site.old ≡ Some told →
+        result.status ≡ Status.Ok → AreRight command told }
+    ensures audit_refuted { (command : AuditCommand) → command_of (map string_bytes words.now) ≡ Some (Audit command) → (told : List FileText) → E.files site.old ≡ Some told →
+        (peer : ℕ) (session : ℕ) (kind : ℕ) (message : ℕ) (key : Option keys.Key) → result.status ≡ Status.Refuted peer session kind message key → AreRight command told → ⊥ }
     ensures drawn { (command : SelfRunCommand) → command_of (map string_bytes words.now) ≡ Some (SelfRun command) →
-        IsSelfRun S.Machine.rules S.speech command.number result.status result.history.items (K.held report.old) (K.held report.new) (Rose (K.faults report.old) (K.faults report.new)) }
+        IsSelfRun S.Machine.rules S.speech command.number result.status result.history.items result.spent (K.held report.old) (K.held report.new) (Rose (K.faults report.old) (K.faults report.new)) }
     // The runs of the outbound rules are counted.
     ensures one_counted { (command : OneCommand) → command_of (map string_bytes words.now) ≡ Some (One command) →
         IsCounted S.Machine.rules S.speech one_world (row_of result.status).completed result.history.items steps.old steps.new }
@@ -89,6 +102,8 @@ pub fn serve<S: Speaker, R: Threads + Wait + Sync, E: Site, K: Sink, L: Ledger>(
         file_told (E.files site.old) command.stream ≡ Missing → (row_of result.status).may_be_unread ≡ true }
     ensures groups_missing { (command : GroupsCommand) → command_of (map string_bytes words.now) ≡ Some (Groups command) →
         file_told (E.files site.old) command.config ≡ Missing → (row_of result.status).may_be_unread ≡ true }
+    ensures audit_missing { (command : AuditCommand) → command_of (map string_bytes words.now) ≡ Some (Audit command) →
+        file_told (E.files site.old) command.config ≡ Missing → (row_of result.status).may_be_unread ≡ true }
     // A command without sessions picks its one file once. What `one` and `run` pick they promise themselves.
     ensures check_picked { (command : CheckCommand) → command_of (map string_bytes words.now) ≡ Some (Check command) →
         PicksJust (E.picks site.old).names (E.picks site.new).names command.stream result.status }
@@ -99,8 +114,10 @@ pub fn serve<S: Speaker, R: Threads + Wait + Sync, E: Site, K: Sink, L: Ledger>(
         AreMadeFor (E.made site.old) (E.made site.new) command.dir (names_in one_world) (map E.Wire.made_for result.wires.items) }
     ensures check_unmade { (command : CheckCommand) → command_of (map string_bytes words.now) ≡ Some (Check command) → E.made site.new ≡ E.made site.old }
     ensures groups_unmade { (command : GroupsCommand) → command_of (map string_bytes words.now) ≡ Some (Groups command) → E.made site.new ≡ E.made site.old }
+    ensures audit_unmade { (command : AuditCommand) → command_of (map string_bytes words.now) ≡ Some (Audit command) → E.made site.new ≡ E.made site.old }
     ensures check_idle { (command : CheckCommand) → command_of (map string_bytes words.now) ≡ Some (Check command) → (result.wires.items ≡ []) × (result.history.items ≡ []) × (steps.new ≡ steps.old) }
     ensures groups_idle { (command : GroupsCommand) → command_of (map string_bytes words.now) ≡ Some (Groups command) → (result.wires.items ≡ []) × (result.history.items ≡ []) × (steps.new ≡ steps.old) }
+    ensures audit_idle { (command : AuditCommand) → command_of (map string_bytes words.now) ≡ Some (Audit command) → (result.wires.items ≡ []) × (result.history.items ≡ []) × (steps.new ≡ steps.old) }
     // `selfrun` leaves the site alone: nothing is read, and no wire is made.
     ensures drawn_alone { (command : SelfRunCommand) → command_of (map string_bytes words.now) ≡ Some (SelfRun command) → (site.new ≡ site.old) × (result.wires.items ≡ []) }
     // Words that are no command.
@@ -119,8 +136,14 @@ pub fn serve<S: Speaker, R: Threads + Wait + Sync, E: Site, K: Sink, L: Ledger>(
     ensures all_wired { (result.status ≡ Status.SiteFault → ⊥) → E.wire_faults site.new ≡ E.wire_faults site.old }
     ensures ended { is_fed (command_of (map string_bytes words.now)) ≡ true → (row_of result.status).completed ≡ true → IsEnded (E.left site.new) }
 {
-    let Some(command) = read_command(words) else {
-        return Done::idle(alloc, end(report, Status::Usage), Sequence::new(alloc));
+    let command = match read_command(alloc, words) {
+        Ok(Some(command)) => command,
+        Ok(None) => return Done::idle(alloc, end(report, Status::Usage), Sequence::new(alloc)),
+        Err(NoMemory) => return Done::idle(
+            alloc,
+            end(report, Status::NoMemory),
+            Sequence::new(alloc),
+        ),
     };
     match command {
         Command::One(words) => one(rt, alloc, &words, site, report, steps),
@@ -134,6 +157,10 @@ pub fn serve<S: Speaker, R: Threads + Wait + Sync, E: Site, K: Sink, L: Ledger>(
             Done::idle(alloc, status, Sequence::new(alloc))
         }
         Command::SelfRun(words) => selfrun(rt, alloc, words.number, report, steps),
+        Command::Audit(words) => {
+            let status = audit(alloc, words, site, report);
+            Done::idle(alloc, status, Sequence::new(alloc))
+        }
     }
 }
 
@@ -147,7 +174,7 @@ fn one<S: Speaker, R: Threads + Wait + Sync, E: Site, K: Sink, L: Ledger>(
     steps: &mut Steps<L>,
 ) -> Done<E::Wire, S>
     ensures promised { IsOne S.Machine.rules S.speech words.now.events.now (file_told (E.files site.old) words.now.events.now) (E.picks site.old).names (E.picks site.new).names result.status
-        (map (λ wire. record { sessions = E.Wire.sessions wire; faults = E.Wire.faults wire }) result.wires.items) result.history.items
+        (map (λ wire. record { sessions = E.Wire.sessions wire; faults = E.Wire.faults wire }) result.wires.items) result.history.items result.spent
         (E.picks site.new).is_open (E.left site.new) (K.held report.old) (K.held report.new) (Rose (K.faults report.old) (K.faults report.new)) }
     ensures made { AreMadeFor (E.made site.old) (E.made site.new) words.now.dir.now (names_in one_world) (map E.Wire.made_for result.wires.items) }
     ensures read { result.status ≡ Status.ReadFault → Rose (E.faults site.old) (E.faults site.new) }
@@ -208,7 +235,7 @@ fn run<S: Speaker, R: Threads + Wait + Sync, E: Site, K: Sink, L: Ledger>(
 ) -> Done<E::Wire, S>
     ensures promised { IsRunOf S.Machine.rules S.speech (record { config = words.now.config.now; events = words.now.events.now; dir = words.now.dir.now; apart = words.now.apart })
         (file_told (E.files site.old) words.now.config.now) (file_told (E.files site.old) words.now.events.now) (E.picks site.old).names (E.picks site.new).names result.status
-        (map (λ wire. record { sessions = E.Wire.sessions wire; faults = E.Wire.faults wire }) result.wires.items) result.history.items (map E.Wire.made_for result.wires.items) (E.made site.old) (E.made site.new)
+        (map (λ wire. record { sessions = E.Wire.sessions wire; faults = E.Wire.faults wire }) result.wires.items) result.history.items result.spent (map E.Wire.made_for result.wires.items) (E.made site.old) (E.made site.new)
         (E.picks site.new).is_open (E.left site.new) (K.held report.old) (K.held report.new) (Rose (K.faults report.old) (K.faults report.new)) }
     ensures read { result.status ≡ Status.ReadFault → Rose (E.faults site.old) (E.faults site.new) }
     ensures unharmed { (result.status ≡ Status.ReadFault → ⊥) → E.faults site.new ≡ E.faults site.old }

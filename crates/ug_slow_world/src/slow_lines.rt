@@ -18,8 +18,7 @@ use crate::slow_words::words_of;
 use hex::FromHexError;
 use std::alloc::Global;
 use ug_events::{Event, Line, LineRefusal};
-use ug_prefixlist::{OrfMessage, OrfRefusal, read_orf};
-use ug_refresh::read_refresh;
+use ug_prefixlist::{OrfMessage, OrfRefusal, read_orf, read_refresh};
 use ug_text::read_prefix;
 use ug_types::{ByteList, Name, Prefix, Shared};
 

@@ -75,7 +75,7 @@ returns-clause-done g c = λ w events opens is names_is peers_is alike picked st
     (g.E.Source.files c.args.site.now) events picked (g.E.Source.picks c.read_lines-lanes.new.source).is_open (ap (λ p. p.is_open) c.read_lines-lanes.ensures.picks ∙ stays)
     c.args.start.peers peers_is c.as_slice.result.now (c.as_slice.ensures ∙ c.into_parts-pass.ensures.names) c.tally-tally.result c.tally-tally.ensures c.as_slice-2.result.now c.as_slice-2.ensures
     (g.K.Sink.held c.finish-status.new.report) _ _ (λ rose. Rose-later _ _ _ ended.writes c.finish-status.ensures.faults rose) c.finish-status.result c.finish-status.ensures.finished
-    c.close-history.result.wires.items c.close-history.ensures.wires
+    c.close-history.result.wires.items c.close-history.ensures.wires c.close-history.result.spent c.close-history.ensures.spent
 
 pub returns-clause-all : goal.returns-clause-all
 returns-clause-all g c =

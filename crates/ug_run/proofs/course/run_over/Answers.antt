@@ -12,7 +12,7 @@ pub returns-in-Err-clause-promised : goal.returns-in-Err-clause-promised
 returns-in-Err-clause-promised g c =
     inl (early-home g.E.Wire.Wire.sessions g.E.Wire.Wire.begun g.E.Wire.Wire.faults c.args.plan.world _ _ _ _ c.in-Err.status c.end.result c.idle.result.status c.prepare.new.wires.items c.idle.result.wires.items c.idle.result.history.items
     _ _ _ _ _ c.idle.ensures.status c.end.ensures.status c.idle.ensures.wires c.idle.ensures.history
-    (unmade-early c.in-Err.status c.in-Err.ensures.status) (unread-unpicked c.args.events.now (file_told (g.E.Source.files c.args.site.now) c.args.events.now) (g.E.Source.picks c.args.site.now) (g.E.Source.picks c.prepare.new.site) _ _ c.prepare.ensures.picks)
+    (unmade-early c.in-Err.status c.in-Err.ensures.status) (λ is. unmade-unread c.in-Err.status _ c.in-Err.ensures.status is) (unread-unpicked c.args.events.now (file_told (g.E.Source.files c.args.site.now) c.args.events.now) (g.E.Source.picks c.args.site.now) (g.E.Source.picks c.prepare.new.site) _ _ c.prepare.ensures.picks)
     c.prepare.ensures.most (unmade-some c.in-Err.status _ c.in-Err.ensures.status) c.prepare.ensures.fresh c.end.ensures.report)
 
 pub returns-in-Err-clause-read : goal.returns-in-Err-clause-read
@@ -31,7 +31,7 @@ pub returns-in-Err-pick-clause-promised : goal.returns-in-Err-pick-clause-promis
 returns-in-Err-pick-clause-promised g c =
     inl (early-home g.E.Wire.Wire.sessions g.E.Wire.Wire.begun g.E.Wire.Wire.faults c.args.plan.world _ _ _ _ c.in-Err-pick.status c.end-in-Err-pick.result c.idle-in-Err-pick.result.status c.prepare.new.wires.items c.idle-in-Err-pick.result.wires.items c.idle-in-Err-pick.result.history.items
     _ _ _ _ _ c.idle-in-Err-pick.ensures.status c.end-in-Err-pick.ensures.status c.idle-in-Err-pick.ensures.wires c.idle-in-Err-pick.ensures.history
-    (unbegun-early c.in-Err-pick.status c.in-Err-pick.ensures.status)
+    (unbegun-early c.in-Err-pick.status c.in-Err-pick.ensures.status) (λ _. c.in-Err-pick.ensures.is_closed)
     (unread-closed c.args.events.now (file_told (g.E.Source.files c.args.site.now) c.args.events.now) (g.E.Source.picks c.args.site.now) (g.E.Source.picks c.prepare.new.site) (g.E.Source.picks c.pick.new.site) _ _ c.prepare.ensures.picks c.in-Err-pick.ensures.is_closed c.pick.ensures.once)
     c.prepare.ensures.most (λ _. c.in-Ok.ensures.all) c.prepare.ensures.fresh c.end-in-Err-pick.ensures.report)
 
@@ -51,7 +51,7 @@ pub returns-in_default-clause-promised : goal.returns-in_default-clause-promised
 returns-in_default-clause-promised g c =
     inl (early-home g.E.Wire.Wire.sessions g.E.Wire.Wire.begun g.E.Wire.Wire.faults c.args.plan.world _ _ _ _ statuses.NoMemory c.end-in_default.result c.idle-in_default.result.status c.prepare.new.wires.items c.idle-in_default.result.wires.items c.idle-in_default.result.history.items
     _ _ _ _ _ c.idle-in_default.ensures.status c.end-in_default.ensures.status c.idle-in_default.ensures.wires c.idle-in_default.ensures.history
-    (inr (inr refl))
+    (inr (inr refl)) (λ is. absurd cc)
     (unread-open c.args.events.now (g.E.Source.files c.args.site.now) (g.E.Source.files c.prepare.new.site) (g.E.Source.picks c.args.site.now) (g.E.Source.picks c.prepare.new.site) (g.E.Source.picks c.pick.new.site) _
     c.prepare.ensures.files c.prepare.ensures.picks c.in-Ok-pick.ensures.is_open c.in-Ok-pick.ensures.named c.in-Ok-pick.ensures.picked)
     c.prepare.ensures.most (λ _. c.in-Ok.ensures.all) c.prepare.ensures.fresh c.end-in_default.ensures.report)
@@ -61,7 +61,7 @@ returns-clause-promised g c =
     let files = c.pick.ensures.files ∙ c.prepare.ensures.files in
     inr (
       rw (c.run_begun.ensures.picks, sym c.prepare.ensures.picks) c.in-Ok-pick.ensures.named,
-      same-files _ _ _ _ _ (g.E.Source.files c.args.site.now) (g.E.Source.files c.pick.new.site) c.args.events.now _ _ _ _ _ _ _ _ files
+      same-files _ _ _ _ _ (g.E.Source.files c.args.site.now) (g.E.Source.files c.pick.new.site) c.args.events.now _ _ _ _ _ _ _ _ _ files
           (c.run_begun.ensures.done c.args.plan.world c.args.events.now c.requires.opening c.in-Ok-begin.ensures.begun c.in-Ok.ensures.names c.peers-peers.ensures (sym c.in-Ok.ensures.all)
           (subst (λ fs. HasPicked fs c.args.events.now (g.E.Source.left c.pick.new.site)) (sym c.pick.ensures.files) c.in-Ok-pick.ensures.picked) c.in-Ok-pick.ensures.is_open),
     )

@@ -30,7 +30,7 @@ returns-clause-taken g c =
     c.in-Ok.ensures.answers c.come.ensures.legal
     c.come.new.self.names c.self.inside.tally c.in-Some.tally (record { pass = c.self.inside.pass; names = c.self.inside.names.items; grammar = c.self.inside.grammar; coalesce = c.self.inside.coalesce; tally = c.in-Some.tally }) (g.K.Sink.held c.tell.new.report) c.come.ensures.same.names (ap (λ b. b.tally) c.self.view_is ∙ c.come.ensures.tally)
     c.in-Some.ensures.lines (ap (λ b. b.pass) c.self.view_is) (ap (λ b. b.names) c.self.view_is ∙ c.come.ensures.same.names)
-    c.in-Ok-tell.ensures.ok refl c.in-Some.ensures.accepted c.in-Some.ensures.refused
+    c.in-Ok-tell.ensures.ok c.in-Ok-tell.ensures.counts refl c.in-Some.ensures.accepted c.in-Some.ensures.refused
 
 pub returns-in-Took-clause-taken : goal.returns-in-Took-clause-taken
 returns-in-Took-clause-taken g c =
@@ -39,4 +39,4 @@ returns-in-Took-clause-taken g c =
     c.in-Ok.ensures.answers c.come.ensures.legal
     c.come.new.self.names c.self.inside.tally c.in-Some.tally (record { pass = c.self.inside.pass; names = c.self.inside.names.items; grammar = c.self.inside.grammar; coalesce = c.self.inside.coalesce; tally = c.in-Some.tally }) (g.K.Sink.held c.tell.new.report) c.come.ensures.same.names (ap (λ b. b.tally) c.self.view_is ∙ c.come.ensures.tally)
     c.in-Some.ensures.lines (ap (λ b. b.pass) c.self.view_is) (ap (λ b. b.names) c.self.view_is ∙ c.come.ensures.same.names)
-    c.in-Ok-tell.ensures.ok refl c.in-Some.ensures.accepted c.in-Some.ensures.refused
+    c.in-Ok-tell.ensures.ok c.in-Ok-tell.ensures.counts refl c.in-Some.ensures.accepted c.in-Some.ensures.refused

@@ -1,0 +1,15 @@
+pub mod FilesTold
+pub mod Seen
+pub mod Opened
+pub mod Steps
+pub mod Judged
+pub mod Ended
+pub mod Answered
+pub mod Placed
+pub mod Reading
+pub mod Listening
+pub mod Halting
+pub mod Refuting
+pub mod Marks
+pub mod Worlds
+pub mod Aims

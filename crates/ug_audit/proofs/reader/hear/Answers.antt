@@ -1,0 +1,31 @@
+use Rattle.std.proofs.Common.{[], sym, subst}
+use Rattle.ug_verdict.specs.declared.session.Session.{Session}
+use Rattle.ug_audit.specs.Heard.{HasHeard}
+use Rattle.ug_audit.specs.Verdicts.{IsVerdictOn, most_bytes}
+use Rattle.ug_audit.proofs.Halting.{stop_of, same_of}
+use Rattle.ug_audit.proofs.reader.hear.Goals as goal
+
+pub returns-in-Err-clause-stopped : goal.returns-in-Err-clause-stopped
+returns-in-Err-clause-stopped g c =
+    let h = c.in-Err.ensures.halted in
+    record { read = h.read; taken = h.taken; so = stop_of c.in-Err.halt c.new-listener.result c.read_pieces.new.taker c.args.session.now c.read_pieces.new.context h.read h.so }
+
+pub returns-in-Err-clause-same : goal.returns-in-Err-clause-same
+returns-in-Err-clause-same g c = let h = c.in-Err.ensures.halted in same_of c.in-Err.halt c.new-listener.result c.read_pieces.new.taker c.args.session.now c.read_pieces.new.context h.read h.so
+
+pub returns-in-Ok-verdict_of-clause-ok : goal.returns-in-Ok-verdict_of-clause-ok
+unfolding most_bytes
+returns-in-Ok-verdict_of-clause-ok g c =
+    let h = c.in-Ok.ensures.ok in
+    let same = h.so.2.0 in
+    let heard = h.so.2.1 c.args.capabilities [] c.new-listener.ensures.heard in
+    record {
+      read = h.read;
+      taken = h.taken;
+      so = record {
+        ended = h.so.0;
+        within = h.so.1;
+        on = subst (λ (s : Session). IsVerdictOn c.args.capabilities s h.read c.in-Ok-verdict_of.verdict) same
+            (c.in-Ok-verdict_of.ensures c.args.capabilities h.read (subst (λ (s : Session). HasHeard c.args.capabilities s c.read_pieces.new.taker h.read) (sym same) heard));
+      };
+    }

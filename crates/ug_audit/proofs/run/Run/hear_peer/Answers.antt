@@ -1,0 +1,69 @@
+use Rattle.std.proofs.Common.{rules, arith, ◌≡◌, ◌+◌, ◌-◌, ◌++◌, ℕ, List, ap, subst, sym, refl, ◌∙◌, length, slice_get, Some, Option}
+use Rattle.std.specs.String.{string_bytes}
+use Rattle.ug_edge.specs.Told.{file_told, AppendsAll}
+use Rattle.ug_world.specs.World.{World}
+use Rattle.ug_world.specs.declared.peer_state.PeerState.{PeerState}
+use Rattle.ug_timeline.specs.Timelines.{IsTimeline, HasSessions}
+use Rattle.ug_audit.specs.Sessions.{sessions_from}
+use Rattle.ug_audit.specs.Auditing.{worlds_of, last_of}
+use Rattle.ug_audit.proofs.Placed.{peer_first, peer_of, at_number, at_begin, at_then, stopped_then}
+use Rattle.ug_audit.proofs.Steps.{starves_between}
+use Rattle.ug_audit.proofs.run.Run.hear_peer.Goals as goal
+
+pub timeline_of-requires-clause-id : goal.timeline_of-requires-clause-id
+timeline_of-requires-clause-id g c = peer_first c.args.self.now c.args.id c.requires.run c.requires.id
+
+pub returns-in-Err-clause-stopped : goal.returns-in-Err-clause-stopped
+returns-in-Err-clause-stopped g c = λ command names s left same there at.
+    starves_between command (file_told (g.E.Source.files c.args.site.now)) c.args.self.now names (g.E.Source.picks c.args.site.now).names _ (string_bytes c.args.text.now) at
+
+pub loop-before-init : goal.loop-before-init
+loop-before-init g c =
+    let run = c.args.self.now in
+    let timeline = subst (λ (events : List ℕ). IsTimeline c.args.id (worlds_of run.first events) c.in-Ok.timeline) c.as_slice.ensures c.in-Ok.ensures.timeline in
+    let sessions = subst (λ (last : World). HasSessions c.args.id last c.in-Ok.timeline) (sym c.requires.run.last_is) (subst (λ (events : List ℕ). HasSessions c.args.id (last_of run.first events) c.in-Ok.timeline) c.as_slice.ensures c.in-Ok.ensures.sessions) in
+    record {
+      asked = c.of-asked.ensures.asked c.args.id (worlds_of run.first run.events.items) timeline;
+      begun = λ s there. ap (λ v. length v.items) c.of-asked.ensures.begun ∙ sessions s there;
+      went = λ command names s left same there at. at_begin command (file_told (g.E.Source.files c.args.site.now)) run names (g.E.Source.picks c.args.site.now).names c.args.id s left (string_bytes c.args.text.now) at;
+      faults = refl;
+      files = refl;
+      made = refl;
+      wire_faults = refl;
+    }
+
+pub returns-in-Err-hear_session-clause-stopped : goal.returns-in-Err-hear_session-clause-stopped
+returns-in-Err-hear_session-clause-stopped g c = λ command names s left same there at.
+    let run = c.args.self.now in
+    let before = c.loop-before.before in
+    let told = g.E.Source.files c.args.site.now in
+    let told' = g.E.Source.files c.loop-before.site in
+    let files : told' ≡ told = c.loop-before.invariant.files in
+    let count = peer_of (λ (t : PeerState). t.sessions) run.last.peers c.args.id s c.session-before-end.result c.session-before-end.ensures there in
+    let here = at_number command told told' files run names (g.E.Source.picks c.loop-before.site).names c.args.id s before c.session-before-end.result left (string_bytes c.loop-before.text) count c.loop-before-test.true
+    (c.loop-before.invariant.went command names s left same there at) in
+    stopped_then command told told' files (AppendsAll names (g.E.Source.picks c.hear_session.new.site).names) c.in-Err-hear_session.stop
+    (c.in-Err-hear_session.ensures.stopped command names s (sessions_from c.args.id s (before + 1 + 1) (s.sessions - (before + 1)) ++ left) same there c.loop-before.invariant.asked here)
+
+pub loop-before-preserved : goal.loop-before-preserved
+loop-before-preserved g c =
+    let run = c.args.self.now in
+    let before = c.loop-before.before in
+    let told = g.E.Source.files c.args.site.now in
+    let told' = g.E.Source.files c.loop-before.site in
+    let files : told' ≡ told = c.loop-before.invariant.files in
+    record {
+      asked = c.in-Ok-hear_session.ensures.asked c.loop-before.invariant.asked;
+      begun = λ s there. ap (λ v. length v.items) c.hear_session.ensures.begun ∙ c.loop-before.invariant.begun s there;
+      went = λ command names s left same there at.
+          let count = peer_of (λ (t : PeerState). t.sessions) run.last.peers c.args.id s c.session-before-end.result c.session-before-end.ensures there in
+          let more = sessions_from c.args.id s (before + 1 + 1) (s.sessions - (before + 1)) ++ left in
+          let here = at_number command told told' files run names (g.E.Source.picks c.loop-before.site).names c.args.id s before c.session-before-end.result left (string_bytes c.loop-before.text) count c.loop-before-test.true
+          (c.loop-before.invariant.went command names s left same there at) in
+          at_then command told told' files run names (g.E.Source.picks c.hear_session.new.site).names more (string_bytes c.hear_session.new.text)
+          (c.in-Ok-hear_session.ensures.went command names s more same there c.loop-before.invariant.asked here);
+      faults = search rules;
+      files = c.hear_session.ensures.files ∙ files;
+      made = c.hear_session.ensures.made ∙ c.loop-before.invariant.made;
+      wire_faults = c.hear_session.ensures.wire_faults ∙ c.loop-before.invariant.wire_faults;
+    }

@@ -1,0 +1,10 @@
+pub mod Files
+pub mod Sessions
+pub mod Auditing
+pub mod Right
+pub mod Stopping
+pub mod Heard
+pub mod HeardLaws
+pub mod Verdicts
+pub mod Texts
+pub mod Asked

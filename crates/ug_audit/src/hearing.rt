@@ -1,0 +1,143 @@
+//! The sessions of a run, one after another.
+
+ghost use Rattle.std.specs.Prelude.{◌≡◌, ◌≤◌, ◌<◌, ◌∷◌, ◌++◌, [], ℕ, length, slice_get, Option, Some, List, OnOk, IfOk, IfErr, IsErrOf};
+ghost use Rattle.std.specs.String.{string_bytes};
+ghost use Rattle.ug_edge.specs.Told.{Rose, file_told, AppendsAll};
+ghost use Rattle.ug_world.specs.declared.peer_state.PeerState as peers;
+ghost use Rattle.ug_audit.specs.Asked.{IsAsked};
+ghost use Rattle.ug_command_line.specs.Words as words;
+ghost use Rattle.ug_audit.specs.Sessions.{SessionOf, sessions_from, sessions_of};
+ghost use Rattle.ug_audit.specs.Auditing.{worlds_of};
+ghost use Rattle.ug_audit.specs.Stopping.{IsRun, IsAt, IsStopped};
+
+use crate::asked::Asked;
+use crate::certificate::write_session;
+use crate::run::Run;
+use crate::session::{hear_file, refuted};
+use crate::stop::Stop;
+use crate::verdict::Verdict;
+use std::alloc::Global;
+use ug_edge::{Site, Source};
+use ug_timeline::timeline_of;
+use ug_types::{NoMemory, PeerId};
+
+impl Run {
+    /// The certificate of all sessions, which are heard by peer in configured order, and then by number; or why there is none.
+    pub fn certificate<E: Site>(
+        &self,
+        alloc: Global,
+        dir: &str,
+        site: &mut E,
+    ) -> Result<String, Stop>
+        requires { IsRun self.now }
+        ensures went { IfOk result (λ text. (command : words.AuditCommand) (names : Option (List (List ℕ))) → command.dir ≡ dir.now →
+            IsAt command (file_told (E.files site.old)) self.now names (E.picks site.old).names (sessions_of self.now.last) [] →
+            IsAt command (file_told (E.files site.old)) self.now names (E.picks site.new).names [] (string_bytes text)) }
+        ensures stopped { IfErr result (λ stop. (command : words.AuditCommand) (names : Option (List (List ℕ))) → command.dir ≡ dir.now →
+            IsAt command (file_told (E.files site.old)) self.now names (E.picks site.old).names (sessions_of self.now.last) [] →
+            IsStopped command (file_told (E.files site.old)) (AppendsAll names (E.picks site.new).names) stop) }
+        ensures unread { IsErrOf result Stop.Read → Rose (E.faults site.old) (E.faults site.new) }
+        ensures unharmed { (IsErrOf result Stop.Read → ⊥) → E.faults site.new ≡ E.faults site.old }
+        ensures files { E.files site.new ≡ E.files site.old }
+        ensures made { E.made site.new ≡ E.made site.old }
+        ensures wire_faults { E.wire_faults site.new ≡ E.wire_faults site.old }
+    {
+        let mut text = String::new(alloc);
+        for id in 0..self.last.peers() {
+            match self.hear_peer(alloc, dir, id, site, &mut text) {
+                Ok(()) => {}
+                Err(stop) => return Err(stop),
+            }
+        }
+        Ok(text)
+    }
+
+    /// Hears the sessions of a peer, and adds their certificates.
+    fn hear_peer<E: Site>(
+        &self,
+        alloc: Global,
+        dir: &str,
+        id: PeerId,
+        site: &mut E,
+        text: &mut String,
+    ) -> Result<(), Stop>
+        requires run { IsRun self.now }
+        requires id { id < length self.now.last.peers }
+        ensures went { OnOk result ((command : words.AuditCommand) (names : Option (List (List ℕ))) (s : peers.PeerState) (left : List SessionOf) → command.dir ≡ dir.now → slice_get self.now.last.peers id ≡ Some s →
+            IsAt command (file_told (E.files site.old)) self.now names (E.picks site.old).names (sessions_from id s 1 s.sessions ++ left) (string_bytes text.old) →
+            IsAt command (file_told (E.files site.old)) self.now names (E.picks site.new).names left (string_bytes text.new)) }
+        ensures stopped { IfErr result (λ stop. (command : words.AuditCommand) (names : Option (List (List ℕ))) (s : peers.PeerState) (left : List SessionOf) → command.dir ≡ dir.now → slice_get self.now.last.peers id ≡ Some s →
+            IsAt command (file_told (E.files site.old)) self.now names (E.picks site.old).names (sessions_from id s 1 s.sessions ++ left) (string_bytes text.old) →
+            IsStopped command (file_told (E.files site.old)) (AppendsAll names (E.picks site.new).names) stop) }
+        ensures unread { IsErrOf result Stop.Read → Rose (E.faults site.old) (E.faults site.new) }
+        ensures unharmed { (IsErrOf result Stop.Read → ⊥) → E.faults site.new ≡ E.faults site.old }
+        ensures files { E.files site.new ≡ E.files site.old }
+        ensures made { E.made site.new ≡ E.made site.old }
+        ensures wire_faults { E.wire_faults site.new ≡ E.wire_faults site.old }
+    {
+        let timeline = match timeline_of(alloc, &self.first, id, self.events.as_slice()) {
+            Ok(timeline) => timeline,
+            Err(NoMemory) => return Err(Stop::NoMemory),
+        };
+        let mut asked = Asked::of(alloc, timeline);
+        for before in 0..self.last.session(id) {
+            match self.hear_session(alloc, dir, id, before + 1, &mut asked, site, text) {
+                Ok(()) => {}
+                Err(stop) => return Err(stop),
+            }
+        }
+        Ok(())
+    }
+
+    /// Hears a session of a peer, and adds its certificate.
+    fn hear_session<E: Site>(
+        &self,
+        alloc: Global,
+        dir: &str,
+        id: PeerId,
+        number: u32,
+        asked: &mut Asked,
+        site: &mut E,
+        text: &mut String,
+    ) -> Result<(), Stop>
+        requires run { IsRun self.now }
+        requires id { id < length self.now.last.peers }
+        requires some { 0 < number }
+        requires had { number ≤ length asked.old.begun.items }
+        ensures begun { asked.new.begun ≡ asked.old.begun }
+        ensures asked { OnOk result (IsAsked id (worlds_of self.now.first self.now.events.items) asked.old → IsAsked id (worlds_of self.now.first self.now.events.items) asked.new) }
+        ensures went { OnOk result ((command : words.AuditCommand) (names : Option (List (List ℕ))) (s : peers.PeerState) (left : List SessionOf) → command.dir ≡ dir.now → slice_get self.now.last.peers id ≡ Some s →
+            IsAsked id (worlds_of self.now.first self.now.events.items) asked.old →
+            IsAt command (file_told (E.files site.old)) self.now names (E.picks site.old).names (record { place = id; state = s; number = number } ∷ left) (string_bytes text.old) →
+            IsAt command (file_told (E.files site.old)) self.now names (E.picks site.new).names left (string_bytes text.new)) }
+        ensures stopped { IfErr result (λ stop. (command : words.AuditCommand) (names : Option (List (List ℕ))) (s : peers.PeerState) (left : List SessionOf) → command.dir ≡ dir.now → slice_get self.now.last.peers id ≡ Some s →
+            IsAsked id (worlds_of self.now.first self.now.events.items) asked.old →
+            IsAt command (file_told (E.files site.old)) self.now names (E.picks site.old).names (record { place = id; state = s; number = number } ∷ left) (string_bytes text.old) →
+            IsStopped command (file_told (E.files site.old)) (AppendsAll names (E.picks site.new).names) stop) }
+        ensures unread { IsErrOf result Stop.Read → Rose (E.faults site.old) (E.faults site.new) }
+        ensures unharmed { (IsErrOf result Stop.Read → ⊥) → E.faults site.new ≡ E.faults site.old }
+        ensures files { E.files site.new ≡ E.files site.old }
+        ensures made { E.made site.new ≡ E.made site.old }
+        ensures wire_faults { E.wire_faults site.new ≡ E.wire_faults site.old }
+    {
+        match asked.aim(alloc, &self.entries, &self.last, id, number) {
+            Ok(()) => {}
+            Err(NoMemory) => return Err(Stop::NoMemory),
+        }
+        let peer = self.last.peer(id);
+        let verdict = match hear_file(alloc, dir, peer, number, &mut asked.session, site) {
+            Ok(verdict) => verdict,
+            Err(stop) => return Err(stop),
+        };
+        let name = peer.name.text();
+        match verdict {
+            Verdict::Broken(breach) => Err(refuted(alloc, id, name, number, breach)),
+            Verdict::Right { messages, climbs } => {
+                match write_session(text, name, number, messages, &climbs) {
+                    Ok(()) => Ok(()),
+                    Err(NoMemory) => Err(Stop::NoMemory),
+                }
+            }
+        }
+    }
+}

@@ -1,0 +1,22 @@
+//! What a turn of the builder came to, and how many jobs no line asked for were done in it.
+
+/// What a turn came to, and how many jobs were done before.
+#[derive(Drop)]
+pub(crate) struct Prepared<T> {
+    pub(crate) jobs: usize,
+    pub(crate) value: T,
+}
+
+/// How many jobs were done before the next event, and how many packets a queue holds at most.
+#[derive(Clone, Copy, Drop)]
+pub(crate) struct Settled {
+    pub(crate) jobs: usize,
+    pub(crate) room: u32,
+}
+
+impl Settled {
+    /// Whether so many packets may have been formatted that a queue was full, and there are more to format.
+    pub(crate) fn may_be_cut(self) -> bool {
+        self.jobs >= self.room as usize
+    }
+}

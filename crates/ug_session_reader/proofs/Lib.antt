@@ -1,4 +1,0 @@
-pub mod Reading
-pub mod Listening
-pub mod Halting
-pub mod Refuting
