@@ -165,6 +165,17 @@ def ran(words):
     return done.returncode, done.stdout, done.stderr
 
 
+def audited(program, config, path, report, there):
+    """What an audit of a run's files has to say against them; nothing, where each session has its certificate."""
+    with open(there + ".report", "w") as file:
+        file.write(report)
+    code, certificate, errors = ran([program, "audit", config, path, there + ".report", there])
+    sessions = sum(text.startswith("session ") for text in certificate.splitlines())
+    if code or errors or sessions != len(os.listdir(there)):
+        return [f"{there}: the audit ends with {code}, {certificate[:100]}, {sessions} sessions"]
+    return []
+
+
 def try_run(program, number, folder):
     """What is wrong with a run over a workload, with workers or without; nothing, where all is well."""
     peers = 1 + number % 16
@@ -181,6 +192,7 @@ def try_run(program, number, folder):
         os.mkdir(there)
         code, report, errors = ran([program, "run", config, path, there, "--workers", workers])
         lines = report.splitlines()
+        wrong += audited(program, config, path, report, there)
         said = [text for text in lines if not text.startswith("refresh ")]
         if code or errors or said != refusals + [f"accepted {accepted} refused {len(refusals)}"]:
             wrong.append(f"{number} with --workers {workers}: status {code}, {said[-1:]}")
