@@ -7,35 +7,9 @@
 # numbers than these, and ORDERS other orders than `after before`. GROWTH=no leaves out the growth.
 set -e
 source "$(dirname "$0")/measure.sh"
+source bench/fabric.sh
 runs=${RUNS:-3}
 prefixes=${PREFIXES:-200000}
-
-# config PEERS GROUPS COALESCE: that many external peers, of so many groups: each but the first has a map of its own, which lets
-# all through.
-config() {
-    awk -v n="$1" -v groups="$2" -v coalesce="$3" 'BEGIN {
-        printf "[local]\nas = 65001\nrouter_id = \"10.255.0.1\"\ncoalesce = %d\n", coalesce
-        for (i = 1; i < groups; i++) {
-            printf "\n[[route_map]]\nname = \"m%d\"\nentry = [{ seq = 10, action = \"permit\" }]\n", i
-            printf "\n[[policy]]\nname = \"m%d\"\nroute_map = \"m%d\"\n", i, i
-        }
-        for (i = 1; i <= n; i++) {
-            printf "\n[[peer]]\nname = \"p%d\"\nas = %d\nrouter_id = \"10.200.%d.2\"\naddress = \"10.200.%d.2\"\nlocal_address = \"10.200.%d.1\"\nsubnet = \"10.200.%d.0/24\"\n", i, 65100 + i, i, i, i, i
-            if (i % groups > 0) printf "policy = \"m%d\"\n", i % groups
-        } }'
-}
-
-# events PREFIXES PEERS ORDER: the routes, with the sessions of all peers before or after them.
-events() {
-    awk -v n="$1" -v peers="$2" -v order="$3" '
-        function sessions(  i) { for (i = 1; i <= peers; i++) printf "up p%d\n", i }
-        BEGIN {
-            if (order == "after") sessions()
-            for (i = 0; i < n; i++)
-                printf "paths %d.%d.%d.0/24 id=1 from=local nh=0.0.0.0 origin=igp as=- med=%d\n", 20 + int(i / 65536), int(i / 256) % 256, i % 256, int(i / 10)
-            if (order == "before") sessions()
-        }'
-}
 
 # timed WORDS..: the time and the processors' time of the shortest of the runs, in seconds.
 timed() {

@@ -20,7 +20,7 @@ lay() {
     for file in tests/subgroup/*.rt.txt; do
         cp "$file" "$work/copy/crates/beside/src/$(basename "$file" .txt)"
     done
-    echo "beside: ug_groups ug_slow_subgroup ug_outbound ug_prefixlist ug_intern ug_types rand_pcg rand_core" >> "$work/copy/crates.txt"
+    echo "beside: ug_groups ug_slow_subgroup ug_outbound ug_policy ug_intern ug_types rand_pcg rand_core" >> "$work/copy/crates.txt"
 }
 
 # play: its status is whether all plays passed.

@@ -12,41 +12,58 @@ CRATES = pathlib.Path("crates")
 
 
 class Edit:
-    """A wrong body: its pairs of texts in one file, and the function in which the first of them stands."""
+    """A wrong body: its pairs of texts, each with its file, and the function in which the first of them stands."""
 
     def __init__(self, path):
         self.name = re.sub(r"\.edit(\.md)?$", "", path.name)
         self.crate = CRATES / path.parent.parent.name
-        lines = path.read_text().splitlines()
-        texts = [line[5:] for line in lines if line[:5] in ("old: ", "new: ")]
-        self.file = self.crate / next(line[6:] for line in lines if line.startswith("file: "))
-        self.pairs = list(zip(texts[::2], texts[1::2]))
+        self.pairs = []
+        file = old = None
+        for line in path.read_text().splitlines():
+            if line.startswith("file: "):
+                file = self.crate / line[6:]
+            elif line.startswith("old: "):
+                old = line[5:]
+            elif line.startswith("new: "):
+                self.pairs.append((file, old, line[5:]))
+        self.file = self.pairs[0][0]
         self.waited = False
         self.function = self.function_of() if self.file.suffix == ".rt" else None
 
     def function_of(self):
         """The path of the last function that begins before the text, as checks name it without the crate."""
-        path = list(self.file.relative_to(self.crate / "src").with_suffix("").parts)
-        if path[-1] in ("lib", "main"):
-            path.pop()
-        before = self.file.read_text().partition(self.pairs[0][0])[0]
+        path = self.module(self.file)
+        before = self.file.read_text().partition(self.pairs[0][1])[0]
         starts = re.findall(r"^( *)(?:pub(?:\(\w+\))? )?(?:const )?fn (\w+)", before, re.M)
         if not starts:
             return None
         indent, name = starts[-1]
         if indent:
             trait, kind = re.findall(r"^impl(?:<.*?>)? (?:(?:\w+::)*(\w+)(?:<.*>)? for )?(\w+)", before, re.M)[-1]
+            path = path if trait else self.module(self.home_of(kind))
             path.append(kind + trait)
         return "::".join([*path, name])
 
+    def module(self, file):
+        """The path of the module in a file."""
+        path = list(file.relative_to(self.crate / "src").with_suffix("").parts)
+        return path[:-1] if path[-1] in ("lib", "main") else path
+
+    def home_of(self, kind):
+        """The file in which a type is declared, after which checks name its methods, wherever these stand."""
+        declared = re.compile(rf"^(?:pub(?:\(\w+\))? )?(?:struct|enum) {kind}\b", re.M)
+        files = [self.file, *sorted((self.crate / "src").rglob("*.rt"))]
+        return next((file for file in files if declared.search(file.read_text())), self.file)
+
     def apply(self):
         """Puts the wrong texts in, if each right one stands there once."""
-        text = self.file.read_text()
-        for old, new in self.pairs:
-            if text.count(old) != 1:
+        texts = {file: file.read_text() for file, _, _ in self.pairs}
+        for file, old, new in self.pairs:
+            if texts[file].count(old) != 1:
                 return False
-            text = text.replace(old, new)
-        self.file.write_text(text)
+            texts[file] = texts[file].replace(old, new)
+        for file, text in texts.items():
+            file.write_text(text)
         return True
 
 
@@ -73,7 +90,7 @@ def verdict(edit, out):
 
 def tried(batch):
     """The edits of a batch, each with what came of it."""
-    kept = {edit.file: edit.file.read_text() for edit in batch}
+    kept = {file: file.read_text() for edit in batch for file, _, _ in edit.pairs}
     applied = [edit for edit in batch if edit.apply()]
     status, out = check(applied)
     for file, text in kept.items():

@@ -9,7 +9,7 @@ use Rattle.std.proofs.lemmas.Bool.Decides.{nat_tests}
 use Rattle.std.proofs.Math.Seq.{take-append_seam}
 use Rattle.ug_types.specs.declared.named.Named.{Named}
 use Rattle.ug_types.specs.Bytes.{same_bytes}
-use Rattle.ug_prefixlist.specs.Order.{repeats}
+use Rattle.ug_policy.specs.Order.{repeats}
 use Rattle.ug_world.specs.Names.{is_name_among, are_distinct}
 use Rattle.ug_world.specs.Parts.{are_few, names_of}
 use Rattle.ug_fields.specs.Reads.{Refusal, way_into}

@@ -8,11 +8,11 @@ use Rattle.ug_types.specs.Ip.{same_family}
 use Rattle.ug_types.specs.declared.family.Family.TheVariants.{V4}
 use Rattle.ug_types.specs.declared.named.Named.{Named}
 use Rattle.ug_types.specs.Bytes.{same_bytes}
-use Rattle.ug_prefixlist.specs.declared.entry.ListEntry.{ListEntry}
-use Rattle.ug_prefixlist.specs.Lists.{seq_of, is_good}
-use Rattle.ug_prefixlist.specs.Order.{repeats}
-use Rattle.ug_routemap.specs.Rules.{MapRule, rule_seq}
-use Rattle.ug_routemap.specs.Refusals.{is_ahead, is_among, is_known, has_few_sets, sets_origin, map_refusal}
+use Rattle.ug_policy.specs.declared.list_entry.ListEntry.{ListEntry}
+use Rattle.ug_policy.specs.Lists.{seq_of, is_good}
+use Rattle.ug_policy.specs.Order.{repeats}
+use Rattle.ug_policy.specs.Rules.{MapRule, rule_seq}
+use Rattle.ug_policy.specs.Refusals.{is_ahead, is_among, is_known, has_few_sets, sets_origin, map_refusal}
 use Rattle.ug_outbound.specs.declared.peer.Peer.{Peer}
 use Rattle.ug_outbound.specs.Policies.{NamedPolicy}
 use Rattle.ug_world.specs.Parts.{is_local_good, is_ipv4, names_of, peer_names, is_one_of, may_filter, is_map_good, is_policy_good, is_peer_good}

@@ -2,11 +2,11 @@
 use Rattle.std.proofs.Common.{◌≡◌, ℕ, Bool, true, ◌&&◌, List, [], ◌∷◌, map, refl, ap, ◌∙◌}
 use Rattle.std.specs.List.{list_all}
 use Rattle.ug_types.specs.declared.named.Named.{Named}
-use Rattle.ug_prefixlist.specs.Lists.{seq_of}
-use Rattle.ug_prefixlist.specs.Named.{NamedList}
-use Rattle.ug_prefixlist.proofs.Sorting.{ascending_all}
-use Rattle.ug_routemap.specs.Rules.{MapRule, rule_seq}
-use Rattle.ug_routemap.specs.Named.{NamedMap}
+use Rattle.ug_policy.specs.Lists.{seq_of}
+use Rattle.ug_policy.specs.Named.{NamedList}
+use Rattle.ug_policy.proofs.Sorting.{ascending_all}
+use Rattle.ug_policy.specs.Rules.{MapRule, rule_seq}
+use Rattle.ug_policy.specs.NamedMaps.{NamedMap}
 use Rattle.ug_outbound.specs.declared.settings.Local.{Local}
 use Rattle.ug_outbound.specs.declared.peer.Peer.{Peer}
 use Rattle.ug_outbound.specs.Policies.{NamedPolicy}

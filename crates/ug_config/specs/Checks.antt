@@ -3,10 +3,10 @@ use Rattle.std.specs.Prelude.{◌≡◌, ℕ, ◌+◌, nat_lt, ◌==◌, Bool, �
 use Rattle.std.specs.List.{list_any}
 use Rattle.std.specs.Option.{option_or}
 use Rattle.ug_types.specs.declared.named.Named.{Named}
-use Rattle.ug_prefixlist.specs.declared.entry.ListEntry.{ListEntry}
-use Rattle.ug_prefixlist.specs.Lists.{seq_of}
-use Rattle.ug_routemap.specs.Rules.{MapRule, rule_seq}
-use Rattle.ug_routemap.specs.Refusals.{has_few_sets}
+use Rattle.ug_policy.specs.declared.list_entry.ListEntry.{ListEntry}
+use Rattle.ug_policy.specs.Lists.{seq_of}
+use Rattle.ug_policy.specs.Rules.{MapRule, rule_seq}
+use Rattle.ug_policy.specs.Refusals.{has_few_sets}
 use Rattle.ug_outbound.specs.declared.peer.Peer.{Peer}
 use Rattle.ug_outbound.specs.Policies.{NamedPolicy}
 use Rattle.ug_world.specs.Names.{is_name_among}

@@ -5,11 +5,11 @@ use Rattle.ug_types.specs.Ip.{IpAddress, IpPrefix, ipv4}
 use Rattle.ug_types.specs.declared.family.Family.{Family}
 use Rattle.ug_types.specs.declared.family.Family.TheVariants.{V4}
 use Rattle.ug_types.specs.declared.named.Named.{Named}
-use Rattle.ug_prefixlist.specs.declared.entry.ListEntry.{ListEntry}
-use Rattle.ug_prefixlist.specs.Lists.{is_good}
-use Rattle.ug_routemap.specs.declared.entry.OnMatch.TheVariants as on_matches
-use Rattle.ug_routemap.specs.Rules.{MapRule}
-use Rattle.ug_routemap.specs.Refusals.{is_ahead}
+use Rattle.ug_policy.specs.declared.list_entry.ListEntry.{ListEntry}
+use Rattle.ug_policy.specs.Lists.{is_good}
+use Rattle.ug_policy.specs.declared.map_entry.OnMatch.TheVariants as on_matches
+use Rattle.ug_policy.specs.Rules.{MapRule}
+use Rattle.ug_policy.specs.Refusals.{is_ahead}
 use Rattle.ug_outbound.specs.declared.settings.Local.{Local}
 use Rattle.ug_outbound.specs.declared.policy.Policy.{Policy}
 use Rattle.ug_outbound.specs.declared.peer.Peer.{Peer}

@@ -2,11 +2,11 @@
 use Rattle.std.specs.Prelude.{◌≡◌, ℕ, Bool, true, ◌&&◌, List, [], map, is_none, Ok}
 use Rattle.std.specs.List.{list_all}
 use Rattle.ug_types.specs.declared.named.Named.{Named}
-use Rattle.ug_prefixlist.specs.Order.{ascending}
-use Rattle.ug_prefixlist.specs.declared.entry.ListEntry.{ListEntry}
-use Rattle.ug_prefixlist.specs.Lists.{seq_of, list_refusal}
-use Rattle.ug_routemap.specs.Rules.{MapRule, rule_seq}
-use Rattle.ug_routemap.specs.Refusals.{sets_origin, map_refusal}
+use Rattle.ug_policy.specs.Order.{ascending}
+use Rattle.ug_policy.specs.declared.list_entry.ListEntry.{ListEntry}
+use Rattle.ug_policy.specs.Lists.{seq_of, list_refusal}
+use Rattle.ug_policy.specs.Rules.{MapRule, rule_seq}
+use Rattle.ug_policy.specs.Refusals.{sets_origin, map_refusal}
 use Rattle.ug_world.specs.World.{World}
 use Rattle.ug_world.specs.Parts.{is_local_good, are_few, names_of, peer_names, is_map_good, is_policy_good, is_peer_good, fresh}
 use Rattle.ug_fields.specs.Reads.{Reads, ◌>>=◌}

@@ -12,7 +12,7 @@ use crate::setup::Setup;
 use std::alloc::Global;
 use std::marker::PhantomData;
 use ug_fields::{ConfigRefusal, Items};
-use ug_prefixlist::Numbered;
+use ug_policy::Numbered;
 use ug_types::{NameList, Named};
 
 /// 5 over all tables, then 6, then 7, then 8, then 9.

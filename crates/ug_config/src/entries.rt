@@ -1,7 +1,7 @@
 //! Entries of prefix lists.
 
 ghost use Rattle.std.specs.Prelude.{◌≡◌};
-ghost use Rattle.ug_prefixlist.specs.Lists.{is_good};
+ghost use Rattle.ug_policy.specs.Lists.{is_good};
 ghost use Rattle.ug_fields.specs.Gives.{Gives};
 ghost use Rattle.ug_config.specs.Readings.{list_entry, list_entry_of, where_good};
 
@@ -10,7 +10,7 @@ use crate::rows::list_entry_fields;
 use std::alloc::Global;
 use toml::Value;
 use ug_fields::{ConfigRefusal, Field, TableReader, octet_at, refusal};
-use ug_prefixlist::ListEntry;
+use ug_policy::ListEntry;
 
 /// The entries of a prefix list.
 pub struct ListEntries;

@@ -1,15 +1,15 @@
 //! Limits.
 
 ghost use Rattle.std.specs.Prelude.{◌≡◌};
-ghost use Rattle.ug_routemap.specs.Refusals.{has_few_sets, count_in};
-ghost use Rattle.ug_routemap.specs.Rules.{numbers_of};
+ghost use Rattle.ug_policy.specs.Refusals.{has_few_sets, count_in};
+ghost use Rattle.ug_policy.specs.Rules.{numbers_of};
 ghost use Rattle.ug_config.specs.Checks.{long_list, long_map};
 
 use crate::checking::{Check, refuse_where};
 use crate::rule::Rule;
 use std::alloc::Global;
 use ug_fields::{ConfigRefusal, Items};
-use ug_prefixlist::ListEntry;
+use ug_policy::ListEntry;
 use ug_types::{Named, NumberList};
 
 /// A prefix list has at most 1,024 entries.

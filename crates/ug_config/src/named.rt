@@ -10,7 +10,7 @@ use crate::rule::{Rule, Rules};
 use std::alloc::Global;
 use toml::Value;
 use ug_fields::{ConfigRefusal, Field, Items, TableReader, name_at, read_each, refusal, tables_at};
-use ug_prefixlist::ListEntry;
+use ug_policy::ListEntry;
 use ug_types::{Name, Named};
 
 /// The name that a table gives itself, which is required.

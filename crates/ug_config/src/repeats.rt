@@ -2,7 +2,7 @@
 
 ghost use Rattle.std.specs.Prelude.{◌≡◌, ◌==◌};
 ghost use Rattle.std.specs.List.{list_any};
-ghost use Rattle.ug_routemap.specs.Rules.{rule_seq};
+ghost use Rattle.ug_policy.specs.Rules.{rule_seq};
 ghost use Rattle.ug_config.specs.Checks.{repeated_name, repeated_sequence, repeated_in, stands_before};
 
 use crate::checking::{Check, check_each, items_before, refuse_where, way_into};
@@ -11,7 +11,7 @@ use crate::rule::Rule;
 use std::alloc::Global;
 use std::marker::PhantomData;
 use ug_fields::{ConfigRefusal, Items};
-use ug_prefixlist::Numbered;
+use ug_policy::Numbered;
 use ug_types::{Name, Named};
 
 impl Numbered for Rule {

@@ -2,8 +2,8 @@
 
 ghost use Rattle.std.specs.Prelude.{◌≡◌, IfOk};
 ghost use Rattle.toml.specs.View.{view};
-ghost use Rattle.ug_routemap.specs.Rules as rules;
-ghost use Rattle.ug_routemap.specs.Refusals.{leads_ahead};
+ghost use Rattle.ug_policy.specs.Rules as rules;
+ghost use Rattle.ug_policy.specs.Refusals.{leads_ahead};
 ghost use Rattle.ug_fields.specs.Gives.{Gives};
 ghost use Rattle.ug_config.specs.Readings.{rule, rule_of, where_ahead};
 
@@ -16,7 +16,7 @@ use ug_fields::{
     ConfigRefusal, Field, TableReader, address_at, name_at, number_at, numbers_at, octet_at,
     on_match_at, refusal,
 };
-use ug_routemap::{MapEntry, OnMatch};
+use ug_policy::{MapEntry, OnMatch};
 use ug_types::NoMemory;
 
 /// An entry of a route map. Contracts see what it says.
@@ -26,7 +26,7 @@ pub struct Rule {
 }
 
 impl Model for Rule {
-    ghost use Rattle.ug_routemap.specs.Rules.{MapRule, rule_of};
+    ghost use Rattle.ug_policy.specs.Rules.{MapRule, rule_of};
 
     ghost Value = { MapRule };
 

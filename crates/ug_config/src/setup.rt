@@ -15,7 +15,7 @@ use std::marker::Model;
 use toml::Value;
 use ug_fields::{ConfigRefusal, Items, read_each, refusal, tables_at};
 use ug_outbound::{Local, NamedPolicy, Peer};
-use ug_prefixlist::ListEntry;
+use ug_policy::ListEntry;
 use ug_types::Named;
 
 /// What the tables of a configuration say, in their order.

@@ -2,8 +2,8 @@
 
 ghost use Rattle.std.specs.Prelude.{◌≡◌, true, map, IfOk};
 ghost use Rattle.std.specs.List.{list_all};
-ghost use Rattle.ug_prefixlist.specs.Lists.{seq_of};
-ghost use Rattle.ug_routemap.specs.Rules.{rule_of, rule_seq};
+ghost use Rattle.ug_policy.specs.Lists.{seq_of};
+ghost use Rattle.ug_policy.specs.Rules.{rule_of, rule_seq};
 ghost use Rattle.ug_fields.specs.Gives.{Gives};
 ghost use Rattle.ug_config.specs.Checks.{setup};
 ghost use Rattle.ug_config.specs.Worlds.{IsSound, in_order, is_list, is_map, world_of, config};
@@ -14,8 +14,9 @@ use crate::rule::Rule;
 use crate::setup::Setup;
 use std::alloc::Global;
 use ug_fields::{ConfigRefusal, Items};
-use ug_prefixlist::{ListEntry, ListRefusal, ListTable, PrefixList};
-use ug_routemap::{MapEntryList, MapRefusal, MapTable, RouteMap};
+use ug_policy::{
+    ListEntry, ListRefusal, ListTable, MapEntryList, MapRefusal, MapTable, PrefixList, RouteMap,
+};
 use ug_types::{NameList, Named, NoMemory, Sequence};
 use ug_world::{World, WorldParts};
 

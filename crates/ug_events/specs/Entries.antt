@@ -5,8 +5,8 @@ use Rattle.ug_types.specs.Bytes.{same_bytes}
 use Rattle.ug_text.specs.Cutting.{pieces, cut_at}
 use Rattle.ug_text.specs.Numbers.{any_number}
 use Rattle.ug_text.specs.Addresses.{prefix_in}
-use Rattle.ug_prefixlist.specs.declared.entry.ListEntry.{ListEntry}
-use Rattle.ug_prefixlist.specs.Lists.{list_refusal}
+use Rattle.ug_policy.specs.declared.list_entry.ListEntry.{ListEntry}
+use Rattle.ug_policy.specs.Lists.{list_refusal}
 use Rattle.ug_events.specs.Reads.{Reads, bad_words, bad_prefix, refused, or_refused, each_read, ◌>>=◌}
 
 abbrev pub permit_of : List ℕ → Option Bool

@@ -5,9 +5,9 @@ use Rattle.ug_types.specs.declared.family.Family.{Family}
 use Rattle.ug_types.specs.Ip.{IpPrefix}
 use Rattle.ug_types.specs.Attributes.{Attributes, refusal_of}
 use Rattle.ug_message.specs.Spellable.{is_number, is_prefix, has_ipv4_addresses, can_be_spelled}
-use Rattle.ug_prefixlist.specs.declared.entry.ListEntry.{ListEntry}
-use Rattle.ug_prefixlist.specs.Lists.{list_refusal}
-use Rattle.ug_prefixlist.specs.OrfChanges.{OrfRequest, is_change}
+use Rattle.ug_policy.specs.declared.list_entry.ListEntry.{ListEntry}
+use Rattle.ug_policy.specs.Lists.{list_refusal}
+use Rattle.ug_policy.specs.OrfChanges.{OrfRequest, is_change}
 
 -- a path as an event gives it: its identifier, the peer that it is from or none for the speaker itself, and its attributes
 pub record GivenPath : Type 0 where

@@ -2,9 +2,9 @@
 use Rattle.std.specs.Prelude.{ℕ, List, Option, Some, None, Result, Ok, Err}
 use Rattle.hex.specs.Hex.{decode_of}
 use Rattle.hex.specs.declared.error.FromHexError.{FromHexError}
-use Rattle.ug_prefixlist.specs.Requests.{refresh_refusal}
-use Rattle.ug_prefixlist.specs.OrfChanges.{OrfRequest}
-use Rattle.ug_prefixlist.specs.OrfReading.{orf_of}
+use Rattle.ug_policy.specs.Requests.{refresh_refusal}
+use Rattle.ug_policy.specs.OrfChanges.{OrfRequest}
+use Rattle.ug_policy.specs.OrfReading.{orf_of}
 use Rattle.ug_events.specs.Reads.{Reads, bad_words, refused, inner_refused, ◌>>=◌}
 
 abbrev pub decoded : Result (List ℕ) FromHexError → Reads (List ℕ)

@@ -2,7 +2,7 @@
 use Rattle.std.specs.Prelude.{◌≡◌, List, Option, Some, None, Result, Ok, Err}
 use Rattle.std.specs.Option.{option_map}
 use Rattle.ug_text.specs.Lists.{items_of, segments_of}
-use Rattle.ug_prefixlist.specs.OrfViews.{orf_seen}
+use Rattle.ug_policy.specs.OrfViews.{orf_seen}
 use Rattle.ug_events.specs.declared.event.Event.{Event}
 use Rattle.ug_events.specs.declared.event.Event.TheVariants as events
 use Rattle.ug_events.specs.declared.event.Line.{Line}

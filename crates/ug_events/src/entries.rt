@@ -1,7 +1,7 @@
 //! The entries of a `list` line.
 
 ghost use Rattle.std.specs.Prelude.{◌≡◌, None, IfOk};
-ghost use Rattle.ug_prefixlist.specs.Lists.{list_refusal};
+ghost use Rattle.ug_policy.specs.Lists.{list_refusal};
 ghost use Rattle.ug_events.specs.Words.{words};
 ghost use Rattle.ug_events.specs.Reads.{each_read};
 ghost use Rattle.ug_events.specs.Entries.{permit_of, bound_of, bounds_of, entry, entries_of};
@@ -11,7 +11,7 @@ ghost use Rattle.ug_events.specs.Views.{Gives};
 use crate::refusal::LineRefusal;
 use crate::words::next_word;
 use std::alloc::Global;
-use ug_prefixlist::{EntryList, ListEntry, ListRefusal, PrefixList};
+use ug_policy::{EntryList, ListEntry, ListRefusal, PrefixList};
 use ug_text::{cut_at, next_piece, read_number, read_prefix_of};
 use ug_types::{Family, Sequence};
 

@@ -1,7 +1,7 @@
 //! Events, and what a line says.
 
 use std::marker::Model;
-use ug_prefixlist::{EntryList, OrfMessage};
+use ug_policy::{EntryList, OrfMessage};
 use ug_types::{Attrs, Name, Prefix, Sequence, Shared};
 
 /// A path as an event gives it: its identifier, which isn't 0, the peer that it is from, or None where it is the

@@ -1,14 +1,14 @@
 //! Messages of a peer as hexadecimal text.
 
 ghost use Rattle.std.specs.Prelude.{IfOk};
-ghost use Rattle.ug_prefixlist.specs.OrfViews.{orf_seen, AreChanges};
+ghost use Rattle.ug_policy.specs.OrfViews.{orf_seen, AreChanges};
 ghost use Rattle.ug_events.specs.Messages.{bytes_of, request_of, list_of};
 ghost use Rattle.ug_events.specs.Views.{Gives};
 
 use crate::refusal::LineRefusal;
 use hex::FromHexError;
 use std::alloc::Global;
-use ug_prefixlist::{OrfMessage, OrfRefusal, read_orf, read_refresh};
+use ug_policy::{OrfMessage, OrfRefusal, read_orf, read_refresh};
 
 /// The bytes of a text of hexadecimal digits, of either case and even in number.
 fn bytes_of(alloc: Global, word: &[u8]) -> Result<Vec<u8>, LineRefusal>

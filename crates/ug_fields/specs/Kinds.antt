@@ -11,8 +11,8 @@ use Rattle.ug_text.specs.Cutting.{◌>>=◌, cut_at}
 use Rattle.ug_text.specs.Numbers.{positive_number, community}
 use Rattle.ug_text.specs.Addresses.{address_in, prefix_in}
 use Rattle.ug_text.specs.Paths.{origin}
-use Rattle.ug_routemap.specs.declared.entry.OnMatch.{OnMatch}
-use Rattle.ug_routemap.specs.declared.entry.OnMatch.TheVariants as on_matches
+use Rattle.ug_policy.specs.declared.map_entry.OnMatch.{OnMatch}
+use Rattle.ug_policy.specs.declared.map_entry.OnMatch.TheVariants as on_matches
 use Rattle.ug_fields.specs.declared.kind.Kind.{Kind}
 use Rattle.ug_fields.specs.declared.kind.Kind.TheVariants as kinds
 use Rattle.ug_fields.specs.declared.given.Given.{Given}

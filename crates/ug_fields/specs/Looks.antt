@@ -2,8 +2,8 @@
 use Rattle.std.specs.Prelude.{ℕ, Bool, List, [], ◌∷◌, Option, Some, None, if◌then◌else◌}
 use Rattle.ug_types.specs.Ip.{IpAddress, IpPrefix}
 use Rattle.ug_types.specs.Bytes.{same_bytes}
-use Rattle.ug_routemap.specs.declared.entry.OnMatch.{OnMatch}
-use Rattle.ug_routemap.specs.declared.entry.OnMatch.TheVariants as on_matches
+use Rattle.ug_policy.specs.declared.map_entry.OnMatch.{OnMatch}
+use Rattle.ug_policy.specs.declared.map_entry.OnMatch.TheVariants as on_matches
 use Rattle.ug_fields.specs.declared.given.Given.{Given}
 use Rattle.ug_fields.specs.declared.given.Given.TheVariants as givens
 use Rattle.ug_fields.specs.Tables.{Entry}

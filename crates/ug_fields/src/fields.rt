@@ -8,7 +8,7 @@ ghost use Rattle.ug_fields.specs.Looks.{value_at, number_at, octet_at, flag_at, 
 use crate::given::Given;
 use std::alloc::Global;
 use std::marker::Model;
-use ug_routemap::OnMatch;
+use ug_policy::OnMatch;
 use ug_types::{Addr, Name, NoMemory, NumberList, Prefix, Sequence};
 
 /// A field that was read.

@@ -1,5 +1,5 @@
 use crate::items::Items;
-use ug_routemap::OnMatch;
+use ug_policy::OnMatch;
 use ug_types::{Addr, Family, Name, Prefix};
 
 /// What a field says.

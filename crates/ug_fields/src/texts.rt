@@ -8,7 +8,7 @@ ghost use Rattle.ug_fields.specs.Kinds.{action, family, on_match, name, peer_nam
 
 use std::alloc::Global;
 use toml::Value;
-use ug_routemap::OnMatch;
+use ug_policy::OnMatch;
 use ug_text::{cut_at, read_community, read_positive};
 use ug_types::{Family, Name, NoMemory};
 

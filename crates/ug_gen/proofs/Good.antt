@@ -1,8 +1,8 @@
 -- A world can be made of the workload's configuration.
 use Rattle.std.proofs.Common.{◌≡◌, ℕ, ◌≤◌, Bool, true, List, [], ◌∷◌, refl, ◌∙◌, ap}
 use Rattle.std.specs.Fmt.{digits}
-use Rattle.ug_prefixlist.specs.Named.{NamedList}
-use Rattle.ug_routemap.specs.Named.{NamedMap}
+use Rattle.ug_policy.specs.Named.{NamedList}
+use Rattle.ug_policy.specs.NamedMaps.{NamedMap}
 use Rattle.ug_outbound.specs.Policies.{NamedPolicy}
 use Rattle.ug_outbound.specs.declared.settings.Local.{Local}
 use Rattle.ug_outbound.specs.declared.peer.Peer.{Peer}

@@ -7,7 +7,7 @@ use Rattle.rand_pcg.specs.Pcg.{pcg32}
 use Rattle.ug_types.specs.Ip.{IpPrefix, cleared}
 use Rattle.ug_types.specs.declared.family.Family.TheVariants.{V4}
 use Rattle.ug_message.specs.Spellable.{is_prefix, can_be_spelled, has_ipv4_addresses}
-use Rattle.ug_prefixlist.specs.Lists.{list_refusal}
+use Rattle.ug_policy.specs.Lists.{list_refusal}
 use Rattle.ug_events.specs.Events.{GivenPath, Happening, HasPaths, IsEvent, IsGiven, is_in_range}
 use Rattle.ug_speaker.specs.Owes.{AreEvents}
 use Rattle.ug_gen.specs.Draws.{draw}

@@ -4,7 +4,7 @@ use Rattle.std.specs.Fmt.{decimal}
 use Rattle.ug_types.specs.Ip.{IpPrefix, IpAddress, ipv4}
 use Rattle.ug_types.specs.declared.family.Family.TheVariants.{V4}
 use Rattle.ug_types.specs.declared.named.Named.{Named}
-use Rattle.ug_prefixlist.specs.declared.entry.ListEntry.{ListEntry}
+use Rattle.ug_policy.specs.declared.list_entry.ListEntry.{ListEntry}
 use Rattle.ug_outbound.specs.declared.settings.Local.{Local}
 use Rattle.ug_outbound.specs.declared.peer.Peer.{Peer}
 use Rattle.ug_outbound.specs.declared.policy.Policy.{Policy}

@@ -7,7 +7,7 @@ ghost use Rattle.ug_gen.specs.Configuration.{workload_local, workload_peer, work
 use crate::drawing::slash24;
 use std::alloc::Global;
 use ug_outbound::{Local, NamedPolicy, Peer, Policy};
-use ug_prefixlist::{EntryList, ListEntry, ListRefusal, NamedList, PrefixList};
+use ug_policy::{EntryList, ListEntry, ListRefusal, NamedList, PrefixList};
 use ug_types::{Addr, Family, Name, NoMemory, Prefix, RouterId, Sequence};
 use ug_world::{World, WorldParts};
 

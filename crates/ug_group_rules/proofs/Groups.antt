@@ -11,8 +11,8 @@ use Rattle.ug_types.specs.declared.family.Family.TheVariants.{V4, V6}
 use Rattle.ug_types.specs.contracts.family.FamilyPartialEq.TheImpl as family_eq
 use Rattle.ug_types.specs.contracts.compared.NamePartialEq.TheImpl as name_eq
 use Rattle.ug_types.specs.contracts.prefix.PrefixPartialEq.TheImpl as prefix_eq
-use Rattle.ug_prefixlist.specs.declared.entry.ListEntry.{ListEntry}
-use Rattle.ug_prefixlist.specs.contracts.entry.ListEntryPartialEq.TheImpl as entry_eq
+use Rattle.ug_policy.specs.declared.list_entry.ListEntry.{ListEntry}
+use Rattle.ug_policy.specs.contracts.list_entry.ListEntryPartialEq.TheImpl as entry_eq
 use Rattle.ug_outbound.specs.declared.kind.Kind.{Kind}
 use Rattle.ug_outbound.specs.declared.kind.Kind.TheVariants.{External, Internal, Client}
 use Rattle.ug_outbound.specs.declared.key.GroupKey.{GroupKey}

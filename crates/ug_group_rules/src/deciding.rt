@@ -2,12 +2,11 @@
 
 ghost use Rattle.std.specs.Prelude.{◌≡◌, map};
 ghost use Rattle.std.specs.List.{list_any};
-ghost use Rattle.ug_routemap.specs.Rules.{rule_of};
+ghost use Rattle.ug_policy.specs.Rules.{rule_of};
 ghost use Rattle.ug_world.specs.Touches.{asks, decides_for, is_asked_in, is_called};
 
 use ug_outbound::{GroupKey, Policies};
-use ug_prefixlist::find_named;
-use ug_routemap::{MapEntry, RouteMap};
+use ug_policy::{MapEntry, RouteMap, find_named};
 use ug_types::Name;
 
 /// Whether the prefix list of that name is the one of the key, or its route map asks it. To no other key do its entries matter.

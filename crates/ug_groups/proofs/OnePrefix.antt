@@ -14,8 +14,8 @@ use Rattle.ug_types.specs.declared.route.Path.{Path}
 use Rattle.ug_types.specs.declared.route.OutAttrs.{OutAttrs}
 use Rattle.ug_outbound.specs.declared.key.GroupKey.{GroupKey}
 use Rattle.ug_outbound.specs.Outbound.{out, communities_allow, reflection_allows, finished, reflected, mapped_towards}
-use Rattle.ug_prefixlist.specs.Named.{is_permitted}
-use Rattle.ug_prefixlist.specs.Filters.{filter_permits}
+use Rattle.ug_policy.specs.Named.{is_permitted}
+use Rattle.ug_policy.specs.Filters.{filter_permits}
 use Rattle.ug_world.specs.World.{World, paths_to}
 use Rattle.ug_world.specs.Private.{path_at, wanted}
 use Rattle.ug_adjout_rules.specs.Tables.{has, value_at, IsTable}

@@ -6,7 +6,7 @@ use Rattle.ug_types.specs.Ip.{IpPrefix, same_family}
 use Rattle.ug_types.specs.Keys.{same_prefix}
 use Rattle.ug_types.specs.declared.key.Key.{Key}
 use Rattle.ug_types.specs.declared.route.Path.{Path}
-use Rattle.ug_prefixlist.specs.Order.{placed, ascending}
+use Rattle.ug_policy.specs.Order.{placed, ascending}
 use Rattle.ug_events.specs.Events.{Happening, ComesUp, GoesDown, HasPaths, HasNone, HasPolicy, HasEntries, AsksAgain, SendsRequest, SendsList}
 use Rattle.ug_outbound.specs.declared.key.GroupKey.{GroupKey}
 use Rattle.ug_speaker.proofs.SameKeys.{prefix-is}

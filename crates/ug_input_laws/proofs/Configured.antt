@@ -7,8 +7,8 @@ use Rattle.toml.specs.Data.{Data}
 use Rattle.ug_types.specs.Ip.{IpAddress, ipv4, same_family, cleared}
 use Rattle.ug_types.specs.declared.family.Family.TheVariants.{V4}
 use Rattle.ug_types.specs.declared.named.Named.{Named}
-use Rattle.ug_routemap.specs.Rules.{MapRule}
-use Rattle.ug_routemap.specs.Refusals.{is_ahead}
+use Rattle.ug_policy.specs.Rules.{MapRule}
+use Rattle.ug_policy.specs.Refusals.{is_ahead}
 use Rattle.ug_outbound.specs.declared.settings.Local.{Local}
 use Rattle.ug_outbound.specs.declared.peer.Peer.{Peer}
 use Rattle.ug_outbound.specs.Outbound.{number_of_address}

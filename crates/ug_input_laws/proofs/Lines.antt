@@ -2,11 +2,11 @@
 use Rattle.std.proofs.Common.{◌≡◌, ℕ, Bool, true, false, List, [], ◌∷◌, length, Option, Some, None, Result, Ok, Err, refl, subst, nat_lt}
 use Rattle.std.specs.Prelude.{if◌then◌else◌}
 use Rattle.ug_text.specs.Addresses.{prefix}
-use Rattle.ug_prefixlist.specs.declared.entry.ListEntry.{ListEntry}
-use Rattle.ug_prefixlist.specs.Lists.{list_refusal}
-use Rattle.ug_prefixlist.specs.OrfChanges.{OrfRequest}
-use Rattle.ug_prefixlist.specs.OrfViews.{AreChanges}
-use Rattle.ug_prefixlist.specs.OrfReading.{orf_of}
+use Rattle.ug_policy.specs.declared.list_entry.ListEntry.{ListEntry}
+use Rattle.ug_policy.specs.Lists.{list_refusal}
+use Rattle.ug_policy.specs.OrfChanges.{OrfRequest}
+use Rattle.ug_policy.specs.OrfViews.{AreChanges}
+use Rattle.ug_policy.specs.OrfReading.{orf_of}
 use Rattle.ug_events.specs.declared.verb.Verb.{Verb}
 use Rattle.ug_events.specs.declared.verb.Verb.TheVariants as verbs
 use Rattle.ug_events.specs.Events.{Happening, ComesUp, GoesDown, HasPaths, HasNone, HasPolicy, HasEntries, AsksAgain, SendsRequest, SendsList, IsEvent, SaysNothing, Says}

@@ -5,12 +5,12 @@ use Rattle.std.specs.List.{list_all}
 use Rattle.ug_types.specs.declared.named.Named.{Named}
 use Rattle.ug_types.specs.declared.family.Family.TheVariants.{V4}
 use Rattle.ug_types.specs.Bytes.{same_bytes}
-use Rattle.ug_prefixlist.specs.Named.{value_named}
-use Rattle.ug_prefixlist.specs.Order.{ascending, repeats}
-use Rattle.ug_prefixlist.specs.Lists.{seq_of}
-use Rattle.ug_prefixlist.proofs.Sorting.{ascending_all, ascending_sum}
-use Rattle.ug_routemap.specs.Rules.{MapRule, rule_seq}
-use Rattle.ug_routemap.specs.Refusals.{is_ahead, is_known, count_in, has_few_sets, refusal_where, map_refusal}
+use Rattle.ug_policy.specs.Named.{value_named}
+use Rattle.ug_policy.specs.Order.{ascending, repeats}
+use Rattle.ug_policy.specs.Lists.{seq_of}
+use Rattle.ug_policy.proofs.Sorting.{ascending_all, ascending_sum}
+use Rattle.ug_policy.specs.Rules.{MapRule, rule_seq}
+use Rattle.ug_policy.specs.Refusals.{is_ahead, is_known, count_in, has_few_sets, refusal_where, map_refusal}
 use Rattle.ug_outbound.specs.declared.peer.Peer.{Peer}
 use Rattle.ug_outbound.specs.Outbound.{number_of_address}
 use Rattle.ug_outbound.specs.Bounds.{FewSets, SetsFew}

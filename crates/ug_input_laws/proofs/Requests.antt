@@ -1,14 +1,14 @@
 -- What a message of a peer's own list says keeps the rules of its changes.
 use Rattle.std.proofs.Common.{◌≡◌, ℕ, zero, suc, ◌-◌, Bool, true, false, List, [], ◌∷◌, ◌++◌, drop, length, Option, Some, None, Result, Ok, Err, refl, subst, nat_lt}
 use Rattle.std.specs.Prelude.{◌==◌, slice_index, slice_range, if◌then◌else◌}
-use Rattle.ug_prefixlist.specs.declared.entry.ListEntry.{ListEntry}
-use Rattle.ug_prefixlist.specs.Lists.{is_good}
-use Rattle.ug_prefixlist.specs.declared.orf_action.Action.TheVariants.{Add, Remove}
-use Rattle.ug_prefixlist.specs.OrfChanges.{OrfChange, OrfRequest}
-use Rattle.ug_prefixlist.specs.OrfViews.{AreChanges}
-use Rattle.ug_prefixlist.specs.OrfWalking.{◌>>=◌, all_behind, all_in}
-use Rattle.ug_prefixlist.specs.OrfReading.{action_field, permit_field, len_field, entry_size, entry_field, all_go, is_about, added_or_removed, entry_at, block_size, entries_of_type, sized, block_at, when_field, head_refusal, request_of, where_no_refusal, orf_of}
-use Rattle.ug_prefixlist.proofs.OrfWalks.{all_good, one_good}
+use Rattle.ug_policy.specs.declared.list_entry.ListEntry.{ListEntry}
+use Rattle.ug_policy.specs.Lists.{is_good}
+use Rattle.ug_policy.specs.declared.orf_action.Action.TheVariants.{Add, Remove}
+use Rattle.ug_policy.specs.OrfChanges.{OrfChange, OrfRequest}
+use Rattle.ug_policy.specs.OrfViews.{AreChanges}
+use Rattle.ug_policy.specs.OrfWalking.{◌>>=◌, all_behind, all_in}
+use Rattle.ug_policy.specs.OrfReading.{action_field, permit_field, len_field, entry_size, entry_field, all_go, is_about, added_or_removed, entry_at, block_size, entries_of_type, sized, block_at, when_field, head_refusal, request_of, where_no_refusal, orf_of}
+use Rattle.ug_policy.proofs.OrfWalks.{all_good, one_good}
 
 abbrev read_as : {A : Type 0} → A → Result A ℕ
 read_as x = Ok x

@@ -14,12 +14,12 @@ use Rattle.ug_types.specs.declared.route.Learned.{Learned}
 use Rattle.ug_types.specs.declared.route.Learned.TheVariants as learned
 use Rattle.ug_types.specs.declared.route.Path.{Path}
 use Rattle.ug_types.specs.declared.route.OutAttrs.{OutAttrs}
-use Rattle.ug_aspath.proofs.Kept.{both}
-use Rattle.ug_prefixlist.specs.Named.{NamedList, value_named}
-use Rattle.ug_routemap.specs.declared.mapped.Mapped.{Mapped}
-use Rattle.ug_routemap.specs.Rules.{MapRule}
-use Rattle.ug_routemap.specs.Maps.{holds, is_met, added, with_sets, mapped_by, unmapped, so_far, goes_to, goes_on, map_walk}
-use Rattle.ug_routemap.specs.Refusals.{count_in, prepends_in, communities_in}
+use Rattle.ug_policy.proofs.KeptSegments.{both}
+use Rattle.ug_policy.specs.Named.{NamedList, value_named}
+use Rattle.ug_policy.specs.declared.mapped.Mapped.{Mapped}
+use Rattle.ug_policy.specs.Rules.{MapRule}
+use Rattle.ug_policy.specs.Maps.{holds, is_met, added, with_sets, mapped_by, unmapped, so_far, goes_to, goes_on, map_walk}
+use Rattle.ug_policy.specs.Refusals.{count_in, prepends_in, communities_in}
 use Rattle.ug_outbound.specs.declared.settings.Local.{Local}
 use Rattle.ug_outbound.specs.declared.kind.Kind.{Kind}
 use Rattle.ug_outbound.specs.declared.kind.Kind.TheVariants.{External, Internal, Client}

@@ -7,9 +7,9 @@ use Rattle.ug_types.specs.declared.route.Learned.{Learned}
 use Rattle.ug_types.specs.declared.route.Learned.TheVariants as learned
 use Rattle.ug_types.specs.declared.route.Path.{Path}
 use Rattle.ug_types.specs.declared.route.OutAttrs.{OutAttrs}
-use Rattle.ug_aspath.specs.Paths.{begins_with_room, sequence, prepended}
-use Rattle.ug_routemap.specs.declared.mapped.Mapped.{Mapped}
-use Rattle.ug_routemap.specs.Maps.{holds}
+use Rattle.ug_policy.specs.Paths.{begins_with_room, sequence, prepended}
+use Rattle.ug_policy.specs.declared.mapped.Mapped.{Mapped}
+use Rattle.ug_policy.specs.Maps.{holds}
 use Rattle.ug_outbound.specs.declared.settings.Local.{Local}
 use Rattle.ug_outbound.specs.declared.kind.Kind.{Kind}
 use Rattle.ug_outbound.specs.declared.kind.Kind.TheVariants.{External, Internal, Client}

@@ -5,8 +5,8 @@ use Rattle.std.specs.List.{list_all}
 use Rattle.ug_types.specs.Attributes.{PathSegment, Attributes, is_segment, is_well_formed}
 use Rattle.ug_types.specs.declared.route.Learned.{Learned}
 use Rattle.ug_types.specs.declared.route.Learned.TheVariants as learned
-use Rattle.ug_aspath.specs.Paths.{AreSegments}
-use Rattle.ug_aspath.proofs.Kept.{both, and_true, prepended_kept, overridden_kept, without_private_kept}
+use Rattle.ug_policy.specs.Paths.{AreSegments}
+use Rattle.ug_policy.proofs.KeptSegments.{both, and_true, prepended_kept, overridden_kept, without_private_kept}
 use Rattle.ug_outbound.specs.declared.settings.Local.{Local}
 use Rattle.ug_outbound.specs.declared.kind.Kind.{Kind}
 use Rattle.ug_outbound.specs.declared.kind.Kind.TheVariants.{External, Internal, Client}

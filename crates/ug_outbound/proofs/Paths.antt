@@ -6,9 +6,9 @@ use Rattle.std.proofs.lemmas.Bool.Decides.{nat_tests}
 use Rattle.std.proofs.lemmas.List.{length-map}
 use Rattle.std.proofs.lemmas.List.Sums.{sum_by-cons}
 use Rattle.ug_types.specs.Attributes.{PathSegment, numbers_in}
-use Rattle.ug_aspath.specs.Paths.{is_private, with_numbers, public_numbers, has_numbers, without_private, in_place_of, replaced, overridden, sequence, prepended}
-use Rattle.ug_aspath.proofs.Kept.{length_filter}
-use Rattle.ug_routemap.specs.Maps.{all_prepended}
+use Rattle.ug_policy.specs.Paths.{is_private, with_numbers, public_numbers, has_numbers, without_private, in_place_of, replaced, overridden, sequence, prepended}
+use Rattle.ug_policy.proofs.KeptSegments.{length_filter}
+use Rattle.ug_policy.specs.Maps.{all_prepended}
 use Rattle.ug_outbound.specs.declared.kind.Kind.{Kind}
 use Rattle.ug_outbound.specs.declared.kind.Kind.TheVariants.{External, Internal, Client}
 use Rattle.ug_outbound.specs.declared.settings.Local.{Local}

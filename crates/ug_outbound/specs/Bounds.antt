@@ -1,10 +1,10 @@
 -- How much a route map may add, and what stands first in AS_PATH.
 use Rattle.std.specs.Prelude.{◌≡◌, ℕ, true, List, [], ◌∷◌, Option, Some, None}
 use Rattle.ug_types.specs.Attributes.{PathSegment}
-use Rattle.ug_prefixlist.specs.Named.{value_named}
-use Rattle.ug_routemap.specs.Rules.{MapRule}
-use Rattle.ug_routemap.specs.Refusals.{has_few_sets}
-use Rattle.ug_routemap.specs.Named.{NamedMap}
+use Rattle.ug_policy.specs.Named.{value_named}
+use Rattle.ug_policy.specs.Rules.{MapRule}
+use Rattle.ug_policy.specs.Refusals.{has_few_sets}
+use Rattle.ug_policy.specs.NamedMaps.{NamedMap}
 
 abbrev pub FewSets : Option (List MapRule) → Type 0
 FewSets None = Unit {0}

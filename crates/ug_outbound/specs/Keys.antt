@@ -1,7 +1,7 @@
 -- Group keys: what decides what goes out to a peer. Peers of equal keys are sent the same routes but for the next hop.
 use Rattle.std.specs.Prelude.{ℕ, ◌==◌, List, Some, None, if◌then◌else◌}
 use Rattle.ug_types.specs.declared.route.PeerEnds.{PeerEnds}
-use Rattle.ug_prefixlist.specs.declared.entry.ListEntry.{ListEntry}
+use Rattle.ug_policy.specs.declared.list_entry.ListEntry.{ListEntry}
 use Rattle.ug_outbound.specs.declared.settings.Local.{Local}
 use Rattle.ug_outbound.specs.declared.peer.Peer.{Peer}
 use Rattle.ug_outbound.specs.declared.kind.Kind.{Kind}

@@ -12,12 +12,12 @@ use Rattle.ug_types.specs.declared.route.Path.{Path}
 use Rattle.ug_types.specs.declared.route.NhKind.{NhKind}
 use Rattle.ug_types.specs.declared.route.NhKind.TheVariants as kinds
 use Rattle.ug_types.specs.declared.route.OutAttrs.{OutAttrs}
-use Rattle.ug_aspath.specs.Paths.{without_private, overridden, prepended}
-use Rattle.ug_prefixlist.specs.Named.{NamedList, value_named, is_permitted}
-use Rattle.ug_prefixlist.specs.Filters.{filter_permits}
-use Rattle.ug_routemap.specs.declared.mapped.Mapped.{Mapped}
-use Rattle.ug_routemap.specs.Rules.{MapRule}
-use Rattle.ug_routemap.specs.Maps.{holds, unmapped, map_result}
+use Rattle.ug_policy.specs.Paths.{without_private, overridden, prepended}
+use Rattle.ug_policy.specs.Named.{NamedList, value_named, is_permitted}
+use Rattle.ug_policy.specs.Filters.{filter_permits}
+use Rattle.ug_policy.specs.declared.mapped.Mapped.{Mapped}
+use Rattle.ug_policy.specs.Rules.{MapRule}
+use Rattle.ug_policy.specs.Maps.{holds, unmapped, map_result}
 use Rattle.ug_outbound.specs.declared.settings.Local.{Local}
 use Rattle.ug_outbound.specs.declared.kind.Kind.{Kind}
 use Rattle.ug_outbound.specs.declared.kind.Kind.TheVariants.{External, Internal, Client}

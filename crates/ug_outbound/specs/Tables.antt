@@ -1,7 +1,7 @@
 -- Lists and maps by name, as plain data.
 use Rattle.std.specs.Prelude.{List}
-use Rattle.ug_prefixlist.specs.Named.{NamedList}
-use Rattle.ug_routemap.specs.Named.{NamedMap}
+use Rattle.ug_policy.specs.Named.{NamedList}
+use Rattle.ug_policy.specs.NamedMaps.{NamedMap}
 
 pub record Tables : Type 0 where
   pub lists : List NamedList

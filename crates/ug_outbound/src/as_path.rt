@@ -8,7 +8,7 @@ use crate::key::GroupKey;
 use crate::kind::Kind;
 use crate::settings::Local;
 use std::alloc::Global;
-use ug_aspath::{drop_private, override_as, prepend};
+use ug_policy::{drop_private, override_as, prepend};
 use ug_types::{NoMemory, SegmentList};
 
 /// Private numbers go and the peer's own becomes the local one, where the key says so; then the local AS stands in

@@ -1,5 +1,5 @@
 use crate::kind::Kind;
-use ug_prefixlist::Filter;
+use ug_policy::Filter;
 use ug_types::{Family, Name};
 
 /// What decides what goes out to a peer. Peers of equal keys are sent the same routes but for the next hop.

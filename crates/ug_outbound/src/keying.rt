@@ -1,7 +1,7 @@
 //! The group key of a peer.
 
 ghost use Rattle.std.specs.Prelude.{◌≡◌, Some, None, IfOk, if◌then◌else◌};
-ghost use Rattle.ug_prefixlist.specs.Filters.{IsFilter};
+ghost use Rattle.ug_policy.specs.Filters.{IsFilter};
 ghost use Rattle.ug_outbound.specs.Keys.{kind_of, group_key_of, limit_of};
 
 use crate::key::GroupKey;
@@ -10,7 +10,7 @@ use crate::peer::Peer;
 use crate::policy::Policy;
 use crate::settings::Local;
 use std::alloc::Global;
-use ug_prefixlist::{EntryList, Filter};
+use ug_policy::{EntryList, Filter};
 use ug_types::{Name, NoMemory};
 
 impl GroupKey {

@@ -7,7 +7,7 @@ ghost use Rattle.ug_message.specs.Spelling.{attributes, attributes_but_next_hop}
 ghost use Rattle.ug_types.specs.declared.route.Learned.TheVariants as learned;
 ghost use Rattle.ug_types.specs.declared.route.Path.{Path};
 ghost use Rattle.ug_types.specs.declared.route.OutAttrs.{OutAttrs};
-ghost use Rattle.ug_routemap.specs.Maps.{holds};
+ghost use Rattle.ug_policy.specs.Maps.{holds};
 ghost use Rattle.ug_outbound.specs.declared.settings.Local.{Local};
 ghost use Rattle.ug_outbound.specs.declared.kind.Kind.TheVariants as kinds;
 ghost use Rattle.ug_outbound.specs.declared.key.GroupKey.{GroupKey};

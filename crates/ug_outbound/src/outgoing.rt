@@ -16,8 +16,7 @@ use crate::rules::{
 use crate::settings::Local;
 use std::alloc::Global;
 use std::sync::ledger::Ledger;
-use ug_prefixlist::{find_named, is_permitted};
-use ug_routemap::Mapped;
+use ug_policy::{Mapped, find_named, is_permitted};
 use ug_types::{
     Addr, AttrParts, Attrs, Family, Learned, Name, NoMemory, OutAttrs, Path, Prefix, Shared, Steps,
 };

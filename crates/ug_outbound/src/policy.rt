@@ -1,6 +1,5 @@
 use std::marker::Model;
-use ug_prefixlist::ListTable;
-use ug_routemap::MapTable;
+use ug_policy::{ListTable, MapTable};
 use ug_types::{Name, Named, Sequence};
 
 /// Which prefix list and which route map filter what a peer is sent.

@@ -10,7 +10,7 @@ use crate::slow_fields::refused;
 use crate::slow_words::parts_of;
 use std::alloc::Global;
 use ug_events::LineRefusal;
-use ug_prefixlist::{EntryList, ListEntry, ListRefusal, PrefixList};
+use ug_policy::{EntryList, ListEntry, ListRefusal, PrefixList};
 use ug_text::{cut_at, read_number, read_prefix_of};
 use ug_types::{ByteList, Family, Sequence};
 

@@ -7,7 +7,7 @@ ghost use Rattle.ug_events.specs.Fields.{name_of};
 ghost use Rattle.ug_events.specs.Grammar.{said, word_of, one_word, prefix_word, policy_of, verb_of, line_of};
 ghost use Rattle.ug_events.specs.declared.verb.Verb.TheVariants as verbs;
 ghost use Rattle.ug_events.specs.Views.{Gives, saying_of};
-ghost use Rattle.ug_prefixlist.specs.OrfViews.{orf_seen};
+ghost use Rattle.ug_policy.specs.OrfViews.{orf_seen};
 ghost use Rattle.ug_events.specs.Words.{begins_with, without_return};
 ghost use Rattle.ug_slow_world.specs.Slow.{texts, said_by};
 
@@ -18,7 +18,7 @@ use crate::slow_words::words_of;
 use hex::FromHexError;
 use std::alloc::Global;
 use ug_events::{Event, Line, LineRefusal};
-use ug_prefixlist::{OrfMessage, OrfRefusal, read_orf, read_refresh};
+use ug_policy::{OrfMessage, OrfRefusal, read_orf, read_refresh};
 use ug_text::read_prefix;
 use ug_types::{ByteList, Name, Prefix, Shared};
 

@@ -3,14 +3,14 @@ use Rattle.std.proofs.Common.{◌≡◌, ℕ, suc, ◌+◌, ◌<◌, ◌≤◌, 
 use Rattle.std.proofs.Math.Seq.{take-suc}
 use Rattle.std.specs.Prelude.{◌==◌, if◌then◌else◌}
 use Rattle.std.proofs.lemmas.Bool.Decides.{nat_tests}
-use Rattle.ug_prefixlist.specs.declared.entry.ListEntry.{ListEntry}
-use Rattle.ug_prefixlist.specs.Order.{rises, rises_above}
-use Rattle.ug_prefixlist.specs.Lists.{seq_of}
-use Rattle.ug_prefixlist.specs.declared.orf_action.Action.{Action}
-use Rattle.ug_prefixlist.specs.declared.orf_action.Action.TheVariants.{Add, Remove, RemoveAll}
-use Rattle.ug_prefixlist.specs.OrfChanges.{OrfChange}
-use Rattle.ug_prefixlist.specs.OrfApplying.{with_entry, without_sequence, changed_by, applied}
-use Rattle.ug_prefixlist.proofs.OrfChanged.{rises_with, rises_without}
+use Rattle.ug_policy.specs.declared.list_entry.ListEntry.{ListEntry}
+use Rattle.ug_policy.specs.Order.{rises, rises_above}
+use Rattle.ug_policy.specs.Lists.{seq_of}
+use Rattle.ug_policy.specs.declared.orf_action.Action.{Action}
+use Rattle.ug_policy.specs.declared.orf_action.Action.TheVariants.{Add, Remove, RemoveAll}
+use Rattle.ug_policy.specs.OrfChanges.{OrfChange}
+use Rattle.ug_policy.specs.OrfApplying.{with_entry, without_sequence, changed_by, applied}
+use Rattle.ug_policy.proofs.OrfChanged.{rises_with, rises_without}
 use Rattle.ug_world.specs.Filtered.{has_seq, has_then, count_then}
 use Rattle.ug_world.proofs.Relisting.{neither}
 

@@ -15,13 +15,13 @@ use Rattle.ug_types.specs.declared.route.OutAttrs.{OutAttrs}
 use Rattle.ug_types.specs.declared.route.PeerEnds.{PeerEnds}
 use Rattle.ug_types.specs.declared.route.Path.{Path}
 use Rattle.ug_types.specs.Bytes.{same_bytes}
-use Rattle.ug_aspath.specs.Paths.{is_private, with_numbers, public_numbers, has_numbers as has_some, without_private, in_place_of, replaced, overridden, sequence, begins_with_room, prepended}
-use Rattle.ug_aspath.proofs.Kept.{prepended_kept, overridden_kept, without_private_kept}
-use Rattle.ug_prefixlist.specs.Named.{value_named}
-use Rattle.ug_routemap.specs.declared.mapped.Mapped.{Mapped}
-use Rattle.ug_routemap.specs.Rules.{MapRule}
-use Rattle.ug_routemap.specs.Named.{NamedMap}
-use Rattle.ug_routemap.specs.Maps.{is_met, holds, all_prepended, with_one, added, with_sets, mapped_by, unmapped, so_far, goes_to, goes_on, map_walk}
+use Rattle.ug_policy.specs.Paths.{is_private, with_numbers, public_numbers, has_numbers as has_some, without_private, in_place_of, replaced, overridden, sequence, begins_with_room, prepended}
+use Rattle.ug_policy.proofs.KeptSegments.{prepended_kept, overridden_kept, without_private_kept}
+use Rattle.ug_policy.specs.Named.{value_named}
+use Rattle.ug_policy.specs.declared.mapped.Mapped.{Mapped}
+use Rattle.ug_policy.specs.Rules.{MapRule}
+use Rattle.ug_policy.specs.NamedMaps.{NamedMap}
+use Rattle.ug_policy.specs.Maps.{is_met, holds, all_prepended, with_one, added, with_sets, mapped_by, unmapped, so_far, goes_to, goes_on, map_walk}
 use Rattle.ug_rewrite.specs.NextHops.{address_alone, same_address, next_hop, told_to}
 use Rattle.ug_outbound.specs.Tables.{Tables}
 use Rattle.ug_outbound.specs.declared.settings.Local.{Local}

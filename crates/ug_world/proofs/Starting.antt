@@ -4,7 +4,7 @@ use Rattle.std.specs.Prelude.{nat_le, nat_lt, not, if◌then◌else◌}
 use Rattle.std.specs.List.{list_all}
 use Rattle.std.proofs.lemmas.List.{length-map}
 use Rattle.ug_types.specs.Ip.{IpPrefix}
-use Rattle.ug_prefixlist.specs.Order.{repeats}
+use Rattle.ug_policy.specs.Order.{repeats}
 use Rattle.ug_outbound.specs.declared.peer.Peer.{Peer}
 use Rattle.ug_events.specs.Events.{GivenPath, HasPaths}
 use Rattle.ug_world.specs.declared.parts.WorldParts.{WorldParts}

@@ -3,12 +3,12 @@ use Rattle.std.specs.Prelude.{ℕ, ◌+◌, true, false, List, [], map, Option, 
 use Rattle.std.specs.Map.{remove_entry}
 use Rattle.ug_types.specs.Keys.{same_prefix}
 use Rattle.ug_types.specs.Bytes.{same_bytes}
-use Rattle.ug_prefixlist.specs.Order.{ascending}
-use Rattle.ug_prefixlist.specs.Lists.{seq_of}
-use Rattle.ug_prefixlist.specs.Named.{NamedList}
-use Rattle.ug_prefixlist.specs.declared.entry.ListEntry.{ListEntry}
-use Rattle.ug_prefixlist.specs.OrfChanges.{OrfRequest}
-use Rattle.ug_prefixlist.specs.OrfApplying.{applied}
+use Rattle.ug_policy.specs.Order.{ascending}
+use Rattle.ug_policy.specs.Lists.{seq_of}
+use Rattle.ug_policy.specs.Named.{NamedList}
+use Rattle.ug_policy.specs.declared.list_entry.ListEntry.{ListEntry}
+use Rattle.ug_policy.specs.OrfChanges.{OrfRequest}
+use Rattle.ug_policy.specs.OrfApplying.{applied}
 use Rattle.ug_events.specs.Events.{Happening, ComesUp, GoesDown, HasPaths, HasNone, HasPolicy, HasEntries, AsksAgain, SendsRequest, SendsList}
 use Rattle.ug_world.specs.declared.peer_state.PeerState.{PeerState}
 use Rattle.ug_world.specs.World.{Routes, World}

@@ -1,10 +1,10 @@
 -- Which sequences a filter has as it is changed.
 use Rattle.std.specs.Prelude.{ℕ, ◌+◌, ◌-◌, ◌==◌, Bool, true, false, ◌&&◌, ◌||◌, not, List, Option, Some, None}
 use Rattle.std.specs.List.{list_any}
-use Rattle.ug_prefixlist.specs.declared.entry.ListEntry.{ListEntry}
-use Rattle.ug_prefixlist.specs.declared.orf_action.Action.{Action}
-use Rattle.ug_prefixlist.specs.declared.orf_action.Action.TheVariants.{Add, Remove, RemoveAll}
-use Rattle.ug_prefixlist.specs.OrfChanges.{OrfChange}
+use Rattle.ug_policy.specs.declared.list_entry.ListEntry.{ListEntry}
+use Rattle.ug_policy.specs.declared.orf_action.Action.{Action}
+use Rattle.ug_policy.specs.declared.orf_action.Action.TheVariants.{Add, Remove, RemoveAll}
+use Rattle.ug_policy.specs.OrfChanges.{OrfChange}
 
 -- an entry of that sequence is there
 abbrev pub has_seq : ℕ → List ListEntry → Bool

@@ -10,8 +10,8 @@ use Rattle.ug_types.specs.declared.route.Path.{Path}
 use Rattle.ug_types.specs.Ip.{IpPrefix}
 use Rattle.ug_types.specs.Attributes.{refusal_of}
 use Rattle.ug_message.specs.Spellable.{is_number, is_prefix, is_address, where_there, can_be_spelled}
-use Rattle.ug_routemap.specs.Rules.{MapRule}
-use Rattle.ug_routemap.specs.Named.{NamedMap}
+use Rattle.ug_policy.specs.Rules.{MapRule}
+use Rattle.ug_policy.specs.NamedMaps.{NamedMap}
 use Rattle.ug_outbound.specs.declared.peer.Peer.{Peer}
 use Rattle.ug_outbound.specs.Outbound.{number_of_address}
 use Rattle.ug_outbound.specs.Bounds.{SetsFew}

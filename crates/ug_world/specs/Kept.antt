@@ -3,7 +3,7 @@ use Rattle.std.specs.Prelude.{◌≡◌, ℕ, ◌<◌, nat_le, Bool, true, ◌&&
 use Rattle.std.specs.List.{list_all}
 use Rattle.ug_types.specs.declared.named.Named.{Named}
 use Rattle.ug_types.specs.Bytes.{same_bytes}
-use Rattle.ug_prefixlist.specs.Named.{NamedList}
+use Rattle.ug_policy.specs.Named.{NamedList}
 use Rattle.ug_outbound.specs.declared.policy.Policy.{Policy}
 use Rattle.ug_world.specs.declared.peer_state.PeerState.{PeerState}
 use Rattle.ug_world.specs.Names.{are_distinct}

@@ -6,8 +6,8 @@ use Rattle.ug_types.specs.declared.family.Family.{Family}
 use Rattle.ug_types.specs.declared.family.Family.TheVariants.{V4, V6}
 use Rattle.ug_types.specs.declared.named.Named.{Named}
 use Rattle.ug_types.specs.Bytes.{same_bytes}
-use Rattle.ug_routemap.specs.Rules.{MapRule}
-use Rattle.ug_routemap.specs.Named.{NamedMap}
+use Rattle.ug_policy.specs.Rules.{MapRule}
+use Rattle.ug_policy.specs.NamedMaps.{NamedMap}
 use Rattle.ug_outbound.specs.Policies.{NamedPolicy}
 use Rattle.ug_outbound.specs.declared.settings.Local.{Local}
 use Rattle.ug_outbound.specs.declared.peer.Peer.{Peer}

@@ -7,7 +7,7 @@ use Rattle.ug_types.specs.Attributes.{Attributes}
 use Rattle.ug_types.specs.declared.key.Key.{Key}
 use Rattle.ug_types.specs.declared.route.Path.{Path}
 use Rattle.ug_types.specs.declared.route.OutAttrs.{OutAttrs}
-use Rattle.ug_prefixlist.specs.Order.{ascending}
+use Rattle.ug_policy.specs.Order.{ascending}
 use Rattle.ug_rewrite.specs.NextHops.{told_to}
 use Rattle.ug_outbound.specs.Outbound.{out}
 use Rattle.ug_outbound.specs.Keys.{ends_of}

@@ -4,8 +4,8 @@ use Rattle.std.specs.List.{list_any}
 use Rattle.ug_types.specs.Keys.{same_prefix}
 use Rattle.ug_types.specs.declared.key.Key.{Key}
 use Rattle.ug_types.specs.Bytes.{same_bytes}
-use Rattle.ug_prefixlist.specs.Named.{value_named}
-use Rattle.ug_routemap.specs.Rules.{MapRule}
+use Rattle.ug_policy.specs.Named.{value_named}
+use Rattle.ug_policy.specs.Rules.{MapRule}
 use Rattle.ug_outbound.specs.Tables.{Tables}
 use Rattle.ug_outbound.specs.declared.key.GroupKey.{GroupKey}
 use Rattle.ug_events.specs.Events.{Happening, ComesUp, GoesDown, HasPaths, HasNone, HasPolicy, HasEntries, AsksAgain, SendsRequest, SendsList}

@@ -8,11 +8,11 @@ use Rattle.ug_types.specs.Keys.{prefix_cmp, same_prefix}
 use Rattle.ug_types.specs.declared.route.Learned.{Learned}
 use Rattle.ug_types.specs.declared.route.Learned.TheVariants as learned
 use Rattle.ug_types.specs.declared.route.Path.{Path}
-use Rattle.ug_prefixlist.specs.Order.{repeats}
-use Rattle.ug_prefixlist.specs.Named.{value_named}
+use Rattle.ug_policy.specs.Order.{repeats}
+use Rattle.ug_policy.specs.Named.{value_named}
 use Rattle.ug_outbound.specs.declared.settings.Local.{Local}
-use Rattle.ug_prefixlist.specs.OrfChanges.{OrfRequest}
-use Rattle.ug_prefixlist.specs.OrfApplying.{applied}
+use Rattle.ug_policy.specs.OrfChanges.{OrfRequest}
+use Rattle.ug_policy.specs.OrfApplying.{applied}
 use Rattle.ug_events.specs.Events.{GivenPath, Happening, ComesUp, GoesDown, HasPaths, HasNone, HasPolicy, HasEntries, AsksAgain, SendsRequest, SendsList}
 use Rattle.ug_world.specs.declared.peer_state.PeerState.{PeerState}
 use Rattle.ug_world.specs.World.{Routes, World, peer_named, learned_from}

@@ -7,7 +7,7 @@ use Rattle.ug_types.specs.declared.route.Learned.{Learned}
 use Rattle.ug_types.specs.declared.route.Learned.TheVariants as learned
 use Rattle.ug_types.specs.declared.route.Path.{Path}
 use Rattle.ug_types.specs.Bytes.{same_bytes}
-use Rattle.ug_prefixlist.specs.Named.{value_named}
+use Rattle.ug_policy.specs.Named.{value_named}
 use Rattle.ug_outbound.specs.Tables.{Tables}
 use Rattle.ug_outbound.specs.Keys.{group_key_of}
 use Rattle.ug_outbound.specs.declared.settings.Local.{Local}

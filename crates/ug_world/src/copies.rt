@@ -7,8 +7,7 @@ use crate::peers::Peers;
 use crate::world::World;
 use std::alloc::Global;
 use ug_outbound::{NamedPolicy, Peer, Policies, Policy, PolicyTable};
-use ug_prefixlist::{ListTable, NamedList};
-use ug_routemap::{MapTable, NamedMap};
+use ug_policy::{ListTable, MapTable, NamedList, NamedMap};
 use ug_types::{Name, NoMemory, Sequence};
 
 impl World {

@@ -6,7 +6,7 @@ ghost use Rattle.ug_world.specs.Parts.{fresh};
 use crate::peer_state::PeerState;
 use std::alloc::Global;
 use ug_outbound::Peer;
-use ug_prefixlist::Filter;
+use ug_policy::Filter;
 use ug_types::NoMemory;
 
 /// These peers, each before its first session.

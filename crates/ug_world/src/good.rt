@@ -2,14 +2,13 @@
 
 ghost use Rattle.std.specs.Prelude.{◌≡◌, map};
 ghost use Rattle.std.specs.List.{list_all};
-ghost use Rattle.ug_routemap.specs.Rules.{rule_of, MapRule};
+ghost use Rattle.ug_policy.specs.Rules.{rule_of, MapRule};
 ghost use Rattle.ug_world.specs.Names.{is_name_among, are_distinct};
 ghost use Rattle.ug_world.specs.Parts.{is_between, is_ipv4, is_local_good, are_few, names_of, peer_names, is_one_of, may_filter, is_peer_good, is_policy_good, is_map_good, is_good};
 
 use crate::parts::WorldParts;
 use ug_outbound::{Local, NamedPolicy, Peer};
-use ug_prefixlist::NamedList;
-use ug_routemap::{MapEntry, NamedMap};
+use ug_policy::{MapEntry, NamedList, NamedMap};
 use ug_types::{Addr, Family, Name, Named};
 
 impl WorldParts {

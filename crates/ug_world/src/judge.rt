@@ -3,17 +3,17 @@
 ghost use Rattle.std.specs.Prelude.{◌≡◌, Some, None, is_some, MatchResult, ◌==◌};
 ghost use Rattle.std.specs.Option.{option_map};
 ghost use Rattle.std.specs.List.{list_all, list_any};
-ghost use Rattle.ug_prefixlist.specs.Order.{repeats};
+ghost use Rattle.ug_policy.specs.Order.{repeats};
 ghost use Rattle.ug_events.specs.Events.{GivenPath};
 ghost use Rattle.ug_events.specs.Views.{event_of};
-ghost use Rattle.ug_prefixlist.specs.OrfViews.{orf_seen};
+ghost use Rattle.ug_policy.specs.OrfViews.{orf_seen};
 ghost use Rattle.ug_world.specs.Verdicts.{of_peer, unless_down, unless_up, unless_known, policy_refusal, orf_refusal, paths_refusal, is_sender_known, given_id, verdict};
 
 use crate::orf_length::length_after;
 use crate::peer_state::PeerState;
 use crate::world::World;
 use ug_events::{Event, Given};
-use ug_prefixlist::{OrfMessage, find_named};
+use ug_policy::{OrfMessage, find_named};
 use ug_types::{Name, Prefix};
 
 /// Why an event is refused.

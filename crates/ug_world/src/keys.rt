@@ -6,7 +6,7 @@ ghost use Rattle.ug_world.specs.Private.{own_keys, keys_to, keys_of};
 
 use crate::world::World;
 use std::alloc::Global;
-use ug_prefixlist::in_order;
+use ug_policy::in_order;
 use ug_types::{Key, NoMemory, Path, Prefix};
 
 impl World {

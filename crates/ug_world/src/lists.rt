@@ -5,7 +5,7 @@ ghost use Rattle.ug_world.specs.Names.{is_name_among, are_distinct, where_named}
 ghost use Rattle.ug_world.specs.Kept.{IsListAt, name_of, with_value};
 
 use ug_outbound::Policies;
-use ug_prefixlist::{ListTable, NamedList, PrefixList};
+use ug_policy::{ListTable, NamedList, PrefixList};
 use ug_types::Name;
 
 /// The list of that name is this one.

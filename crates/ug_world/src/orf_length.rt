@@ -1,11 +1,11 @@
 //! How long a peer's filter is after the changes of a message, told without making it.
 
 ghost use Rattle.std.specs.Prelude.{◌≡◌, ◌<◌, ◌-◌, ◌^◌, Some, length};
-ghost use Rattle.ug_prefixlist.specs.declared.entry.ListEntry as stored;
-ghost use Rattle.ug_prefixlist.specs.OrfApplying.{applied};
+ghost use Rattle.ug_policy.specs.declared.list_entry.ListEntry as stored;
+ghost use Rattle.ug_policy.specs.OrfApplying.{applied};
 ghost use Rattle.ug_world.specs.Filtered.{has_seq, has_seq_then, count_then};
 
-use ug_prefixlist::{Action, Filter, ListEntry, OrfEntry};
+use ug_policy::{Action, Filter, ListEntry, OrfEntry};
 
 /// How many entries the filter has after the changes, in their order. It takes no memory; for each change it looks back
 /// at those before, of which a message has a few hundred at most.

@@ -1,6 +1,5 @@
 use ug_outbound::{Local, PeerTable, PolicyTable};
-use ug_prefixlist::ListTable;
-use ug_routemap::MapTable;
+use ug_policy::{ListTable, MapTable};
 
 /// What a world is made of: settings, lists, maps, policies, and peers in configured order.
 #[derive(Debug, Drop)]

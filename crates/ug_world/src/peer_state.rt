@@ -1,5 +1,5 @@
 use ug_outbound::Peer;
-use ug_prefixlist::Filter;
+use ug_policy::Filter;
 
 /// A peer with what its sessions made of it.
 #[derive(Debug, Drop)]

@@ -2,7 +2,7 @@
 
 ghost use Rattle.std.specs.Prelude.{◌≡◌, true, None, map, OnOk, OnErr, MatchOption};
 ghost use Rattle.std.specs.Option.{option_map};
-ghost use Rattle.ug_prefixlist.specs.OrfViews.{orf_seen};
+ghost use Rattle.ug_policy.specs.OrfViews.{orf_seen};
 ghost use Rattle.ug_world.specs.World.{peer_named};
 ghost use Rattle.ug_world.specs.After.{come_up, gone_down, with_policy, refiltered, with_orf, changed_peer};
 ghost use Rattle.ug_world.specs.Kept.{ArePeers, IsPlaceOf, are_sessions_within};
@@ -11,7 +11,7 @@ use crate::peer_state::PeerState;
 use crate::seats;
 use std::alloc::Global;
 use std::marker::Model;
-use ug_prefixlist::OrfMessage;
+use ug_policy::OrfMessage;
 use ug_types::{Name, NoMemory};
 
 /// At most 64 peers, each of another name, in configured order. Contracts see the list of them.

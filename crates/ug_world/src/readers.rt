@@ -6,7 +6,7 @@ ghost use Rattle.std.specs.List.Sorted.{IsStrictlySortedBy};
 ghost use Rattle.std.specs.Map.{lookup, keys_of};
 ghost use Rattle.ug_types.specs.Ip.{IpPrefix};
 ghost use Rattle.ug_types.specs.Keys.{prefix_cmp, same_prefix};
-ghost use Rattle.ug_prefixlist.specs.Filters.{IsFilter};
+ghost use Rattle.ug_policy.specs.Filters.{IsFilter};
 ghost use Rattle.ug_world.specs.World.{paths_to, peer_named, policy_named};
 ghost use Rattle.ug_world.specs.Orders.{IsAfter, IsNotAfter};
 ghost use Rattle.ug_world.specs.Kept.{IsPlaceOf};
@@ -17,7 +17,7 @@ use crate::peers::place_of;
 use crate::rows::Rows;
 use crate::world::World;
 use ug_outbound::{Local, Peer, Policies, Policy};
-use ug_prefixlist::{EntryList, find_named};
+use ug_policy::{EntryList, find_named};
 use ug_types::{Name, Path, PeerId, Prefix};
 
 impl World {

@@ -1,13 +1,13 @@
 //! What an event makes of a peer.
 
 ghost use Rattle.std.specs.Prelude.{◌≡◌, ◌<◌, OnOk, OnErr, IfOk};
-ghost use Rattle.ug_prefixlist.specs.OrfApplying.{applied};
-ghost use Rattle.ug_prefixlist.specs.OrfViews.{orf_seen};
+ghost use Rattle.ug_policy.specs.OrfApplying.{applied};
+ghost use Rattle.ug_policy.specs.OrfViews.{orf_seen};
 ghost use Rattle.ug_world.specs.After.{come_up, gone_down, with_policy, refiltered, with_orf};
 
 use crate::peer_state::PeerState;
 use std::alloc::Global;
-use ug_prefixlist::{Filter, OrfMessage, apply_orf};
+use ug_policy::{Filter, OrfMessage, apply_orf};
 use ug_types::{Name, NoMemory};
 
 /// The peer comes up, in one session more and with no filter of its own.

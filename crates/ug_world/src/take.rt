@@ -1,11 +1,11 @@
 //! What an event makes of a world.
 
 ghost use Rattle.std.specs.Prelude.{◌≡◌, ◌<◌, None, false, map, OnOk, OnErr, IfOk};
-ghost use Rattle.ug_prefixlist.specs.Order.{ascending};
-ghost use Rattle.ug_prefixlist.specs.Lists.{list_refusal, seq_of};
+ghost use Rattle.ug_policy.specs.Order.{ascending};
+ghost use Rattle.ug_policy.specs.Lists.{list_refusal, seq_of};
 ghost use Rattle.ug_events.specs.Events.{ComesUp, GoesDown, HasPaths, HasNone, HasPolicy, HasEntries, AsksAgain, SendsRequest, SendsList, IsEvent};
 ghost use Rattle.ug_events.specs.Views.{event_of};
-ghost use Rattle.ug_prefixlist.specs.OrfViews.{orf_seen};
+ghost use Rattle.ug_policy.specs.OrfViews.{orf_seen};
 ghost use Rattle.ug_world.specs.Verdicts.{path_of, learned_of, sender, with_paths, is_overfull, verdict};
 ghost use Rattle.ug_world.specs.World.{learned_from};
 ghost use Rattle.ug_world.specs.After.{after};
@@ -17,7 +17,7 @@ use crate::world::World;
 use std::alloc::Global;
 use ug_events::{Event, Given};
 use ug_outbound::Local;
-use ug_prefixlist::{EntryList, ListRefusal, OrfMessage, PrefixList};
+use ug_policy::{EntryList, ListRefusal, OrfMessage, PrefixList};
 use ug_types::{Learned, Name, NoMemory, Path, Prefix};
 
 impl World {

@@ -1,5 +1,5 @@
 use Rattle.std.proofs.Common.{◌≡◌, take, min}
-use Rattle.ug_routemap.specs.Refusals.{prepends_in, communities_in}
+use Rattle.ug_policy.specs.Refusals.{prepends_in, communities_in}
 use Rattle.ug_config.proofs.limits.has_few_sets.Given as goal
 
 -- the numbers of the rules so far

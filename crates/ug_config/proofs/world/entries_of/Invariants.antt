@@ -1,5 +1,5 @@
 use Rattle.std.proofs.Common.{◌≡◌, ◌++◌, map}
-use Rattle.ug_routemap.specs.Rules.{rule_of}
+use Rattle.ug_policy.specs.Rules.{rule_of}
 use Rattle.ug_config.proofs.world.entries_of.Given as goal
 
 -- the entries so far and the rules that are left are all

@@ -1,6 +1,6 @@
 use Rattle.std.proofs.Common.{◌≡◌, true, ◌++◌, map}
 use Rattle.std.specs.List.{list_all}
-use Rattle.ug_prefixlist.specs.Lists.{seq_of}
+use Rattle.ug_policy.specs.Lists.{seq_of}
 use Rattle.ug_config.specs.Worlds.{in_order, is_list}
 use Rattle.ug_config.proofs.world.lists_of.Given as goal
 

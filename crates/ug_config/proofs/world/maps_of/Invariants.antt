@@ -1,6 +1,6 @@
 use Rattle.std.proofs.Common.{◌≡◌, true, ◌++◌, map}
 use Rattle.std.specs.List.{list_all}
-use Rattle.ug_routemap.specs.Rules.{rule_seq}
+use Rattle.ug_policy.specs.Rules.{rule_seq}
 use Rattle.ug_config.specs.Worlds.{in_order, is_map}
 use Rattle.ug_config.proofs.world.maps_of.Given as goal
 

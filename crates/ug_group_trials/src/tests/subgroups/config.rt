@@ -3,7 +3,7 @@
 use std::alloc::Global;
 use std::test::Fail;
 use ug_outbound::{Local, NamedPolicy, Peer, Policy};
-use ug_prefixlist::{NamedList, PrefixList};
+use ug_policy::{NamedList, PrefixList};
 use ug_text::{read_address, read_prefix};
 use ug_types::{Addr, Family, Name, RouterId, Sequence};
 use ug_world::{World, WorldParts};

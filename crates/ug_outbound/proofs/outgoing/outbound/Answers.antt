@@ -1,6 +1,6 @@
 use Rattle.std.proofs.Common.{Some, ap, sym, ◌∙◌}
 use Rattle.ug_types.specs.declared.route.OutAttrs.{OutAttrs}
-use Rattle.ug_routemap.specs.declared.mapped.Mapped.{Mapped}
+use Rattle.ug_policy.specs.declared.mapped.Mapped.{Mapped}
 use Rattle.ug_outbound.specs.Outbound.{heeded, finished}
 use Rattle.ug_outbound.proofs.Mapping.{out_is_after, reflect}
 use Rattle.ug_outbound.proofs.Bounds.{kept_back, not_mapped, let_out, out_bytes, out_bytes_but_next_hop}

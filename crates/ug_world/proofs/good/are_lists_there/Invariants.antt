@@ -1,6 +1,6 @@
 use Rattle.std.proofs.Common.{◌≡◌, map, drop}
 use Rattle.std.specs.List.{list_all}
-use Rattle.ug_routemap.specs.Rules.{MapRule, rule_of}
+use Rattle.ug_policy.specs.Rules.{MapRule, rule_of}
 use Rattle.ug_world.specs.Parts.{names_of, is_one_of}
 use Rattle.ug_world.proofs.good.are_lists_there.Given as goal
 

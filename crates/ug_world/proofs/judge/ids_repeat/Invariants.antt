@@ -1,5 +1,5 @@
 use Rattle.std.proofs.Common.{◌≡◌, drop}
-use Rattle.ug_prefixlist.specs.Order.{repeats}
+use Rattle.ug_policy.specs.Order.{repeats}
 use Rattle.ug_world.specs.Verdicts.{given_id}
 use Rattle.ug_world.proofs.judge.ids_repeat.Given as goal
 

@@ -1,6 +1,6 @@
 use Rattle.std.proofs.Common.{ap, sym, ◌∙◌}
 use Rattle.ug_types.specs.Bytes.{same_bytes}
-use Rattle.ug_prefixlist.specs.Named.{NamedList}
+use Rattle.ug_policy.specs.Named.{NamedList}
 use Rattle.ug_world.proofs.Changing.{index_any}
 use Rattle.ug_world.proofs.lists.place_of.Goals as goal
 

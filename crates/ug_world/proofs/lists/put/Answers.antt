@@ -1,7 +1,7 @@
 use Rattle.std.proofs.Common.{◌≡◌, false, true, List, map, refl, sym, subst}
 use Rattle.std.specs.Prelude.{slice_index_or}
 use Rattle.ug_types.specs.Bytes.{same_bytes}
-use Rattle.ug_prefixlist.specs.Named.{NamedList}
+use Rattle.ug_policy.specs.Named.{NamedList}
 use Rattle.ug_world.specs.Names.{is_name_among}
 use Rattle.ug_world.specs.Kept.{IsListAt, name_of, with_value}
 use Rattle.ug_world.proofs.Changing.{none_changed, one_changed, got}

@@ -1,5 +1,5 @@
 use Rattle.std.proofs.Common.{Bool, take, ap, sym, ◌∙◌}
-use Rattle.ug_prefixlist.specs.OrfApplying.{applied}
+use Rattle.ug_policy.specs.OrfApplying.{applied}
 use Rattle.ug_world.specs.Filtered.{has_seq, has_then}
 use Rattle.ug_world.proofs.Filtering.{applied_none, applied_next, has_changed}
 use Rattle.ug_world.proofs.orf_length.is_there_after.Goals as goal

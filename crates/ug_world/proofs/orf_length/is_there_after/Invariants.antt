@@ -1,5 +1,5 @@
 use Rattle.std.proofs.Common.{◌≡◌, take}
-use Rattle.ug_prefixlist.specs.OrfApplying.{applied}
+use Rattle.ug_policy.specs.OrfApplying.{applied}
 use Rattle.ug_world.specs.Filtered.{has_seq}
 use Rattle.ug_world.proofs.orf_length.is_there_after.Given as goal
 

@@ -1,8 +1,8 @@
 use Rattle.std.proofs.Common.{◌≡◌, ℕ, true, List, length, take, ap, sym, subst, ◌∙◌, arith}
-use Rattle.ug_prefixlist.specs.declared.entry.ListEntry.{ListEntry}
-use Rattle.ug_prefixlist.specs.Order.{rises}
-use Rattle.ug_prefixlist.specs.Lists.{seq_of}
-use Rattle.ug_prefixlist.specs.OrfApplying.{applied}
+use Rattle.ug_policy.specs.declared.list_entry.ListEntry.{ListEntry}
+use Rattle.ug_policy.specs.Order.{rises}
+use Rattle.ug_policy.specs.Lists.{seq_of}
+use Rattle.ug_policy.specs.OrfApplying.{applied}
 use Rattle.ug_world.specs.Filtered.{count_then}
 use Rattle.ug_world.proofs.Filtering.{applied_none, applied_next, length_changed, rises_applied, count_few}
 use Rattle.ug_world.proofs.orf_length.length_after.Goals as goal

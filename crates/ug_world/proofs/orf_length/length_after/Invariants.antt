@@ -1,5 +1,5 @@
 use Rattle.std.proofs.Common.{◌≡◌, ◌+◌, ◌≤◌, length, take}
-use Rattle.ug_prefixlist.specs.OrfApplying.{applied}
+use Rattle.ug_policy.specs.OrfApplying.{applied}
 use Rattle.ug_world.proofs.orf_length.length_after.Given as goal
 
 -- after the changes so far

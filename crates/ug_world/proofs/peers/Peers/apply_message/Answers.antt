@@ -1,6 +1,6 @@
 use Rattle.std.proofs.Common.{◌≡◌, None, List, map, refl, ap, subst, ◌∙◌}
 use Rattle.ug_world.specs.declared.peer_state.PeerState.{PeerState}
-use Rattle.ug_prefixlist.specs.OrfViews.{orf_seen}
+use Rattle.ug_policy.specs.OrfViews.{orf_seen}
 use Rattle.ug_world.specs.World.{peer_named}
 use Rattle.ug_world.specs.After.{with_orf, changed_peer}
 use Rattle.ug_world.specs.Kept.{IsPlaceOf}

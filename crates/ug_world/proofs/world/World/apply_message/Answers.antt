@@ -1,5 +1,5 @@
 use Rattle.std.proofs.Common.{arith}
-use Rattle.ug_prefixlist.specs.OrfViews.{orf_seen}
+use Rattle.ug_policy.specs.OrfViews.{orf_seen}
 use Rattle.ug_world.specs.declared.peer_state.PeerState.{PeerState}
 use Rattle.ug_world.specs.After.{with_orf}
 use Rattle.ug_world.proofs.Staying.{world_with_peer}

@@ -1,5 +1,5 @@
 use Rattle.std.proofs.Common.{map, refl, ap, ◌∙◌}
-use Rattle.ug_prefixlist.specs.Named.{NamedList}
+use Rattle.ug_policy.specs.Named.{NamedList}
 use Rattle.ug_outbound.specs.Tables.{Tables}
 use Rattle.ug_world.specs.Kept.{name_of, with_value}
 use Rattle.ug_world.proofs.Changing.{names_kept}

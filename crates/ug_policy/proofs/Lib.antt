@@ -1,0 +1,10 @@
+pub mod Edits
+pub mod KeptSegments
+pub mod Sorting
+pub mod Refusals
+pub mod OrfWalks
+pub mod OrfChanged
+pub mod Shown
+pub mod Prepends
+pub mod KeptMaps
+pub mod Walks

@@ -1,0 +1,9 @@
+use Rattle.std.proofs.Common.{◌≡◌, map, drop}
+use Rattle.std.specs.List.{list_all}
+use Rattle.ug_policy.specs.Rules.{rule_of}
+use Rattle.ug_policy.specs.Refusals.{sets_origin}
+use Rattle.ug_policy.proofs.checks.are_origins_known.Given as goal
+
+-- the entries that are left decide
+abbrev pub invariant-loop-entry : goal.invariant-loop-entry
+invariant-loop-entry l = list_all sets_origin (map rule_of (drop l.entry-index l.entries)) ≡ list_all sets_origin (map rule_of l.entries)

@@ -1,0 +1,15 @@
+pub mod Paths
+pub mod Order
+pub mod Lists
+pub mod Named
+pub mod Filters
+pub mod Requests
+pub mod OrfChanges
+pub mod OrfWalking
+pub mod OrfReading
+pub mod OrfApplying
+pub mod OrfViews
+pub mod Rules
+pub mod Maps
+pub mod Refusals
+pub mod NamedMaps

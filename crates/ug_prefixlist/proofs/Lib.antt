@@ -1,4 +1,0 @@
-pub mod Sorting
-pub mod Refusals
-pub mod OrfWalks
-pub mod OrfChanged

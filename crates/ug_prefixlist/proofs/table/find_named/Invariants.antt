@@ -1,7 +1,0 @@
-use Rattle.std.proofs.Common.{◌≡◌, drop}
-use Rattle.ug_prefixlist.specs.Named.{value_named}
-use Rattle.ug_prefixlist.proofs.table.find_named.Given as goal
-
--- the values that are left decide
-abbrev pub invariant-loop-named : goal.invariant-loop-named
-invariant-loop-named g l = value_named (drop l.named-index l.items) l.name ≡ value_named l.items l.name

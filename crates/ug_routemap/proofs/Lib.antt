@@ -1,4 +1,0 @@
-pub mod Shown
-pub mod Prepends
-pub mod Kept
-pub mod Walks

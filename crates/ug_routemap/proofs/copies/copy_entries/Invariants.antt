@@ -1,7 +1,0 @@
-use Rattle.std.proofs.Common.{◌≡◌, map, take}
-use Rattle.ug_routemap.specs.Rules.{rule_of}
-use Rattle.ug_routemap.proofs.copies.copy_entries.Given as goal
-
--- what was copied so far
-abbrev pub invariant-loop-entry : goal.invariant-loop-entry
-invariant-loop-entry l = map rule_of l.copy.items ≡ map rule_of (take l.entry-index l.entries)

@@ -1,4 +1,0 @@
-pub mod Rules
-pub mod Maps
-pub mod Refusals
-pub mod Named
