@@ -7,7 +7,8 @@ ghost use Rattle.ug_world.specs.declared.peer_state.PeerState as peers;
 ghost use Rattle.ug_audit.specs.Asked.{IsAsked};
 ghost use Rattle.ug_command_line.specs.Words as words;
 ghost use Rattle.ug_audit.specs.Sessions.{SessionOf, sessions_from, sessions_of};
-ghost use Rattle.ug_audit.specs.Auditing.{worlds_of};
+ghost use Rattle.ug_timeline.specs.Histories.{IsHistory};
+ghost use Rattle.ug_audit.specs.Auditing.{worlds_of, last_of};
 ghost use Rattle.ug_audit.specs.Stopping.{IsRun, IsAt, IsStopped};
 
 use crate::asked::Asked;
@@ -18,7 +19,7 @@ use crate::stop::Stop;
 use crate::verdict::Verdict;
 use std::alloc::Global;
 use ug_edge::{Site, Source};
-use ug_timeline::timeline_of;
+use ug_timeline::{History, history_of};
 use ug_types::{NoMemory, PeerId};
 
 impl Run {
@@ -42,9 +43,13 @@ impl Run {
         ensures made { E.made site.new ≡ E.made site.old }
         ensures wire_faults { E.wire_faults site.new ≡ E.wire_faults site.old }
     {
+        let history = match history_of(alloc, &self.first, self.events.as_slice()) {
+            Ok(history) => history,
+            Err(NoMemory) => return Err(Stop::NoMemory),
+        };
         let mut text = String::new(alloc);
         for id in 0..self.last.peers() {
-            match self.hear_peer(alloc, dir, id, site, &mut text) {
+            match self.hear_peer(alloc, dir, &history, id, site, &mut text) {
                 Ok(()) => {}
                 Err(stop) => return Err(stop),
             }
@@ -57,11 +62,13 @@ impl Run {
         &self,
         alloc: Global,
         dir: &str,
+        history: &History,
         id: PeerId,
         site: &mut E,
         text: &mut String,
     ) -> Result<(), Stop>
         requires run { IsRun self.now }
+        requires history { IsHistory (worlds_of self.now.first self.now.events.items) (last_of self.now.first self.now.events.items) history.now }
         requires id { id < length self.now.last.peers }
         ensures went { OnOk result ((command : words.AuditCommand) (names : Option (List (List ℕ))) (s : peers.PeerState) (left : List SessionOf) → command.dir ≡ dir.now → slice_get self.now.last.peers id ≡ Some s →
             IsAt command (file_told (E.files site.old)) self.now names (E.picks site.old).names (sessions_from id s 1 s.sessions ++ left) (string_bytes text.old) →
@@ -75,7 +82,10 @@ impl Run {
         ensures made { E.made site.new ≡ E.made site.old }
         ensures wire_faults { E.wire_faults site.new ≡ E.wire_faults site.old }
     {
-        let timeline = match timeline_of(alloc, &self.first, id, self.events.as_slice()) {
+        if self.last.session(id) == 0 {
+            return Ok(());
+        }
+        let timeline = match history.timeline(alloc, &self.first, id, self.events.as_slice()) {
             Ok(timeline) => timeline,
             Err(NoMemory) => return Err(Stop::NoMemory),
         };

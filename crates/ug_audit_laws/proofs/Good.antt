@@ -17,7 +17,8 @@ use Rattle.ug_world.specs.Worlds.{judged, outcome, world_after, last_world}
 use Rattle.ug_speaker.specs.Right.{IsAmong}
 use Rattle.ug_report.specs.declared.endings.Loss.{Loss}
 use Rattle.ug_report.specs.Report.{is_of_64, AreOf64, losses_from}
-use Rattle.ug_run_rules.specs.Contents.{WireTold, Content, EachWireFrom, has_number, RiseFrom}
+use Rattle.ug_run_rules.specs.Contents.{WireTold, Content, has_number, RiseFrom}
+use Rattle.ug_run_rules.proofs.EachWires.{EachWireFrom}
 use Rattle.ug_run_rules.specs.Marks.{asks_mark, AreMarks}
 use Rattle.ug_run_rules.specs.Kept.{IsWireOf}
 use Rattle.ug_speaker.proofs.Peers.{peer_after, peers-after, next-of, sessions-rise}

@@ -20,6 +20,7 @@ use Rattle.ug_audit_laws.specs.Files.{bytes_of, held_by, all_syncs, TellAll}
 use Rattle.ug_audit_laws.specs.Reports.{AreTold}
 use Rattle.ug_audit_laws.proofs.Versions.{world-there}
 use Rattle.ug_audit_laws.proofs.Marked.{mark-of, marks-at, sync-line}
+use Rattle.ug_run_rules.proofs.EachWires.{one-by-one}
 use Rattle.ug_audit_laws.proofs.Wires.{peer-there, IsWireAt, wire-at, IsSessionAt, session-at}
 
 one_among : (m : Mark) (ms : List Mark) → IsOneOf m ms → IsAmong m ms
@@ -41,7 +42,7 @@ module _ (w : World) (lines : List (Reads Saying)) (marks : List (List Mark)) (w
 
   module _ (p k : ℕ) (s : PeerState) (there : slice_get last.peers p ≡ Some s) (few : suc k ≤ s.sessions) where
     at : IsWireAt (IsWireOf (worlds w lines) last true) 0 wires contents lost p
-    at = wire-at (IsWireOf (worlds w lines) last true) 0 wires contents lost p is.each (let less = peer-there w lines p s there in let all = is.all in omega arith)
+    at = wire-at (IsWireOf (worlds w lines) last true) 0 wires contents lost p (one-by-one (IsWireOf (worlds w lines) last true) wires contents lost is.each) (let less = peer-there w lines p s there in let all = is.all in omega arith)
 
     right : IsWireRight (worlds w lines) last true p s at.wire at.content at.numbers
     right =

@@ -12,13 +12,14 @@ use Rattle.std.specs.List.{concat}
 use Rattle.ug_report.specs.declared.endings.Loss.{Loss}
 use Rattle.ug_report.specs.Report.{AreOf64, names_in, line_texts, end_text, accepted_count, refused_count, completed_text, losses_from, losses_status}
 use Rattle.ug_run_rules.specs.Contents.{WireTold, Content, is_lost_at}
-use Rattle.ug_run_rules.specs.Kept.{IsKept}
+use Rattle.ug_run_rules.specs.Kept.{IsKept, IsWireOf}
 use Rattle.ug_audit_rules.specs.Reports.{IsWord, entries_of}
 use Rattle.ug_audit_laws.specs.Files.{all_syncs}
 use Rattle.ug_audit_laws.specs.Reports.{IsReport}
 use Rattle.ug_audit_laws.proofs.Worlds.{CanBeTold, EachHad}
 use Rattle.ug_audit_laws.proofs.Losses.{is_lost_among, lost-in}
 use Rattle.ug_audit_laws.proofs.Telling.{Tell, lost-told, report-read}
+use Rattle.ug_run_rules.proofs.EachWires.{one-by-one}
 use Rattle.ug_audit_laws.proofs.Good.{marks-good, losses-good}
 use Rattle.ug_audit_laws.proofs.Tails.{status-silent}
 use Rattle.ug_audit_laws.proofs.Ranges.{is-named, names-stay, IsWithin, within-lines, first-had, first-within, first-distinct}
@@ -50,7 +51,7 @@ module _ (w : World) (lines : List (Reads Saying)) (marks : List (List Mark)) (w
 
     pub read-again : IsReport last (completed_text w lines marks (losses_from 0 lost) ++ front) (all_syncs lines marks) lost
     read-again =
-        let losses = losses-good last can (worlds w lines) true 0 wires contents lost is.each in
+        let losses = losses-good last can (worlds w lines) true 0 wires contents lost (one-by-one (IsWireOf (worlds w lines) last true) wires contents lost is.each) in
         let had = subst (λ (v : World). EachHad v) (sym opens.first) (first-had opens.parts) in
         let silent = status-silent last (losses_from 0 lost) front tail losses (ap (λ (ns : List (List ℕ)). losses_status ns (losses_from 0 lost)) stay ∙ status) in
         let tells = subst (λ (ns : List (List ℕ)). Tell (entries_of last (text ns ++ front)) (all_syncs lines marks) (losses_from 0 lost)) stay

@@ -1,8 +1,8 @@
 //! Laws over the definitions, on functions that do nothing.
 
-ghost use Rattle.std.specs.Prelude.{◌≡◌, ◌++◌, ◌<◌, ℕ, Bool, List, [], length, true, Option, Some, Ok};
+ghost use Rattle.std.specs.Prelude.{◌≡◌, ◌++◌, ◌<◌, ℕ, List, [], length, true, Option, Some, Ok};
 ghost use Rattle.ug_types.specs.declared.mark.Mark as marks;
-ghost use Rattle.ug_edge.specs.Told.{AppendsAll, Bytes, FileText, Rose, WireName, WiresMade, file_named, file_told};
+ghost use Rattle.ug_edge.specs.Told.{AppendsAll, Bytes, FileText, Rose, file_named, file_told};
 ghost use Rattle.ug_history_rules.specs.Deeds.{Each};
 ghost use Rattle.ug_command_line.specs.Words.{AuditCommand, RunCommand};
 ghost use Rattle.ug_config.specs.Worlds.{config};
@@ -17,6 +17,7 @@ ghost use Rattle.ug_report.specs.Report.{AreOf64, names_in, completed_text, loss
 ghost use Rattle.ug_report.specs.Statuses.{row_of};
 ghost use Rattle.ug_run_rules.specs.Contents.{WireTold, Content};
 ghost use Rattle.ug_run_rules.specs.Kept.{IsKept};
+ghost use Rattle.ug_run.specs.Told.{RunTold};
 ghost use Rattle.ug_run.specs.Commands.{IsRunOf};
 ghost use Rattle.ug_audit_rules.specs.declared.entry.Entry as entries;
 ghost use Rattle.ug_audit_rules.specs.Audited.{IsAudited};
@@ -50,32 +51,32 @@ pub fn report_is_read()
 /// Whatever speaker it was over, a run of a configuration that completed leaves files that an auditor finds right, where its
 /// files and its wires tell what they hold and its report held nothing before.
 pub fn run_is_audited<M: Speaker>()
-    ensures audited { (command : RunCommand) (configuration : List ℕ) (events : List ℕ) (names : Option (List (List ℕ))) (names' : Option (List (List ℕ))) (status : statuses.Status)
-        (wires : List WireTold) (history : _) (spent : Bool) (made_for : List WireName) (made : WiresMade) (made' : WiresMade) (is_open : Bool) (left : Option (List ℕ)) (report : List ℕ) (faults : ℕ) (faults' : ℕ) →
-        (row_of status).completed ≡ true → TellAll wires →
-        IsRunOf M.Machine.rules M.speech command (Bytes configuration) (Bytes events) names names' status wires history spent made_for made made' is_open left (Some []) (Some report) (Rose faults faults') →
-        (w : World) × IsConfigured (Bytes configuration) (Ok w) × LeavesRight w events report wires }
+    ensures audited { (command : RunCommand) (configuration : List ℕ) (events : List ℕ) (report : List ℕ) (run : RunTold M.Job M.Said) →
+        IsRunOf M.Machine.rules M.speech command run → (row_of run.status).completed ≡ true → TellAll run.wires →
+        file_told run.before.files command.config ≡ Bytes configuration → file_told run.before.files command.events ≡ Bytes events →
+        run.before.held ≡ Some [] → run.after.held ≡ Some report →
+        (w : World) × IsConfigured (Bytes configuration) (Ok w) × LeavesRight w events report run.wires }
 {}
 
 /// So the files are right that such a run leaves, where each session is in the file of its peer's name and its number. An
 /// audit of them ends with `Ok`, unless a call of the outside fails, memory is wanting, or a file is past its limit.
 pub fn files_are_right<M: Speaker>()
     ensures right { (audit : AuditCommand) (files : List FileText) (w : World)
-        (command : RunCommand) (configuration : List ℕ) (events : List ℕ) (names : Option (List (List ℕ))) (names' : Option (List (List ℕ))) (status : statuses.Status)
-        (wires : List WireTold) (history : _) (spent : Bool) (made_for : List WireName) (made : WiresMade) (made' : WiresMade) (is_open : Bool) (left : Option (List ℕ)) (report : List ℕ) (faults : ℕ) (faults' : ℕ) →
-        (row_of status).completed ≡ true → TellAll wires →
-        IsRunOf M.Machine.rules M.speech command (Bytes configuration) (Bytes events) names names' status wires history spent made_for made made' is_open left (Some []) (Some report) (Rose faults faults') →
+        (command : RunCommand) (configuration : List ℕ) (events : List ℕ) (report : List ℕ) (run : RunTold M.Job M.Said) →
+        IsRunOf M.Machine.rules M.speech command run → (row_of run.status).completed ≡ true → TellAll run.wires →
+        file_told run.before.files command.config ≡ Bytes configuration → file_told run.before.files command.events ≡ Bytes events →
+        run.before.held ≡ Some [] → run.after.held ≡ Some report →
         file_named audit.config files ≡ Some configuration → file_named audit.events files ≡ Some events → file_named audit.report files ≡ Some report →
-        config configuration ≡ Ok w → HoldSessions files audit.dir (names_in w) wires →
+        config configuration ≡ Ok w → HoldSessions files audit.dir (names_in w) run.wires →
         AreRight audit files }
     ensures ends { (audit : AuditCommand) (files : List FileText) (w : World)
-        (command : RunCommand) (configuration : List ℕ) (events : List ℕ) (names : Option (List (List ℕ))) (names' : Option (List (List ℕ))) (status : statuses.Status)
-        (wires : List WireTold) (history : _) (spent : Bool) (made_for : List WireName) (made : WiresMade) (made' : WiresMade) (is_open : Bool) (left : Option (List ℕ)) (report : List ℕ) (faults : ℕ) (faults' : ℕ)
+        (command : RunCommand) (configuration : List ℕ) (events : List ℕ) (report : List ℕ) (run : RunTold M.Job M.Said)
         (ending : statuses.Status) (seen : Option (List (List ℕ))) (seen' : Option (List (List ℕ))) (before : Option (List ℕ)) (held : Option (List ℕ)) (failures : ℕ) (failures' : ℕ) →
-        (row_of status).completed ≡ true → TellAll wires →
-        IsRunOf M.Machine.rules M.speech command (Bytes configuration) (Bytes events) names names' status wires history spent made_for made made' is_open left (Some []) (Some report) (Rose faults faults') →
+        IsRunOf M.Machine.rules M.speech command run → (row_of run.status).completed ≡ true → TellAll run.wires →
+        file_told run.before.files command.config ≡ Bytes configuration → file_told run.before.files command.events ≡ Bytes events →
+        run.before.held ≡ Some [] → run.after.held ≡ Some report →
         file_named audit.config files ≡ Some configuration → file_named audit.events files ≡ Some events → file_named audit.report files ≡ Some report →
-        config configuration ≡ Ok w → HoldSessions files audit.dir (names_in w) wires →
+        config configuration ≡ Ok w → HoldSessions files audit.dir (names_in w) run.wires →
         IsAuditing audit (file_told (Some files)) (AppendsAll seen seen') ending before held (Rose failures failures') →
         IsNothingAmiss ending }
 {}

@@ -56,6 +56,10 @@ module _ {Opening State Job Said : Type 0} (rules : Rules Opening State Job Said
   abbrev pub replay : Opening → List (Entry Job Said) → State
   replay opening history = replay_from (rules.start opening) history
 
+  -- There is a job that may be done after this history.
+  abbrev pub MayGoOn : Opening → List (Entry Job Said) → Type 0
+  MayGoOn opening history = (job : Job) × (rules.legal job (replay opening history) ≡ true)
+
   -- the state in which the machine of a board stands, unless the board is spent
   abbrev pub state_of : BoardState Opening Job Said → State
   state_of board = replay board.opening board.history

@@ -4,7 +4,7 @@ ghost use Rattle.std.specs.Prelude.{◌≡◌, ◌+◌, ◌<◌, ◌≤◌, ◌�
 ghost use Rattle.ug_board.specs.declared.steps.LaneStep.TheVariants.{Next, Lost};
 ghost use Rattle.ug_board.specs.declared.steps.LaneSaid.TheVariants.{Stop, Noted};
 ghost use Rattle.ug_board.specs.Rules.{buffer_size, lane_said, LeavesHanded};
-ghost use Rattle.ug_board.specs.History.{IsLegal, fresh_board, state_of, job_entry, lane_entries, spent_said};
+ghost use Rattle.ug_board.specs.History.{IsLegal, MayGoOn, fresh_board, state_of, job_entry, lane_entries, spent_said};
 
 use crate::behind::{due_behind, job_behind, lane_behind, may_lose_behind};
 use crate::entry::{BoardEntry, HistoryList};
@@ -17,8 +17,8 @@ use ug_turnstile::Logged;
 use ug_types::{NoMemory, PeerId, Sequence, Steps};
 
 /// A machine and the history of its steps. Contracts see the opening, the history and whether the board is spent.
-/// The history is legal, and unless the board is spent its machine stands where the history leads and there is
-/// room for all entries that lanes can add before the next job. The machine stands behind a pointer, so that a board is
+/// The history is legal. A board is spent only where its history leaves a job that may be done; else its machine stands
+/// where the history leads and there is room for all entries that lanes can add before the next job. The machine stands behind a pointer, so that a board is
 /// moved at the cost of a few words, however large its machine is: each turn moves it.
 #[derive(Drop)]
 pub struct Board<M: Machine> {
@@ -28,14 +28,14 @@ pub struct Board<M: Machine> {
 }
 
 impl<M: Machine> Model for Board<M> {
-    ghost use Rattle.std.specs.Prelude.{◌≡◌, ◌≤◌, false, length};
-    ghost use Rattle.ug_board.specs.History.{BoardState, IsLegal, IsInStep};
+    ghost use Rattle.std.specs.Prelude.{◌≡◌, ◌≤◌, false, true, length};
+    ghost use Rattle.ug_board.specs.History.{BoardState, IsLegal, IsInStep, MayGoOn};
 
     ghost Value = { BoardState M.Opening M.Job M.Said };
 
     ghost view = { λ b. record { opening = M.opening b.machine.value; history = b.history.items; spent = b.spent } };
 
-    ghost invariant = { λ b. IsLegal M.rules (M.opening b.machine.value) b.history.items × (b.spent ≡ false → IsInStep M.rules (M.opening b.machine.value) b.history.items b.history.spare (M.state b.machine.value) (M.jobs b.machine.value)) };
+    ghost invariant = { λ b. IsLegal M.rules (M.opening b.machine.value) b.history.items × (b.spent ≡ false → IsInStep M.rules (M.opening b.machine.value) b.history.items b.history.spare (M.state b.machine.value) (M.jobs b.machine.value)) × (b.spent ≡ true → MayGoOn M.rules (M.opening b.machine.value) b.history.items) };
 }
 
 impl<M: Machine> Board<M> {
@@ -171,6 +171,7 @@ impl<M: Machine> Board<M> {
     pub fn is_spent(&self) -> bool
         ensures spent { result ≡ self.now.spent }
         ensures legal { IsLegal M.rules self.now.opening self.now.history }
+        ensures open { result ≡ true → MayGoOn M.rules self.now.opening self.now.history }
     {
         self.spent
     }

@@ -11,6 +11,7 @@ pub mod Together
 pub mod HandedTexts
 mod Lists
 mod Accounts
+mod Alike
 mod Dones
 mod Scanned
 mod ComeAndGone

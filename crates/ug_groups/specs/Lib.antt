@@ -14,6 +14,7 @@ pub mod Members
 pub mod Kept
 pub mod Steps
 pub mod Changes
+pub mod Company
 pub mod Done
 pub mod Fronts
 pub mod Jobs

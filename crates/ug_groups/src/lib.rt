@@ -6,6 +6,7 @@ mod account;
 mod asking;
 mod classes;
 mod comings;
+mod company;
 mod desires;
 mod desiring;
 mod entering;

@@ -6,6 +6,7 @@ ghost use Rattle.ug_groups.specs.Rows.{may_format_row, must_part_row};
 ghost use Rattle.ug_groups.specs.Entries.{bare, may_merge_entries};
 ghost use Rattle.ug_groups.specs.Scans.{number_at};
 
+use crate::company::some_alike;
 use crate::entry::Entry;
 use crate::states;
 use ug_outbound::GroupKey;
@@ -70,9 +71,12 @@ fn has_any_partner(entries: &[(u32, Entry)], e: &(u32, Entry)) -> bool
     states::is_level(&e.1) && place_of_partner(entries, e).is_some()
 }
 
-/// The first that has a partner.
+/// The first that has a partner. Where all classes of those that are level differ, one look at each is enough.
 pub fn place_to_merge(entries: &[(u32, Entry)]) -> Option<usize>
     ensures { result ≡ position (λ q. is_some (position (λ r. not (q.0 == r.0) && may_merge_entries q.1 r.1) entries.now)) entries.now }
 {
+    if !some_alike(entries) {
+        return None;
+    }
     entries.iter().position(|e| has_any_partner(entries, e))
 }

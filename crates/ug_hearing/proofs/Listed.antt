@@ -1,14 +1,20 @@
 -- Keys of a map that are picked by a test.
-use Rattle.std.proofs.Common.{◌≡◌, Bool, true, false, cond, List, [], ◌∷◌, ◌++◌, Some, refl, sym, ◌∙◌, ap, subst}
+use Rattle.std.proofs.Common.{◌≡◌, inl, inr, Bool, true, false, cond, List, [], ◌∷◌, ◌++◌, Some, refl, sym, ◌∙◌, ap, subst}
 use Rattle.std.specs.Prelude.{◌||◌, ◌&&◌, is_some}
 use Rattle.std.specs.Map.{keys_of}
+use Rattle.std.specs.List.{AllByRecursion}
+use Rattle.std.specs.List.Sorted.{IsStrictlySortedBy}
+use Rattle.std.specs.declared.cmp.Ordering.{Ordering}
+use Rattle.std.specs.declared.cmp.Ordering.TheVariants.{Less, Equal, Greater}
+use Rattle.std.specs.Ordering.{ordering_reverse}
 use Rattle.std.proofs.lemmas.List.{map-append, append-nil}
 use Rattle.ug_types.specs.declared.key.Key.{Key}
 use Rattle.ug_types.specs.Keys.{same_key}
+use Rattle.ug_types.specs.Orders.{key_cmp, key_cmp_total}
 use Rattle.ug_table_rules.specs.Tables.{among}
 use Rattle.ug_hearing.specs.Keyed.{value_for}
 use Rattle.ug_hearing.proofs.Keys.{same_is}
-use Rattle.ug_hearing.proofs.Among.{among-last}
+use Rattle.ug_hearing.proofs.Among.{same-self, either, or-first, or-second, among-last}
 
 and_false : (a : Bool) → (a && false) ≡ false
 and_false true = refl
@@ -88,3 +94,34 @@ all-picked {X} test entries done keys parts h there q = h q ∙ (ap (λ (es : Li
     by : (b : Bool) → test q ≡ b → (among (keys_of entries) q && test q) ≡ test q
     by true is = ap (λ (b : Bool). b && test q) (sym (among-there entries q) ∙ there q is)
     by false is = ap (λ (b : Bool). among (keys_of entries) q && b) is ∙ (and_false (among (keys_of entries) q) ∙ sym is)
+
+all_there : (P : Key → Type 0) (keys : List Key) (q : Key) → AllByRecursion P keys → among keys q ≡ true → P q
+all_there P [] q h there = absurd (let e : false ≡ true = there in cc)
+all_there P (k ∷ keys) q h there = elim (either (same_key q k) (among keys q) there) [
+  | inl it ↦ subst P (sym (same_is q k it)) h.0
+  | inr later ↦ all_there P keys q h.1 later
+]
+
+one_among : {X : Type 0} (done rest : List (Key × X)) (e : Key × X) → among (keys_of (done ++ e ∷ rest)) e.0 ≡ true
+one_among [] rest e = or-first (same_key e.0 e.0) (among (keys_of rest) e.0) (same-self e.0)
+one_among (d ∷ done) rest e = or-second (same_key e.0 d.0) (among (keys_of (done ++ e ∷ rest)) e.0) (one_among done rest e)
+
+not_less : (k : Key) → key_cmp k k ≡ Less → ⊥
+not_less k is = by (key_cmp k k) is (key_cmp_total.antisymm k k)
+  where
+    by : (o : Ordering) → o ≡ Less → o ≡ ordering_reverse o → ⊥
+    by Less e f = absurd cc
+    by Equal e f = absurd cc
+    by Greater e f = absurd cc
+
+-- each entry of a list in the order of its keys is found by its key
+pub found-in : {X : Type 0} (done rest : List (Key × X)) (e : Key × X) → IsStrictlySortedBy key_cmp (keys_of (done ++ e ∷ rest)) → value_for (done ++ e ∷ rest) e.0 ≡ Some e.1
+unfolding IsStrictlySortedBy
+found-in [] rest e sorted = ap (λ (b : Bool). cond b (Some e.1) (value_for rest e.0)) (same-self e.0)
+found-in {X} (d ∷ done) rest e sorted = by (same_key e.0 d.0) refl (found-in done rest e sorted.1)
+  where
+    by : (b : Bool) → same_key e.0 d.0 ≡ b → value_for (done ++ e ∷ rest) e.0 ≡ Some e.1 → cond b (Some d.1) (value_for (done ++ e ∷ rest) e.0) ≡ Some e.1
+    by false differs rest_is = rest_is
+    by true same rest_is =
+        let less = all_there (λ y. key_cmp d.0 y ≡ Less) (keys_of (done ++ e ∷ rest)) e.0 sorted.0 (one_among done rest e) in
+        absurd (not_less d.0 (subst (λ (k : Key). key_cmp d.0 k ≡ Less) (same_is e.0 d.0 same) less))

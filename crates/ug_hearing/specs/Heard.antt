@@ -3,7 +3,7 @@ use Rattle.std.specs.Prelude.{◌≡◌, ℕ, ◌≤◌, nat_lt, Bool, true, fal
 use Rattle.std.specs.Global.{Vec}
 use Rattle.std.specs.List.{list_any}
 use Rattle.ug_types.specs.declared.key.Key.{Key}
-use Rattle.ug_types.specs.Messages.{Message}
+use Rattle.ug_types.specs.Messages.{Message, Updates, Begins, Ends, Ignored}
 use Rattle.ug_table_rules.specs.Tables.{Table, among, reading_from, nothing_read, tables_after}
 use Rattle.ug_table_rules.specs.Climbing.{values_at}
 use Rattle.ug_climb.specs.declared.change.Change.{Change}
@@ -40,3 +40,14 @@ pub record IsTaken (entries : List (Key × Vec Change)) (from to : ℕ) (past ta
   pub heard : failed ≡ [] → IsHeard entries from to past tables st refreshing ms
   pub fails : (key : Key) → among failed key ≡ true → CantClimb entries from to past tables key (values_at key (tables_after ms))
   pub others : (key : Key) → among failed key ≡ false → HasRow entries from to past tables st key (values_at key (tables_after ms))
+
+-- the message ends a refresh, which may be heard of keys that it doesn't name
+abbrev pub ends_refresh : Message → Bool
+ends_refresh (Updates u) = false
+ends_refresh Begins = false
+ends_refresh Ends = true
+ends_refresh Ignored = false
+
+-- The row of a key that the message says nothing of stays as it was.
+abbrev pub KeepsOthers : Message → List (Key × Row) → List (Key × Row) → Type 0
+KeepsOthers m old new = ends_refresh m ≡ false → (q : Key) → names q m ≡ false → value_for new q ≡ value_for old q

@@ -1,10 +1,10 @@
 //! A session, heard message by message.
 
-ghost use Rattle.std.specs.Prelude.{◌≡◌, suc, List, IfOk, [], ◌∷◌, ◌++◌, length};
+ghost use Rattle.std.specs.Prelude.{◌≡◌, suc, List, IfOk, OnOk, [], ◌∷◌, ◌++◌, length};
 ghost use Rattle.ug_types.specs.Messages.{Message, message_of, changes_of, Updates, Begins, Ends};
 ghost use Rattle.ug_table_rules.specs.Tables.{Table};
 ghost use Rattle.ug_hearing.specs.Courses.{IsCourse};
-ghost use Rattle.ug_hearing.specs.Heard.{IsHeard, IsTaken};
+ghost use Rattle.ug_hearing.specs.Heard.{IsHeard, IsTaken, KeepsOthers};
 
 use crate::course::Course;
 use crate::naming::all_but;
@@ -28,10 +28,11 @@ impl Hearing {
         message: u64,
         item: &Item,
     ) -> Result<Vec<Key>, NoMemory>
-        ensures { IfOk result (λ failed. (past : List Table) (tables : List Table) (ms : List Message) →
+        ensures taken { IfOk result (λ failed. (past : List Table) (tables : List Table) (ms : List Message) →
             IsCourse course.now.changes course.now.from course.now.to past tables → message ≡ suc (length ms) →
             IsHeard course.now.changes course.now.from course.now.to past tables self.old.standings self.old.refreshing ms →
             IsTaken course.now.changes course.now.from course.now.to past tables failed.items self.new.standings self.new.refreshing (ms ++ message_of item.now ∷ [])) }
+        ensures others { OnOk result (KeepsOthers (message_of item.now) self.old.standings.rows self.new.standings.rows) }
     {
         match item {
             Item::Update(update) => self.update(alloc, course, message, update),
@@ -48,10 +49,11 @@ impl Hearing {
         message: u64,
         update: &Update,
     ) -> Result<Vec<Key>, NoMemory>
-        ensures { IfOk result (λ failed. (past : List Table) (tables : List Table) (ms : List Message) →
+        ensures taken { IfOk result (λ failed. (past : List Table) (tables : List Table) (ms : List Message) →
             IsCourse course.now.changes course.now.from course.now.to past tables → message ≡ suc (length ms) →
             IsHeard course.now.changes course.now.from course.now.to past tables self.old.standings self.old.refreshing ms →
             IsTaken course.now.changes course.now.from course.now.to past tables failed.items self.new.standings self.new.refreshing (ms ++ Updates (changes_of update.now) ∷ [])) }
+        ensures others { OnOk result (KeepsOthers (Updates (changes_of update.now)) self.old.standings.rows self.new.standings.rows) }
     {
         let mut failed = Vec::new(alloc);
         let announced = update.announced.as_slice();
@@ -66,9 +68,10 @@ impl Hearing {
 
     /// A refresh that can't be numbered any more, the 2^64th, is want of memory.
     fn begin(&mut self, alloc: Global) -> Result<Vec<Key>, NoMemory>
-        ensures { IfOk result (λ failed. (entries : List (_)) (from : _) (to : _) (past : List Table) (tables : List Table) (ms : List Message) →
+        ensures taken { IfOk result (λ failed. (entries : List (_)) (from : _) (to : _) (past : List Table) (tables : List Table) (ms : List Message) →
             IsCourse entries from to past tables → IsHeard entries from to past tables self.old.standings self.old.refreshing ms →
             IsTaken entries from to past tables failed.items self.new.standings self.new.refreshing (ms ++ Begins ∷ [])) }
+        ensures rows { OnOk result (self.new.standings.rows ≡ self.old.standings.rows) }
     {
         if self.standings.refreshes == u64::MAX {
             return Err(NoMemory);

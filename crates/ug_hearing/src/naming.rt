@@ -24,8 +24,11 @@ fn set_of(alloc: Global, keys: &[Key]) -> Result<KeyMap<bool>, NoMemory>
 pub fn all_but(alloc: Global, keys: &[Key], others: &[Key]) -> Result<Vec<Key>, NoMemory>
     ensures { IfOk result (λ left. (q : routes.Key) → among left.items q ≡ (among keys.now q && not (among others.now q))) }
 {
-    let named = set_of(alloc, others)?;
     let mut left = Vec::new(alloc);
+    if keys.is_empty() {
+        return Ok(left);
+    }
+    let named = set_of(alloc, others)?;
     for key in keys {
         if !named.contains(key) {
             left.push(*key)?;

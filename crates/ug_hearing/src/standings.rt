@@ -39,26 +39,28 @@ impl Standings {
         }
     }
 
-    /// The row of a key, or the one that it begins with.
-    pub fn row(&self, course: &Course, key: &Key) -> Row
+    /// The row of a key, whose changes these are, or the one that it begins with.
+    pub fn row(&self, course: &Course, changes: &[Change], key: &Key) -> Row
+        requires { changes.now ≡ changes_of course.now.changes key.now }
         ensures { result ≡ row_for self.now.rows course.now.changes course.now.from key.now }
     {
         match self.rows.get(key) {
             Some(row) => *row,
             None => Row {
-                standing: start(course.changes_of(key), course.from),
+                standing: start(changes, course.from),
                 moved: 0,
                 seen: 0,
             },
         }
     }
 
-    /// What the key has, by its row.
-    pub fn value<'a>(&self, course: &'a Course, key: &Key) -> Option<&'a Attrs>
+    /// What the key, whose changes these are, has by its row.
+    pub fn value<'a>(&self, course: &Course, changes: &'a [Change], key: &Key) -> Option<&'a Attrs>
+        requires { changes.now ≡ changes_of course.now.changes key.now }
         ensures { option_copied result ≡ value_before (row_for self.now.rows course.now.changes course.now.from key.now).standing.next (changes_of course.now.changes key.now) }
     {
-        let row = self.row(course, key);
-        value_at(course.changes_of(key), row.standing.next)
+        let row = self.row(course, changes, key);
+        value_at(changes, row.standing.next)
     }
 
     /// The key has this value after the message: its row goes there. Answers whether it could.
@@ -71,10 +73,10 @@ impl Standings {
     ) -> Result<bool, NoMemory>
         ensures { IfOk result (IsVisit course.now.changes course.now.from course.now.to message key.now (option_copied value.entry) self.old self.new) }
     {
-        let row = self.row(course, key);
+        let changes = course.changes_of(key);
+        let row = self.row(course, changes, key);
         let seen = self.refreshes;
-        let Some(standing) = climb_below(course.changes_of(key), row.standing, value, course.to)
-        else {
+        let Some(standing) = climb_below(changes, row.standing, value, course.to) else {
             self.rows.put(*key, Row { seen, ..row })?;
             return Ok(false);
         };

@@ -6,13 +6,13 @@ use Rattle.ug_text.specs.Cutting.{with_front, cut_at}
 use Rattle.ug_pieces.specs.Lines.{ended_from, rest_from, where_some, lines_of}
 
 -- what a text is cut into behind the front of a line
-record IsCut (front text line rest : List ℕ) : Type 0 where
-  lines : ended_from front text ≡ (front ++ line) ∷ ended_from [] rest
-  left : rest_from front text ≡ rest_from [] rest
+pub record IsCut (front text line rest : List ℕ) : Type 0 where
+  pub lines : ended_from front text ≡ (front ++ line) ∷ ended_from [] rest
+  pub left : rest_from front text ≡ rest_from [] rest
 
-record IsUncut (front text : List ℕ) : Type 0 where
-  lines : ended_from front text ≡ []
-  left : rest_from front text ≡ front ++ text
+pub record IsUncut (front text : List ℕ) : Type 0 where
+  pub lines : ended_from front text ≡ []
+  pub left : rest_from front text ≡ front ++ text
 
 front_some : (b : ℕ) (o : Option (List ℕ × List ℕ)) (line rest : List ℕ) → with_front b o ≡ Some (line, rest) → (tail : List ℕ) × (line ≡ b ∷ tail) × (o ≡ Some (tail, rest))
 front_some b None line rest e = absurd cc
@@ -24,7 +24,7 @@ front_none : (b : ℕ) (o : Option (List ℕ × List ℕ)) → with_front b o �
 front_none b None e = refl
 front_none b (Some parts) e = absurd cc
 
-cut_is : (front text line rest : List ℕ) → cut_at 10 text ≡ Some (line, rest) → IsCut front text line rest
+pub cut_is : (front text line rest : List ℕ) → cut_at 10 text ≡ Some (line, rest) → IsCut front text line rest
 unfolding cut_at ended_from rest_from
 cut_is front [] line rest e = absurd cc
 cut_is front (b ∷ text) line rest e = by (b == 10) refl e (λ tail e. cut_is (front ++ b ∷ []) text tail rest e)
@@ -47,7 +47,7 @@ cut_is front (b ∷ text) line rest e = by (b == 10) refl e (λ tail e. cut_is (
           left = ap (λ (t : Bool). if t then rest_from [] text else rest_from (front ++ b ∷ []) text) is ∙ later.left;
         }
 
-uncut_is : (front text : List ℕ) → cut_at 10 text ≡ None → IsUncut front text
+pub uncut_is : (front text : List ℕ) → cut_at 10 text ≡ None → IsUncut front text
 unfolding cut_at ended_from rest_from
 uncut_is front [] e = record { lines = refl; left = sym (append-nil front) }
 uncut_is front (b ∷ text) e = by (b == 10) refl e (λ e. uncut_is (front ++ b ∷ []) text e)

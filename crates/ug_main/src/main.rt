@@ -20,6 +20,7 @@ ghost use Rattle.ug_run.specs.Commands.{is_fed, IsOne, IsRunOf};
 ghost use Rattle.ug_run.specs.Drawn.{drawn_world, IsSelfRun};
 ghost use Rattle.ug_group_rules.specs.Rules.{group_rules, group_speech};
 ghost use Rattle.ug_main.specs.Counting.{CountsEvents, CountsRun};
+ghost use Rattle.ug_main.specs.Ran.{Ran};
 
 use std::alloc::Global;
 use std::io::{self, ErrorKind, Write};
@@ -115,7 +116,7 @@ fn all_but_first(alloc: Global, args: env::Args) -> Result<Vec<String>, Status>
     Ok(words)
 }
 
-/// Runs a command with sessions, with a counter of its own, and answers its status.
+/// Runs a command with sessions, with a counter of its own, and answers its status. What `run` says of a status is said of this one.
 fn begin<L: Ledger, R: Threads + Wait + Sync, E: Site, K: Sink>(
     rt: &R,
     alloc: Global,
@@ -127,6 +128,19 @@ fn begin<L: Ledger, R: Threads + Wait + Sync, E: Site, K: Sink>(
     requires name { blank.name ≡ L.name }
     requires parts { blank.parts ≡ L.parts }
     requires some { 0 < blank.parts }
+    ensures one { (command : OneCommand) → command_of (map string_bytes words.now) ≡ Some (One command) →
+        Ran (record { files = E.files site.old; picks = E.picks site.old; made = E.made site.old; held = K.held report.old; faults = K.faults report.old })
+        (record { picks = E.picks site.new; left = E.left site.new; made = E.made site.new; held = K.held report.new; faults = K.faults report.new }) result (IsOne group_rules group_speech command.events) }
+    ensures run { (command : RunCommand) → command_of (map string_bytes words.now) ≡ Some (Run command) →
+        Ran (record { files = E.files site.old; picks = E.picks site.old; made = E.made site.old; held = K.held report.old; faults = K.faults report.old })
+        (record { picks = E.picks site.new; left = E.left site.new; made = E.made site.new; held = K.held report.new; faults = K.faults report.new }) result (IsRunOf group_rules group_speech command) }
+    ensures usage { (result ≡ Status.Usage) ↔ (is_command (map string_bytes words.now) ≡ false) }
+    ensures read { result ≡ Status.ReadFault → Rose (E.faults site.old) (E.faults site.new) }
+    ensures unharmed { (result ≡ Status.ReadFault → ⊥) → E.faults site.new ≡ E.faults site.old }
+    ensures report { result ≡ Status.ReportFault → Rose (K.faults report.old) (K.faults report.new) }
+    ensures site { result ≡ Status.SiteFault → Rose (E.wire_faults site.old) (E.wire_faults site.new) }
+    ensures all_wired { (result ≡ Status.SiteFault → ⊥) → E.wire_faults site.new ≡ E.wire_faults site.old }
+    ensures ended { is_fed (command_of (map string_bytes words.now)) ≡ true → (row_of result).completed ≡ true → IsEnded (E.left site.new) }
 {
     let mut steps = Steps::<L>::new(blank);
     run(rt, alloc, words, site, report, &mut steps).status
@@ -147,13 +161,25 @@ fn run<R: Threads + Wait + Sync, E: Site, K: Sink, L: Ledger>(
     steps: &mut Steps<L>,
 ) -> Done<E::Wire, UpdateGroups>
     ensures one { (command : OneCommand) → command_of (map string_bytes words.now) ≡ Some (One command) →
-        IsOne group_rules group_speech command.events (file_told (E.files site.old) command.events) (E.picks site.old).names (E.picks site.new).names result.status
-        (map (λ wire. record { sessions = E.Wire.sessions wire; faults = E.Wire.faults wire }) result.wires.items) result.history.items result.spent
-        (E.picks site.new).is_open (E.left site.new) (K.held report.old) (K.held report.new) (Rose (K.faults report.old) (K.faults report.new)) }
+        IsOne group_rules group_speech command.events (record {
+          before = record { files = E.files site.old; picks = E.picks site.old; made = E.made site.old; held = K.held report.old; faults = K.faults report.old };
+          after = record { picks = E.picks site.new; left = E.left site.new; made = E.made site.new; held = K.held report.new; faults = K.faults report.new };
+          status = result.status;
+          wires = map (λ wire. record { sessions = E.Wire.sessions wire; faults = E.Wire.faults wire }) result.wires.items;
+          made_for = map E.Wire.made_for result.wires.items;
+          history = result.history.items;
+          spent = result.spent;
+        }) }
     ensures run { (command : RunCommand) → command_of (map string_bytes words.now) ≡ Some (Run command) →
-        IsRunOf group_rules group_speech command (file_told (E.files site.old) command.config) (file_told (E.files site.old) command.events) (E.picks site.old).names (E.picks site.new).names result.status
-        (map (λ wire. record { sessions = E.Wire.sessions wire; faults = E.Wire.faults wire }) result.wires.items) result.history.items result.spent (map E.Wire.made_for result.wires.items) (E.made site.old) (E.made site.new)
-        (E.picks site.new).is_open (E.left site.new) (K.held report.old) (K.held report.new) (Rose (K.faults report.old) (K.faults report.new)) }
+        IsRunOf group_rules group_speech command (record {
+          before = record { files = E.files site.old; picks = E.picks site.old; made = E.made site.old; held = K.held report.old; faults = K.faults report.old };
+          after = record { picks = E.picks site.new; left = E.left site.new; made = E.made site.new; held = K.held report.new; faults = K.faults report.new };
+          status = result.status;
+          wires = map (λ wire. record { sessions = E.Wire.sessions wire; faults = E.Wire.faults wire }) result.wires.items;
+          made_for = map E.Wire.made_for result.wires.items;
+          history = result.history.items;
+          spent = result.spent;
+        }) }
     ensures checked { (command : CheckCommand) → command_of (map string_bytes words.now) ≡ Some (Check command) →
         IsChecked command (file_told (E.files site.old) command.stream) (E.picks site.new).is_open (E.left site.new) result.status (K.held report.old) (K.held report.new) (Rose (K.faults report.old) (K.faults report.new)) }
     ensures listed { (command : GroupsCommand) → command_of (map string_bytes words.now) ≡ Some (Groups command) →
@@ -192,16 +218,16 @@ fn run<R: Threads + Wait + Sync, E: Site, K: Sink, L: Ledger>(
     ensures check_unmade { (command : CheckCommand) → command_of (map string_bytes words.now) ≡ Some (Check command) → E.made site.new ≡ E.made site.old }
     ensures groups_unmade { (command : GroupsCommand) → command_of (map string_bytes words.now) ≡ Some (Groups command) → E.made site.new ≡ E.made site.old }
     ensures audit_unmade { (command : AuditCommand) → command_of (map string_bytes words.now) ≡ Some (Audit command) → E.made site.new ≡ E.made site.old }
-    ensures check_idle { (command : CheckCommand) → command_of (map string_bytes words.now) ≡ Some (Check command) → (result.wires.items ≡ []) × (result.history.items ≡ []) × (steps.new ≡ steps.old) }
-    ensures groups_idle { (command : GroupsCommand) → command_of (map string_bytes words.now) ≡ Some (Groups command) → (result.wires.items ≡ []) × (result.history.items ≡ []) × (steps.new ≡ steps.old) }
-    ensures audit_idle { (command : AuditCommand) → command_of (map string_bytes words.now) ≡ Some (Audit command) → (result.wires.items ≡ []) × (result.history.items ≡ []) × (steps.new ≡ steps.old) }
+    ensures check_idle { (command : CheckCommand) → command_of (map string_bytes words.now) ≡ Some (Check command) → (result.wires.items ≡ []) × (result.history.items ≡ []) × (result.spent ≡ false) × (steps.new ≡ steps.old) }
+    ensures groups_idle { (command : GroupsCommand) → command_of (map string_bytes words.now) ≡ Some (Groups command) → (result.wires.items ≡ []) × (result.history.items ≡ []) × (result.spent ≡ false) × (steps.new ≡ steps.old) }
+    ensures audit_idle { (command : AuditCommand) → command_of (map string_bytes words.now) ≡ Some (Audit command) → (result.wires.items ≡ []) × (result.history.items ≡ []) × (result.spent ≡ false) × (steps.new ≡ steps.old) }
     // `selfrun` leaves the site alone: nothing is read, and no wire is made.
     ensures drawn_alone { (command : SelfRunCommand) → command_of (map string_bytes words.now) ≡ Some (SelfRun command) → (site.new ≡ site.old) × (result.wires.items ≡ []) }
     // Words that are no command.
     ensures usage { (result.status ≡ Status.Usage) ↔ (is_command (map string_bytes words.now) ≡ false) }
     ensures no_command { is_command (map string_bytes words.now) ≡ false →
         AppendsThenStatus (K.held report.old) (K.held report.new) (Rose (K.faults report.old) (K.faults report.new)) [] (status_text Status.Usage) }
-    ensures idle { is_command (map string_bytes words.now) ≡ false → (result.wires.items ≡ []) × (result.history.items ≡ []) × (steps.new ≡ steps.old) }
+    ensures idle { is_command (map string_bytes words.now) ≡ false → (result.wires.items ≡ []) × (result.history.items ≡ []) × (result.spent ≡ false) × (steps.new ≡ steps.old) }
     ensures unmade { is_command (map string_bytes words.now) ≡ false → E.made site.new ≡ E.made site.old }
     ensures unread { is_command (map string_bytes words.now) ≡ false → E.left site.new ≡ E.left site.old }
     ensures unpicked { is_command (map string_bytes words.now) ≡ false → E.picks site.new ≡ E.picks site.old }

@@ -47,6 +47,16 @@ module _ {P : Type 0} where
   kept_at ps d None le = refl
   kept_at ps d (Some p) le = let whole : d + (p - d) ≡ p = omega (arith, le) in drop-drop (p - d) d ps ∙ ap (λ k. drop k ps) whole
 
+  -- where there are no packets nobody has any to take
+  pub none_left : (q : Queued P) (m : ℕ) → length q.packets ≡ 0 → 0 ≡ length (rest_of q m)
+  none_left q m none = by (place_of q m) q.packets none
+    where
+      by : (o : Option ℕ) (ps : List P) → length ps ≡ 0 → 0 ≡ length (from_place ps o)
+      by None ps none = refl
+      by (Some zero) [] none = refl
+      by (Some (suc p)) [] none = refl
+      by (Some p) (x ∷ ps) none = absurd (omega (arith, none))
+
   longest_at : (q : Queued P) → IsStrictlySortedBy nat_cmp (keys_of q.places) → passed q ≡ 0 → 0 < length q.packets → (m : ℕ) × (rest_of q m ≡ q.packets)
   longest_at q sorted none some =
       let first = zero_place (length q.packets) q.places some none in let e = first.1 in

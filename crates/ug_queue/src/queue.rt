@@ -129,12 +129,16 @@ impl<P> Queue<P> {
         None
     }
 
-    /// The number of packets from the member's cursor to the end.
+    /// The number of packets from the member's cursor to the end. Where there is no packet, no cursor is looked up.
     pub fn left(&self, member: PeerId) -> usize
         requires { IsMember self.now member }
         ensures left { result ≡ length (rest_of self.now member) }
         ensures inside { IsInside self.now member }
     {
+        if self.line.len() == 0 {
+            self.line.know_places();
+            return 0;
+        }
         self.line.len() - self.line.place(member)
     }
 

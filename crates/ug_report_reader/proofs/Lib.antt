@@ -2,6 +2,6 @@ pub mod Digits
 pub mod Places
 pub mod Words
 pub mod Kept
-pub mod Cut
+pub mod Long
 pub mod Between
 pub mod Sourced

@@ -1,4 +1,5 @@
 pub mod Numbers
+pub mod Kept
 pub mod Told
 pub mod Reading
 pub mod ReadingLaws

@@ -11,6 +11,7 @@ use Rattle.ug_report_reader.specs.declared.lines.Told.{Told}
 use Rattle.ug_report_reader.specs.declared.reading.Reading.{Reading}
 use Rattle.ug_report_reader.specs.declared.stop.Stop.{Stop}
 use Rattle.ug_report_reader.specs.Told.{TellsAsMuch, most_lines, IsStop}
+use Rattle.ug_report_reader.specs.Kept.{IsAmple, IsKept}
 
 -- These are all that lines told, they are clear, and they are no more than the limit.
 pub record HasTold (t : Told) (all : List Entry) : Type 0 where
@@ -23,11 +24,15 @@ pub record HasTold (t : Told) (all : List Entry) : Type 0 where
 abbrev pub whole_entries : World → List ℕ → List Entry
 whole_entries last bytes = map (entry_of last) (ended_from [] bytes)
 
--- Of all bytes these are left, and the lines that end before them were told.
+-- Of all bytes these are left, the lines that end before them were told, and what stands before them of a line that doesn't
+-- is kept.
 pub record IsMid (last : World) (r : Reading) (all left : List ℕ) : Type 0 where
   pub done : List (List ℕ)
-  pub lines : ended_from [] all ≡ done ++ ended_from r.rest.items left
-  pub rest : rest_from [] all ≡ rest_from r.rest.items left
+  pub line : List ℕ
+  pub lines : ended_from [] all ≡ done ++ ended_from line left
+  pub rest : rest_from [] all ≡ rest_from line left
+  pub kept : IsKept r.most r.rest.items line
+  pub ample : IsAmple last r.most
   pub told : HasTold r.told (map (entry_of last) done)
 
 -- Nothing of these bytes is left.

@@ -2,6 +2,7 @@
 
 ghost use Rattle.std.specs.Prelude.{◌≡◌, ◌<◌, length, IfSome};
 ghost use Rattle.ug_audit_rules.specs.Reports.{peer_names_in, place_from, had_session, where_true};
+ghost use Rattle.ug_report_reader.specs.Kept.{IsAmple};
 
 use ug_types::PeerId;
 use ug_world::World;
@@ -29,4 +30,16 @@ pub fn session_of(world: &World, id: PeerId, number: u64) -> Option<u32>
         return None;
     }
     Some(number as u32)
+}
+
+/// How many bytes are more than a line has that tells something: four words of at most 4, 20, 20 and 20 bytes, the name of a
+/// peer, and the four spaces between them.
+pub fn most_kept(world: &World) -> usize
+    ensures { IsAmple world.now result }
+{
+    let mut longest: usize = 0;
+    for id in 0..world.peers() {
+        longest = longest.max(world.peer(id).name.text().len());
+    }
+    longest.saturating_add(69)
 }

@@ -4,6 +4,7 @@ ghost use Rattle.std.specs.Prelude.{◌≡◌, ◌++◌, [], ℕ, List, OnOk, If
 ghost use Rattle.ug_audit_rules.specs.Reports.{entries_of};
 ghost use Rattle.ug_world.specs.World as worlds;
 ghost use Rattle.ug_report_reader.specs.Told.{IsStop};
+ghost use Rattle.ug_report_reader.specs.Kept.{IsAmple, KeepsOn};
 ghost use Rattle.ug_report_reader.specs.Reading.{HasReadTo, HasTold, whole_entries};
 
 use crate::lines::Told;
@@ -13,21 +14,24 @@ use ug_text::cut_at;
 use ug_types::NoMemory;
 use ug_world::World;
 
-/// What the whole lines told, and the bytes behind the last newline.
+/// What the whole lines told, and the front of the bytes behind the last newline: no more than so many, which are more than a
+/// line has that tells something.
 #[derive(Drop)]
 pub struct Reading {
     pub told: Told,
     pub rest: Vec<u8>,
+    pub most: usize,
 }
 
 impl Reading {
     /// Before any byte.
-    pub fn new(alloc: Global) -> Reading
-        ensures { (last : worlds.World) → HasReadTo last result [] }
+    pub fn new(alloc: Global, most: usize) -> Reading
+        ensures { (last : worlds.World) → IsAmple last most → HasReadTo last result [] }
     {
         Reading {
             told: Told::new(alloc),
             rest: Vec::new(alloc),
+            most,
         }
     }
 
@@ -38,9 +42,9 @@ impl Reading {
     {
         let mut left = piece;
         while let Some((front, behind)) = cut_at(b'\n', left) {
-            match self.rest.extend_from_slice(front) {
+            match keep(&mut self.rest, self.most, front) {
                 Ok(()) => {}
-                Err(_) => return Err(Stop::NoMemory),
+                Err(NoMemory) => return Err(Stop::NoMemory),
             }
             match self.told.take_line(last, &self.rest) {
                 Ok(()) => {}
@@ -49,9 +53,9 @@ impl Reading {
             self.rest.clear();
             left = behind;
         }
-        match self.rest.extend_from_slice(left) {
+        match keep(&mut self.rest, self.most, left) {
             Ok(()) => Ok(()),
-            Err(_) => Err(Stop::NoMemory),
+            Err(NoMemory) => Err(Stop::NoMemory),
         }
     }
 
@@ -68,4 +72,14 @@ impl Reading {
             Err(stop) => Err(stop),
         }
     }
+}
+
+/// Adds bytes to what is kept of a line, as far as that has fewer than so many.
+fn keep(rest: &mut Vec<u8>, most: usize, bytes: &[u8]) -> Result<(), NoMemory>
+    ensures { OnOk result (KeepsOn most rest.old.items rest.new.items bytes.now) }
+{
+    let room = most.saturating_sub(rest.len());
+    let (front, _) = bytes.split_at(room.min(bytes.len()));
+    rest.extend_from_slice(front)?;
+    Ok(())
 }

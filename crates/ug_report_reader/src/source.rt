@@ -7,6 +7,7 @@ ghost use Rattle.ug_pieces.specs.Pieces.{HasRead};
 ghost use Rattle.ug_report_reader.specs.Reading.{HasGone, HasStoppedIn, IsReport, IsReportHalt};
 ghost use Rattle.ug_report_reader.specs.ReadingLaws.{goes_nowhere, goes_further, stops_further};
 
+use crate::peers::most_kept;
 use crate::reading::Reading;
 use crate::stop::Stop;
 use std::alloc::Global;
@@ -40,7 +41,7 @@ impl Taker<World> for Reading {
 
 /// The marks and the losses that a report tells, in the order of its lines, by the world to which all lines of events lead.
 /// It is read to its end, or up to the first line that isn't clear, or to the byte 1,073,741,825 or the line 2,000,001. No more
-/// of it is held than a piece and a line.
+/// of it is held than a piece and the front of a line.
 pub fn read_report<E: Source>(
     alloc: Global,
     last: &mut World,
@@ -57,7 +58,7 @@ pub fn read_report<E: Source>(
     ensures made { E.made source.new ≡ E.made source.old }
     ensures wire_faults { E.wire_faults source.new ≡ E.wire_faults source.old }
 {
-    let mut reading = Reading::new(alloc);
+    let mut reading = Reading::new(alloc, most_kept(last));
     match read_pieces(alloc, MOST_BYTES, source, &mut reading, last) {
         Ok(()) => {}
         Err(halt) => return Err(halt),

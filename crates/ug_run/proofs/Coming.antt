@@ -5,7 +5,7 @@ use Rattle.std.specs.List.{concat, list_any, flat_map}
 use Rattle.std.proofs.lemmas.List.{append-nil}
 use Rattle.ug_types.specs.declared.mark.Mark.{Mark}
 use Rattle.ug_types.specs.Bytes.{is_empty}
-use Rattle.ug_edge.specs.Told.{Rose, IsEnded, HasPicked, FileText, file_told, AppendsPiece}
+use Rattle.ug_edge.specs.Told.{Rose, IsEnded, HasPicked, FileText, WireName, file_told, AppendsPiece}
 use Rattle.ug_pieces.specs.Pieces.{HasRead}
 use Rattle.ug_pieces.specs.Reporting.{AppendsFront}
 use Rattle.ug_pieces.specs.AppendingLaws.{AppendsPiece-more, AppendsFront-more}
@@ -21,18 +21,18 @@ use Rattle.ug_speaker.specs.Speech.{Speech}
 use Rattle.ug_speaker.specs.Owes.{IsOpening, IsSpeaker}
 use Rattle.ug_speaker.specs.Story.{IsSound}
 use Rattle.ug_report.specs.declared.endings.Loss.{Loss}
-use Rattle.ug_report.specs.Report.{AreOf64, names_in, loss_text, counts_text, accepted_count, refused_count, line_texts, end_text, losses_from, losses_status}
+use Rattle.ug_report.specs.Report.{names_in, loss_text, counts_text, accepted_count, refused_count, line_texts, end_text, losses_from, losses_status}
 use Rattle.ug_event_loop.specs.declared.grammar.Grammar.{Grammar}
 use Rattle.ug_event_loop.specs.declared.tally.Tally.{Tally}
 use Rattle.ug_event_loop.specs.declared.stop.Stop.TheVariants as stops
 use Rattle.ug_event_loop.specs.declared.reading.End.{End}
 use Rattle.ug_event_loop.specs.declared.reading.End.TheVariants as ends
-use Rattle.ug_event_loop.specs.Standing.{said_by, AreLanes, IsTally, HasTaken, StandsAt, StopsAt, Stands, Stops, BuilderView, BuilderStands, BuilderStops}
+use Rattle.ug_event_loop.specs.Standing.{said_by, AreLanes, IsTally, HasTaken, IsReportedUntil, StandsAt, StopsAt, Stands, Stops, BuilderView, BuilderStands, BuilderStops}
 use Rattle.ug_event_loop.specs.Files.{lines_read, IsPastLimits}
 use Rattle.ug_event_loop.specs.Turns.{IsEndedAt, IsClosedAt}
 use Rattle.ug_event_loop.specs.Reading.{Outside, IsNotBegun, EndsAt}
-use Rattle.ug_commands.specs.Files.{IsPartOf, AgreesWithSite, AppendsThenStatus}
-use Rattle.ug_report.specs.Statuses.{row_of, status_text}
+use Rattle.ug_commands.specs.Files.{IsPartOf, AppendsThenStatus}
+use Rattle.ug_report.specs.Statuses.{status_text}
 use Rattle.ug_report.specs.declared.status.Status.{Status}
 use Rattle.ug_report.specs.declared.status.Status.TheVariants as statuses
 use Rattle.ug_commands.proofs.Ends.{rest_of, part_read, no_rest, not_missing, agrees_read, then_status, later_status}
@@ -40,20 +40,14 @@ use Rattle.ug_run_rules.specs.Contents.{WireTold, Content}
 use Rattle.ug_run_rules.specs.Crew.{EachLaneFrom, IsCrewed, IsClosed, all_losses}
 use Rattle.ug_run_rules.specs.Kept.{IsKept, IsWireOf, IsWireRight, AreCounted}
 use Rattle.ug_run_rules.proofs.Lists.{each-front, each-join}
-use Rattle.ug_run_rules.proofs.Keeps.{closed-kept, each_wire_so}
-use Rattle.ug_run.specs.Ends.{last_text, IsFirst, IsConcluded, CompletesBy, IsFinished}
-use Rattle.ug_run.specs.Promise.{lines_counted, IsLimited, IsAhead, texts, whole_text, HasReport, IsFirstLoss, IsDoneBy, Concludes, IsRun}
-use Rattle.ug_run.proofs.Stories.{lines-sound, others-lanes, IsBehind, ended-all, closed-all, story-all}
+use Rattle.ug_run_rules.proofs.Keeps.{closed-kept}
+use Rattle.ug_run.specs.Ends.{last_text, IsConcluded, CompletesBy, IsFinished}
+use Rattle.ug_run.specs.Told.{Before, After, RunTold}
+use Rattle.ug_run.specs.Outcomes.{Course, Completes, IsCut, IsOutcome}
+use Rattle.ug_run.specs.Promise.{IsRun}
+use Rattle.ug_run.proofs.Stories.{not_true, lines-sound, others-lanes, IsBehind, ended-all, closed-all, story-all}
 
 -- ---- lines
-
-never_both : (b : Bool) → (b && false) ≡ false
-never_both true = refl
-never_both false = refl
-
-both_true : (b : Bool) → (b && true) ≡ b
-both_true true = refl
-both_true false = refl
 
 ended_empty : (left : Option (List ℕ)) → (ended : Bool) → (ended ≡ true → IsEnded left) → ended ≡ true → is_empty (rest_of left) ≡ true
 ended_empty left ended then is = ap is_empty (no_rest left (then is))
@@ -61,59 +55,27 @@ ended_empty left ended then is = ap is_empty (no_rest left (then is))
 -- ---- reports
 
 module _ (names : List (List ℕ)) (w : World) (lines : List (Reads Saying)) (marks : List (List Mark)) (losses : List Loss) (tally : Tally) (tallied : IsTally w lines tally) (before mid held : Option (List ℕ)) (failed : Type 0)
-    (reported : AppendsPiece before mid (concat (line_texts names 1 w lines marks))) (concludes : Type 0) where
+    (reported : AppendsPiece before mid (concat (line_texts names 1 w lines marks))) where
+  abbrev all_text : List ℕ
+  all_text = concat (line_texts names 1 w lines marks) ++ end_text names w lines losses
+
   last_is : last_text names losses tally.accepted tally.refused ≡ end_text names w lines losses
   last_is =
       ap (λ n. flat_map (loss_text names) losses ++ counts_text n tally.refused) tallied.accepted
       ∙ ap (λ n. flat_map (loss_text names) losses ++ counts_text (accepted_count w lines) n) tallied.refused
 
-  ends_whole : AppendsPiece mid held (last_text names losses tally.accepted tally.refused) → AppendsPiece before held (whole_text names w lines marks losses)
+  ends_whole : AppendsPiece mid held (last_text names losses tally.accepted tally.refused) → AppendsPiece before held all_text
   ends_whole piece = AppendsPiece-more before mid held (concat (line_texts names 1 w lines marks)) (end_text names w lines losses) reported (subst (λ (t : List ℕ). AppendsPiece mid held t) last_is piece)
 
-  ends_front : AppendsFront mid held (last_text names losses tally.accepted tally.refused) → AppendsFront before held (whole_text names w lines marks losses)
+  ends_front : AppendsFront mid held (last_text names losses tally.accepted tally.refused) → AppendsFront before held all_text
   ends_front front = AppendsFront-more before mid held (concat (line_texts names 1 w lines marks)) (end_text names w lines losses) reported (subst (λ (t : List ℕ). AppendsFront mid held t) last_is front)
 
   ends_lost : AppendsThenStatus mid held failed (last_text names losses tally.accepted tally.refused) (losses_status names losses)
-      → AppendsThenStatus before held failed (whole_text names w lines marks losses) (losses_status names losses)
+      → AppendsThenStatus before held failed all_text (losses_status names losses)
   ends_lost h =
       let all = concat (line_texts names 1 w lines marks) in
       let piece : AppendsPiece mid held (end_text names w lines losses ++ h.0) = subst (λ (t : List ℕ). AppendsPiece mid held (t ++ h.0)) last_is h.3 in
       (h.0, h.1, h.2, subst (λ (t : List ℕ). AppendsPiece before held t) (sym (append_assoc all (end_text names w lines losses) h.0)) (AppendsPiece-more before mid held all (end_text names w lines losses ++ h.0) reported piece), h.4)
-
-  ends_starved : AppendsThenStatus mid held failed [] (status_text statuses.NoMemory) → HasReport names w lines marks losses concludes statuses.NoMemory before held failed
-  ends_starved h =
-      let all = line_texts names 1 w lines marks in
-      (all, [], sym (append-nil all), then_status before mid held failed (concat all) (status_text statuses.NoMemory) reported h)
-
-  -- what the last lines come to
-  concluded_report : concludes → (status : Status) → IsConcluded names losses tally.accepted tally.refused mid held failed status → HasReport names w lines marks losses concludes status before held failed
-  concluded_report all statuses.Ok h = ends_whole h.1
-  concluded_report all (statuses.Lost peer session) h = ends_lost h.1
-  concluded_report all statuses.ReportFault h = inr (all, ends_front h.1)
-  concluded_report all statuses.NoMemory h = ends_starved h
-  concluded_report all statuses.Usage h = absurd h
-  concluded_report all (statuses.Config number field) h = absurd h
-  concluded_report all statuses.ReadFault h = absurd h
-  concluded_report all statuses.SiteFault h = absurd h
-  concluded_report all statuses.TooLong h = absurd h
-  concluded_report all (statuses.Malformed cause offset) h = absurd h
-  concluded_report all (statuses.Refuted peer session kind message key) h = absurd h
-  concluded_report all (statuses.Unclear line) h = absurd h
-
-concluded_first : (names : List (List ℕ)) (losses : List Loss) (accepted refused : ℕ) (mid held : Option (List ℕ)) (failed : Type 0) (status : Status)
-    → IsConcluded names losses accepted refused mid held failed status → IsFirstLoss status losses
-concluded_first names losses accepted refused mid held failed statuses.Ok h = h.0
-concluded_first names losses accepted refused mid held failed (statuses.Lost peer session) h = h.0
-concluded_first names losses accepted refused mid held failed statuses.ReportFault h = tt
-concluded_first names losses accepted refused mid held failed statuses.NoMemory h = tt
-concluded_first names losses accepted refused mid held failed statuses.Usage h = absurd h
-concluded_first names losses accepted refused mid held failed (statuses.Config number field) h = absurd h
-concluded_first names losses accepted refused mid held failed statuses.ReadFault h = absurd h
-concluded_first names losses accepted refused mid held failed statuses.SiteFault h = absurd h
-concluded_first names losses accepted refused mid held failed statuses.TooLong h = absurd h
-concluded_first names losses accepted refused mid held failed (statuses.Malformed cause offset) h = absurd h
-concluded_first names losses accepted refused mid held failed (statuses.Refuted peer session kind message key) h = absurd h
-concluded_first names losses accepted refused mid held failed (statuses.Unclear line) h = absurd h
 
 -- ---- what is kept where a run completed is kept where it didn't
 
@@ -140,7 +102,11 @@ kept-less : (w : World) (lines : List (Reads Saying)) (marks : List (List Mark))
     → IsKept w lines marks true wires contents lost → IsKept w lines marks false wires contents lost
 kept-less w lines marks wires contents lost kept = record {
   all = kept.all;
-  each = each_wire_so (IsWireOf (worlds w lines) (last_world w lines) true) (IsWireOf (worlds w lines) (last_world w lines) false) (wire_less (worlds w lines) (last_world w lines)) 0 wires contents lost kept.each;
+  each = record {
+    all_contents = kept.each.all_contents;
+    all_lost = kept.each.all_lost;
+    at = λ p wire c numbers is holds loses. wire_less (worlds w lines) (last_world w lines) p wire c numbers (kept.each.at p wire c numbers is holds loses);
+  };
   marked = kept.marked;
   sync = kept.sync;
   begun = kept.begun;
@@ -156,13 +122,33 @@ module _ {Opening State Job Said : Type 0} (rules : Rules Opening State Job Said
     (wires : List WireTold) (all : length wires ≡ length w.peers) (history : List (Entry Job Said)) (legal : IsLegal rules root history) (owned : Each (λ (entry : Entry Job Said). entry.pass ≤ length wires) history)
     (unnoted : Bool) (crew : (complete : Bool) → (complete ≡ true → unnoted ≡ false) → EachLaneFrom (IsCrewed rules speech root history complete) 0 wires)
     (b : BuilderView Opening Job Said) (b_root : b.pass.root ≡ Some root) (b_names : b.names ≡ names_in w) (behind_b : IsBehind rules speech root history b.pass.seen)
-    (files : Option (List FileText)) (name : List ℕ) (left left' : Option (List ℕ)) (picked : HasPicked files name left) (is_picked : Bool) (stays_picked : is_picked ≡ true)
-    (before mid held : Option (List ℕ)) (failed : Type 0) (spent : Bool) (off : spent ≡ false → IsClosedAt rules speech false b.pass.root b.pass.seen) where
+    (name : List ℕ) (before : Before) (after : After) (left : Option (List ℕ)) (picked : HasPicked before.files name left) (stays_picked : after.picks.is_open ≡ true)
+    (mid : Option (List ℕ)) (made_for : List WireName) (spent : Bool) (off : spent ≡ false → IsClosedAt rules speech false b.pass.root b.pass.seen)
+    (still_open : spent ≡ true → speech.closed (replay rules root history) ≡ false) where
   abbrev seen : List (Entry Job Said)
   seen = b.pass.seen
 
+  abbrev held : Option (List ℕ)
+  held = after.held
+
+  abbrev failed : Type 0
+  failed = Rose before.faults after.faults
+
+  abbrev rest : List ℕ
+  rest = rest_of after.left
+
   abbrev IsOver : State → Type 0
   IsOver s = (speech.drained s ≡ true) × (speech.closed s ≡ true)
+
+  -- the run, had it ended so
+  abbrev told : Status → RunTold Job Said
+  told status = record { before = before; after = after; status = status; wires = wires; made_for = made_for; history = history; spent = spent }
+
+  abbrev IsRunAt : Status → Type 0
+  IsRunAt status = IsRun rules speech w grammar first name (told status)
+
+  abbrev said : List (List ℕ) → List (Reads Saying)
+  said lines = map (said_by grammar) lines
 
   lanes : AreLanes history
   lanes = others-lanes rules speech root history false wires (crew false (λ no. absurd cc)) owned
@@ -172,6 +158,11 @@ module _ {Opening State Job Said : Type 0} (rules : Rules Opening State Job Said
 
   closed_at : spent ≡ false → speech.closed (replay rules root seen) ≡ true
   closed_at unspent = subst (λ (r : Option Opening). IsClosedAt rules speech false r seen) b_root (off unspent) refl
+
+  -- no job may follow, unless the board was spent
+  stopped_by : (s : Bool) → spent ≡ s → speech.closed (replay rules root history) ≡ not s
+  stopped_by true is = still_open is
+  stopped_by false is = closed-all rules speech root history speaks.steps legal lanes seen behind_b (closed_at is)
 
   closes : (ahead lines : List (Reads Saying)) (marks : List (List Mark)) (complete : Bool) (taken : HasTaken rules speech root ahead lines marks seen) → Each IsSound ahead → Each IsSound lines
       → (complete ≡ true → unnoted ≡ false) → (complete ≡ true → IsOver (replay rules root seen)) → IsClosed rules speech root (ahead ++ lines) (taken.first_marks ++ marks) complete wires history
@@ -186,184 +177,208 @@ module _ {Opening State Job Said : Type 0} (rules : Rules Opening State Job Said
     drained = λ done. (ended-all rules speech root history speaks.steps legal lanes seen behind_b (over done)).0;
   }
 
-  module _ (read : List ℕ) (is_part : IsPartOf (file_told files name) read (rest_of left')) where
-    -- What a status asks for, from what was taken.
-    pub record Asks (status : Status) (ahead lines : List (Reads Saying)) (marks : List (List Mark)) : Type 0 where
-      whole : (row_of status).completed ≡ true → rest_of left' ≡ []
-      limits : IsLimited status read
-      untaken : List (Reads Saying)
-      counted : lines_counted status grammar read (rest_of left') ≡ lines ++ untaken
-      all_taken : (row_of status).took_all ≡ true → untaken ≡ []
-      is_ahead : IsAhead status first ahead
-      ahead_sound : Each IsSound ahead
-      sound : Each IsSound lines
-      noted : (row_of status).completed ≡ true → unnoted ≡ false
-      over : (row_of status).completed ≡ true → IsOver (replay rules root seen)
-      counts : (row_of status).completed ≡ true → Each AreOf64 marks
+  -- ---- where a builder stands, or stopped
 
-    abbrev ConcludesWith : List (Reads Saying) → List Loss → Type 0
-    ConcludesWith untaken losses = Concludes rules speech untaken losses wires history
+  stands_at : (ahead lines : List (Reads Saying)) → BuilderStands rules speech b ahead lines before.held mid → StandsAt rules speech root ahead lines (names_in w) seen before.held mid b.tally
+  stands_at ahead lines stands =
+      subst (λ (ns : List (List ℕ)). StandsAt rules speech root ahead lines ns seen before.held mid b.tally) b_names
+      (subst (λ (r : Option Opening). Stands rules speech r ahead lines b.names seen before.held mid b.tally) b_root stands lanes_seen)
 
-    abbrev IsRunAt : Status → Type 0
-    IsRunAt status = IsRun rules speech w grammar first (file_told files name) status wires history spent is_picked left' before held failed
+  stops_at : (stop : _) (ahead lines : List (Reads Saying)) → BuilderStops rules speech stop b ahead lines before.held mid → StopsAt rules speech stop root ahead lines (names_in w) seen before.held mid
+  stops_at stop ahead lines stops =
+      subst (λ (ns : List (List ℕ)). StopsAt rules speech stop root ahead lines ns seen before.held mid) b_names
+      (subst (λ (r : Option Opening). Stops rules speech stop r ahead lines b.names seen before.held mid) b_root stops lanes_seen)
 
-    run_with : (status : Status) (ahead lines : List (Reads Saying)) (marks : List (List Mark)) (taken : HasTaken rules speech root ahead lines marks seen) → (asks : Asks status ahead lines marks)
-        → (contents : List (List Content)) (lost : List (List ℕ)) → IsKept (speech.first root) (ahead ++ lines) (taken.first_marks ++ marks) (row_of status).completed wires contents lost
-        → ((row_of status).completed ≡ true → lost ≡ all_losses 0 (length wires) history)
-        → HasReport b.names (last_world (speech.first root) ahead) lines marks (losses_from 0 lost) (ConcludesWith asks.untaken (losses_from 0 lost)) status before held failed × IsFirstLoss status (losses_from 0 lost)
+  over_at : IsEndedAt rules speech b.pass.root seen → IsOver (replay rules root seen)
+  over_at ended = subst (λ (r : Option Opening). IsEndedAt rules speech r seen) b_root ended
+
+  -- what the report says of lines that were taken in this world
+  abbrev texts_of : World → List (Reads Saying) → List (Reads Saying) → List (List Mark) → List (List ℕ)
+  texts_of v ahead lines marks = line_texts (names_in w) 1 (last_world v ahead) lines marks
+
+  module _ (read : List ℕ) (is_part : IsPartOf (file_told before.files name) read rest) where
+    abbrev course : (ahead lines : List (Reads Saying)) (ahead_marks marks : List (List Mark)) → List (List Content) → List (List ℕ) → Course
+    course ahead lines ahead_marks marks contents lost = record {
+      read = read;
+      rest = rest;
+      ahead = ahead;
+      lines = lines;
+      ahead_marks = ahead_marks;
+      marks = marks;
+      contents = contents;
+      lost = lost;
+    }
+
+    run_as : (status : Status) (ahead lines : List (Reads Saying)) (ahead_marks marks : List (List Mark)) (contents : List (List Content)) (lost : List (List ℕ)) → length ahead_marks ≡ length ahead
+        → IsOutcome rules speech w grammar first (told status) (course ahead lines ahead_marks marks contents lost) status → IsRunAt status
+    run_as status ahead lines ahead_marks marks contents lost aligned outcome = record {
+      course = course ahead lines ahead_marks marks contents lost;
+      file = record {
+        is_part = is_part;
+        there = not_missing before.files name left picked;
+        opened = stays_picked;
+        agrees = agrees_read after.picks.is_open after.left read stays_picked;
+      };
+      aligned = aligned;
+      outcome = outcome;
+    }
+
+    -- A run that did not complete. What it keeps may be what a run keeps that did.
+    cut_with : (status : Status) (ahead lines : List (Reads Saying)) (marks : List (List Mark)) (taken : HasTaken rules speech root ahead lines marks seen) → Each IsSound ahead → Each IsSound lines
+        → (contents : List (List Content)) (lost : List (List ℕ)) → IsKept (speech.first root) (ahead ++ lines) (taken.first_marks ++ marks) false wires contents lost
+        → IsCut rules speech w grammar first (told status) (course ahead lines taken.first_marks marks contents lost)
+    cut_with status ahead lines marks taken ahead_sound sound contents lost kept = record {
+      kept = subst (λ (v : World). IsKept v (ahead ++ lines) (taken.first_marks ++ marks) false wires contents lost) root_is kept;
+      done = record {
+        root = root;
+        begins = root_is;
+        closed = closes ahead lines marks false taken ahead_sound sound (λ no. absurd cc) (λ no. absurd cc);
+        stopped = stopped_by spent refl;
+      };
+    }
+
+    cut_short : (status : Status) (ahead lines : List (Reads Saying)) (marks : List (List Mark)) (taken : HasTaken rules speech root ahead lines marks seen) → Each IsSound ahead → Each IsSound lines
+        → ((contents : List (List Content)) (lost : List (List ℕ)) → IsCut rules speech w grammar first (told status) (course ahead lines taken.first_marks marks contents lost)
+        → IsOutcome rules speech w grammar first (told status) (course ahead lines taken.first_marks marks contents lost) status)
         → IsRunAt status
-    run_with status ahead lines marks taken asks contents lost kept losses_are told =
-        record {
-          read = read;
-          rest = rest_of left';
-          is_part = is_part;
-          there = not_missing files name left picked;
-          opened = stays_picked;
-          agrees = agrees_read is_picked left' read stays_picked;
-          whole = asks.whole;
-          limits = asks.limits;
-          lines = lines;
-          untaken = asks.untaken;
-          counted = asks.counted;
-          all = asks.all_taken;
-          ahead = ahead;
-          is_ahead = asks.is_ahead;
-          first_marks = taken.first_marks;
-          marks = marks;
-          aligned = taken.aligned;
-          counts = asks.counts;
-          contents = contents;
-          lost = lost;
-          kept = subst (λ (v : World). IsKept v (ahead ++ lines) (taken.first_marks ++ marks) (row_of status).completed wires contents lost) root_is kept;
-          first_loss = told.1;
-          report =
-              subst (λ (v : World). HasReport (names_in w) (last_world v ahead) lines marks (losses_from 0 lost) (ConcludesWith asks.untaken (losses_from 0 lost)) status before held failed) root_is
-              (subst (λ (ns : List (List ℕ)). HasReport ns (last_world (speech.first root) ahead) lines marks (losses_from 0 lost) (ConcludesWith asks.untaken (losses_from 0 lost)) status before held failed) b_names told.0);
-          done = record {
-            root = root;
-            first = root_is;
-            closed = closes ahead lines marks (row_of status).completed taken asks.ahead_sound asks.sound asks.noted asks.over;
-            ended = λ done. (ended-all rules speech root history speaks.steps legal lanes seen behind_b (asks.over done)).1;
-            stopped = λ unspent. closed-all rules speech root history speaks.steps legal lanes seen behind_b (closed_at unspent);
-            losses = losses_are;
-          };
-        }
+    cut_short status ahead lines marks taken ahead_sound sound outcome =
+        let closed = closes ahead lines marks false taken ahead_sound sound (λ no. absurd cc) (λ no. absurd cc) in
+        let kept = closed-kept rules speech machine speaks root (ahead ++ lines) (taken.first_marks ++ marks) false wires history closed in
+        run_as status ahead lines taken.first_marks marks kept.0 kept.1 taken.aligned (outcome kept.0 kept.1 (cut_with status ahead lines marks taken ahead_sound sound kept.0 kept.1 kept.2))
 
-    run_is : (status : Status) (ahead lines : List (Reads Saying)) (marks : List (List Mark)) → HasTaken rules speech root ahead lines marks seen → (asks : Asks status ahead lines marks)
-        → ((losses : List Loss) → ((row_of status).completed ≡ true → losses ≡ losses_from 0 (all_losses 0 (length wires) history))
-        → HasReport b.names (last_world (speech.first root) ahead) lines marks losses (ConcludesWith asks.untaken losses) status before held failed × IsFirstLoss status losses)
-        → IsRunAt status
-    run_is status ahead lines marks taken asks report =
-        let closed = closes ahead lines marks (row_of status).completed taken asks.ahead_sound asks.sound asks.noted asks.over in
-        let kept = closed-kept rules speech machine speaks root (ahead ++ lines) (taken.first_marks ++ marks) (row_of status).completed wires history closed in
-        run_with status ahead lines marks taken asks kept.0 kept.1 kept.2 kept.3 (report (losses_from 0 kept.1) (λ done. ap (λ (ls : List (List ℕ)). losses_from 0 ls) (kept.3 done)))
+    -- what the report got, in the world in which the run began
+    reported_at : (ahead lines : List (Reads Saying)) (stands : StandsAt rules speech root ahead lines (names_in w) seen before.held mid b.tally)
+        → AppendsPiece before.held mid (concat (texts_of w ahead lines stands.marks))
+    reported_at ahead lines stands = subst (λ (v : World). AppendsPiece before.held mid (concat (texts_of v ahead lines stands.marks))) root_is stands.reported
 
-    -- ---- where a builder stands, or stopped
+    tallied_at : (ahead lines : List (Reads Saying)) (stands : StandsAt rules speech root ahead lines (names_in w) seen before.held mid b.tally) → IsTally (last_world w ahead) lines b.tally
+    tallied_at ahead lines stands = subst (λ (v : World). IsTally (last_world v ahead) lines b.tally) root_is stands.tallied
 
-    stands_at : (ahead lines : List (Reads Saying)) → BuilderStands rules speech b ahead lines before mid → StandsAt rules speech root ahead lines b.names seen before mid b.tally
-    stands_at ahead lines stands = subst (λ (r : Option Opening). Stands rules speech r ahead lines b.names seen before mid b.tally) b_root stands lanes_seen
-
-    stops_at : (stop : _) (ahead lines : List (Reads Saying)) → BuilderStops rules speech stop b ahead lines before mid → StopsAt rules speech stop root ahead lines b.names seen before mid
-    stops_at stop ahead lines stops = subst (λ (r : Option Opening). Stops rules speech stop r ahead lines b.names seen before mid) b_root stops lanes_seen
-
-    over_at : IsEndedAt rules speech b.pass.root seen → IsOver (replay rules root seen)
-    over_at ended = subst (λ (r : Option Opening). IsEndedAt rules speech r seen) b_root ended
-
-    abbrev said : List (List ℕ) → List (Reads Saying)
-    said lines = map (said_by grammar) lines
+    -- Memory was wanting when all this was told of the lines that were taken.
+    starved : (ahead lines : List (Reads Saying)) (stands : StandsAt rules speech root ahead lines (names_in w) seen before.held mid b.tally) → Each IsSound ahead → Each IsSound lines
+        → (later : List (Reads Saying)) → first ≡ ahead ++ later → (later ≡ []) ⊎ ((read ≡ []) × (lines ≡ []))
+        → (untaken : List (Reads Saying)) → said (lines_read (is_empty rest) read) ≡ lines ++ untaken
+        → AppendsThenStatus mid held failed [] (status_text statuses.NoMemory) → IsRunAt statuses.NoMemory
+    starved ahead lines stands ahead_sound sound later parts begun untaken front line = cut_short statuses.NoMemory ahead lines stands.marks stands.taken ahead_sound sound (λ contents lost cut. record {
+      cut = cut;
+      later = later;
+      front_ahead = parts;
+      begun = begun;
+      untaken = untaken;
+      front = front;
+      told = texts_of w ahead lines stands.marks;
+      untold = [];
+      parts = sym (append-nil (texts_of w ahead lines stands.marks));
+      report = then_status before.held mid held failed (concat (texts_of w ahead lines stands.marks)) (status_text statuses.NoMemory) (reported_at ahead lines stands) line;
+    })
 
     -- ---- by how reading ended
 
-    module _ (ended : IsEnded left') (limited : IsPastLimits read → ⊥) (over : IsOver (replay rules root seen))
-        (stands : StandsAt rules speech root first (said (lines_read true read)) b.names seen before mid b.tally) where
-      no_rest_here : rest_of left' ≡ []
-      no_rest_here = no_rest left' ended
+    module _ (ended : IsEnded after.left) (limited : IsPastLimits read → ⊥) (over : IsOver (replay rules root seen))
+        (stands : StandsAt rules speech root first (said (lines_read true read)) (names_in w) seen before.held mid b.tally) where
+      abbrev lines : List (Reads Saying)
+      lines = said (lines_read true read)
 
-      is_whole : (is_empty (rest_of left') && true) ≡ true
-      is_whole = ap (λ (r : List ℕ). is_empty r && true) no_rest_here
+      sound : Each IsSound lines
+      sound = lines-sound grammar (lines_read true read)
 
-      counted_all : map (said_by grammar) (lines_read (is_empty (rest_of left') && true) read) ≡ said (lines_read true read) ++ []
-      counted_all = ap (λ (t : Bool). said (lines_read t read)) is_whole ∙ sym (append-nil (said (lines_read true read)))
+      no_rest_here : rest ≡ []
+      no_rest_here = no_rest after.left ended
+
+      counted_all : said (lines_read (is_empty rest) read) ≡ lines ++ []
+      counted_all = ap (λ (r : List ℕ). said (lines_read (is_empty r) read)) no_rest_here ∙ sym (append-nil lines)
 
       module _ (peers : ℕ) (peers_are : peers ≡ length wires) where
-        abbrev ConcludesAs : Status → Type 0
-        ConcludesAs status = IsConcluded b.names (losses_from 0 (all_losses 0 peers history)) b.tally.accepted b.tally.refused mid held failed status
+        -- the losses that were reported
+        abbrev reported_losses : List Loss
+        reported_losses = losses_from 0 (all_losses 0 peers history)
 
-        -- the losses are those of the history
-        same_losses : (losses : List Loss) → losses ≡ losses_from 0 (all_losses 0 (length wires) history) → losses_from 0 (all_losses 0 peers history) ≡ losses
-        same_losses losses is = ap (λ n. losses_from 0 (all_losses 0 n history)) peers_are ∙ sym is
+        abbrev ConcludesAs : Status → List Loss → Type 0
+        ConcludesAs status losses = IsConcluded (names_in w) losses b.tally.accepted b.tally.refused mid held failed status
 
-        told_as : (status : Status) (losses : List Loss) → losses_from 0 (all_losses 0 peers history) ≡ losses → ConcludesAs status
-            → HasReport b.names (last_world (speech.first root) first) (said (lines_read true read)) stands.marks losses (ConcludesWith [] losses) status before held failed × IsFirstLoss status losses
-        told_as status losses same concluded =
-            let all : ConcludesWith [] losses = (refl, sym same ∙ ap (λ n. losses_from 0 (all_losses 0 n history)) peers_are) in
-            let here = subst (λ (ls : List Loss). IsConcluded b.names ls b.tally.accepted b.tally.refused mid held failed status) same concluded in (
-              concluded_report b.names (last_world (speech.first root) first) (said (lines_read true read)) stands.marks losses b.tally stands.tallied before mid held failed stands.reported (ConcludesWith [] losses) all status here,
-              concluded_first b.names losses b.tally.accepted b.tally.refused mid held failed status here,
-            )
+        -- they are those of the sessions that were lost
+        same_losses : (lost : List (List ℕ)) → lost ≡ all_losses 0 (length wires) history → reported_losses ≡ losses_from 0 lost
+        same_losses lost is = ap (λ n. losses_from 0 (all_losses 0 n history)) peers_are ∙ ap (losses_from 0) (sym is)
 
-        completed_asks : (status : Status) → unnoted ≡ false → IsLimited status read → lines_counted status grammar read (rest_of left') ≡ said (lines_read true read) ++ [] → (row_of status).completed ≡ true → ConcludesAs status
+        concluded_at : (status : Status) (lost : List (List ℕ)) → lost ≡ all_losses 0 (length wires) history → ConcludesAs status reported_losses → ConcludesAs status (losses_from 0 lost)
+        concluded_at status lost is concluded = subst (λ (ls : List Loss). ConcludesAs status ls) (same_losses lost is) concluded
+
+        -- everything was told
+        keeps : unnoted ≡ false → (contents : List (List Content)) × (lost : List (List ℕ)) × IsKept (speech.first root) (first ++ lines) (stands.taken.first_marks ++ stands.marks) true wires contents lost
+            × (true ≡ true → lost ≡ all_losses 0 (length wires) history)
+        keeps none =
+            closed-kept rules speech machine speaks root (first ++ lines) (stands.taken.first_marks ++ stands.marks) true wires history (closes first lines stands.marks true stands.taken first_sound sound (λ _. none) (λ _. over))
+
+        completed : unnoted ≡ false → (status : Status)
+            → ((contents : List (List Content)) (lost : List (List ℕ)) → lost ≡ all_losses 0 (length wires) history
+            → Completes rules speech w grammar first (told status) (course first lines stands.taken.first_marks stands.marks contents lost)
+            → IsOutcome rules speech w grammar first (told status) (course first lines stands.taken.first_marks stands.marks contents lost) status)
             → IsRunAt status
-        completed_asks status none limits counted done concluded = run_is status first (said (lines_read true read)) stands.marks stands.taken (record {
-          whole = λ _. no_rest_here;
-          limits = limits;
-          untaken = [];
-          counted = counted;
-          all_taken = λ _. refl;
-          is_ahead = inl refl;
-          ahead_sound = first_sound;
-          sound = lines-sound grammar (lines_read true read);
-          noted = λ _. none;
-          over = λ _. over;
-          counts = λ _. stands.counts;
-        }) (λ losses is. told_as status losses (same_losses losses (is done)) concluded)
+        completed none status outcome =
+            let kept = keeps none in
+            let closed : speech.closed (replay rules root history) ≡ true = (ended-all rules speech root history speaks.steps legal lanes seen behind_b over).1 in
+            run_as status first lines stands.taken.first_marks stands.marks kept.0 kept.1 stands.taken.aligned (outcome kept.0 kept.1 (kept.3 refl) (record {
+              whole = no_rest_here;
+              within = limited;
+              all_ahead = refl;
+              all = refl;
+              counts = stands.counts;
+              kept = subst (λ (v : World). IsKept v (first ++ lines) (stands.taken.first_marks ++ stands.marks) true wires kept.0 kept.1) root_is kept.2;
+              done = record {
+                root = root;
+                begins = root_is;
+                closed = closes first lines stands.marks true stands.taken first_sound sound (λ _. none) (λ _. over);
+                stopped = stopped_by spent refl;
+              };
+              unspent = not_true spent (sym (stopped_by spent refl) ∙ closed);
+              losses_told = kept.3 refl;
+            }))
+
+        ends_well : unnoted ≡ false → ConcludesAs statuses.Ok reported_losses → IsRunAt statuses.Ok
+        ends_well none concluded = completed none statuses.Ok (λ contents lost is complete.
+            let here = concluded_at statuses.Ok lost is concluded in
+            record {
+              complete = complete;
+              none_lost = here.0;
+              report = ends_whole (names_in w) (last_world w first) lines stands.marks (losses_from 0 lost) b.tally (tallied_at first lines stands) before.held mid held failed (reported_at first lines stands) here.1;
+            })
+
+        ends_with_loss : unnoted ≡ false → (peer session : ℕ) → ConcludesAs (statuses.Lost peer session) reported_losses → IsRunAt (statuses.Lost peer session)
+        ends_with_loss none peer session concluded = completed none (statuses.Lost peer session) (λ contents lost is complete.
+            let here = concluded_at (statuses.Lost peer session) lost is concluded in
+            record {
+              complete = complete;
+              first_lost = here.0;
+              report = ends_lost (names_in w) (last_world w first) lines stands.marks (losses_from 0 lost) b.tally (tallied_at first lines stands) before.held mid held failed (reported_at first lines stands) here.1;
+            })
 
         -- Everything was told, and then the report failed: what is kept is what a run that completed keeps.
-        unwritten : unnoted ≡ false → ConcludesAs statuses.ReportFault → IsRunAt statuses.ReportFault
+        unwritten : unnoted ≡ false → ConcludesAs statuses.ReportFault reported_losses → IsRunAt statuses.ReportFault
         unwritten none concluded =
-            let lines = said (lines_read true read) in
-            let closed = closes first lines stands.marks true stands.taken first_sound (lines-sound grammar (lines_read true read)) (λ _. none) (λ _. over) in
-            let kept = closed-kept rules speech machine speaks root (first ++ lines) (stands.taken.first_marks ++ stands.marks) true wires history closed in
-            let is : losses_from 0 kept.1 ≡ losses_from 0 (all_losses 0 (length wires) history) = ap (λ (ls : List (List ℕ)). losses_from 0 ls) (kept.3 refl) in
-            run_with statuses.ReportFault first lines stands.marks stands.taken (record {
-              whole = λ no. absurd cc;
-              limits = tt;
+            let kept = keeps none in
+            let here = concluded_at statuses.ReportFault kept.1 (kept.3 refl) concluded in
+            run_as statuses.ReportFault first lines stands.taken.first_marks stands.marks kept.0 kept.1 stands.taken.aligned (record {
+              cut = cut_with statuses.ReportFault first lines stands.marks stands.taken first_sound sound kept.0 kept.1
+                  (kept-less (speech.first root) (first ++ lines) (stands.taken.first_marks ++ stands.marks) wires kept.0 kept.1 kept.2);
+              all_ahead = refl;
               untaken = [];
-              counted = counted_all;
-              all_taken = λ no. absurd cc;
-              is_ahead = inl refl;
-              ahead_sound = first_sound;
-              sound = lines-sound grammar (lines_read true read);
-              noted = λ no. absurd cc;
-              over = λ no. absurd cc;
-              counts = λ no. absurd cc;
-            }) kept.0 kept.1 (kept-less (speech.first root) (first ++ lines) (stands.taken.first_marks ++ stands.marks) wires kept.0 kept.1 kept.2) (λ no. absurd cc)
-            (told_as statuses.ReportFault (losses_from 0 kept.1) (same_losses (losses_from 0 kept.1) is) concluded)
+              front = counted_all;
+              report = inr (record {
+                all = refl;
+                losses_told = ap (losses_from 0) (kept.3 refl);
+                report =
+                    ends_front (names_in w) (last_world w first) lines stands.marks (losses_from 0 kept.1) b.tally (tallied_at first lines stands) before.held mid held failed (reported_at first lines stands) here.1;
+              });
+            })
 
-        -- and then memory was wanting
-        starved : AppendsThenStatus mid held failed [] (status_text statuses.NoMemory) → IsRunAt statuses.NoMemory
-        starved line = run_is statuses.NoMemory first (said (lines_read true read)) stands.marks stands.taken (record {
-          whole = λ no. absurd cc;
-          limits = tt;
-          untaken = [];
-          counted = counted_all;
-          all_taken = λ no. absurd cc;
-          is_ahead = inl refl;
-          ahead_sound = first_sound;
-          sound = lines-sound grammar (lines_read true read);
-          noted = λ no. absurd cc;
-          over = λ no. absurd cc;
-          counts = λ no. absurd cc;
-        }) (λ losses is. (
-          ends_starved b.names (last_world (speech.first root) first) (said (lines_read true read)) stands.marks losses b.tally stands.tallied before mid held failed stands.reported (ConcludesWith [] losses) line,
-          tt,
-        ))
+        starved_last : AppendsThenStatus mid held failed [] (status_text statuses.NoMemory) → IsRunAt statuses.NoMemory
+        starved_last line = starved first lines stands first_sound sound [] (sym (append-nil first)) (inl refl) [] counted_all line
 
-        concludes : unnoted ≡ false → (status : Status) → ConcludesAs status → IsRunAt status
-        concludes none statuses.Ok h = completed_asks statuses.Ok none limited counted_all refl h
-        concludes none (statuses.Lost peer session) h = completed_asks (statuses.Lost peer session) none limited counted_all refl h
+        concludes : unnoted ≡ false → (status : Status) → ConcludesAs status reported_losses → IsRunAt status
+        concludes none statuses.Ok h = ends_well none h
+        concludes none (statuses.Lost peer session) h = ends_with_loss none peer session h
         concludes none statuses.ReportFault h = unwritten none h
-        concludes none statuses.NoMemory h = starved h
+        concludes none statuses.NoMemory h = starved_last h
         concludes none statuses.Usage h = absurd h
         concludes none (statuses.Config number field) h = absurd h
         concludes none statuses.ReadFault h = absurd h
@@ -374,145 +389,104 @@ module _ {Opening State Job Said : Type 0} (rules : Rules Opening State Job Said
         concludes none (statuses.Unclear line) h = absurd h
 
         by_losses : (u : Bool) → unnoted ≡ u → (status : Status)
-            → CompletesBy b.names (losses_from 0 (all_losses 0 peers history)) b.tally.accepted b.tally.refused mid held failed u status → IsRunAt status
+            → CompletesBy (names_in w) reported_losses b.tally.accepted b.tally.refused mid held failed u status → IsRunAt status
         by_losses false is status h = concludes is status h
-        by_losses true is status h = subst (λ (s : Status). IsRunAt s) (sym h.0) (starved h.1)
+        by_losses true is status h = subst (λ (s : Status). IsRunAt s) (sym h.0) (starved_last h.1)
 
     -- the file could not be read
-    unread : (IsPastLimits read → ⊥) → StandsAt rules speech root first (said (lines_read false read)) b.names seen before mid b.tally
+    unread : (IsPastLimits read → ⊥) → StandsAt rules speech root first (said (lines_read false read)) (names_in w) seen before.held mid b.tally
         → AppendsThenStatus mid held failed [] (status_text statuses.ReadFault) → IsRunAt statuses.ReadFault
-    unread limited stands line = run_is statuses.ReadFault first (said (lines_read false read)) stands.marks stands.taken (record {
-      whole = λ no. absurd cc;
-      limits = limited;
-      untaken = [];
-      counted = ap (λ (t : Bool). said (lines_read t read)) (never_both (is_empty (rest_of left'))) ∙ sym (append-nil (said (lines_read false read)));
-      all_taken = λ _. refl;
-      is_ahead = inl refl;
-      ahead_sound = first_sound;
-      sound = lines-sound grammar (lines_read false read);
-      noted = λ no. absurd cc;
-      over = λ no. absurd cc;
-      counts = λ no. absurd cc;
-    }) (λ losses is. (then_status before mid held failed (concat (line_texts b.names 1 (last_world (speech.first root) first) (said (lines_read false read)) stands.marks)) (status_text statuses.ReadFault) stands.reported line, tt))
+    unread limited stands line = cut_short statuses.ReadFault first (said (lines_read false read)) stands.marks stands.taken first_sound (lines-sound grammar (lines_read false read)) (λ contents lost cut. record {
+      cut = cut;
+      within = limited;
+      all_ahead = refl;
+      all = refl;
+      report = then_status before.held mid held failed (concat (texts_of w first (said (lines_read false read)) stands.marks)) (status_text statuses.ReadFault) (reported_at first (said (lines_read false read)) stands) line;
+    })
 
     -- it is too long
-    too_long : IsPastLimits read → (whole : Bool) → whole ≡ (is_empty (rest_of left') && true) → StandsAt rules speech root first (said (lines_read whole read)) b.names seen before mid b.tally
+    too_long : IsPastLimits read → StandsAt rules speech root first (said (lines_read (is_empty rest) read)) (names_in w) seen before.held mid b.tally
         → AppendsThenStatus mid held failed [] (status_text statuses.TooLong) → IsRunAt statuses.TooLong
-    too_long past whole is stands line = run_is statuses.TooLong first (said (lines_read whole read)) stands.marks stands.taken (record {
-      whole = λ no. absurd cc;
-      limits = past;
-      untaken = [];
-      counted = ap (λ (t : Bool). said (lines_read t read)) (sym is) ∙ sym (append-nil (said (lines_read whole read)));
-      all_taken = λ _. refl;
-      is_ahead = inl refl;
-      ahead_sound = first_sound;
-      sound = lines-sound grammar (lines_read whole read);
-      noted = λ no. absurd cc;
-      over = λ no. absurd cc;
-      counts = λ no. absurd cc;
-    }) (λ losses is'. (then_status before mid held failed (concat (line_texts b.names 1 (last_world (speech.first root) first) (said (lines_read whole read)) stands.marks)) (status_text statuses.TooLong) stands.reported line, tt))
+    too_long past stands line = cut_short statuses.TooLong first (said (lines_read (is_empty rest) read)) stands.marks stands.taken first_sound (lines-sound grammar (lines_read (is_empty rest) read)) (λ contents lost cut. record {
+      cut = cut;
+      past = past;
+      all_ahead = refl;
+      all = refl;
+      report = then_status before.held mid held failed (concat (texts_of w first (said (lines_read (is_empty rest) read)) stands.marks)) (status_text statuses.TooLong) (reported_at first (said (lines_read (is_empty rest) read)) stands) line;
+    })
 
     -- memory was wanting, or the report could not be written, when some of the lines were taken
-    module _ (whole : Bool) (whole_is : whole ≡ (is_empty (rest_of left') && true)) where
-      some_sound : (some more : List (Reads Saying)) → said (lines_read whole read) ≡ some ++ more → Each IsSound some
-      some_sound some more parts = each-front IsSound some more (subst (λ (ls : List (Reads Saying)). Each IsSound ls) parts (lines-sound grammar (lines_read whole read)))
+    some_sound : (some more : List (Reads Saying)) → said (lines_read (is_empty rest) read) ≡ some ++ more → Each IsSound some
+    some_sound some more parts = each-front IsSound some more (subst (λ (ls : List (Reads Saying)). Each IsSound ls) parts (lines-sound grammar (lines_read (is_empty rest) read)))
 
-      some_counted : (some more : List (Reads Saying)) → said (lines_read whole read) ≡ some ++ more → said (lines_read (is_empty (rest_of left') && true) read) ≡ some ++ more
-      some_counted some more parts = ap (λ (t : Bool). said (lines_read t read)) (sym whole_is) ∙ parts
+    starved_within : StopsAt rules speech stops.NoMemory root first (said (lines_read (is_empty rest) read)) (names_in w) seen before.held mid
+        → AppendsThenStatus mid held failed [] (status_text statuses.NoMemory) → IsRunAt statuses.NoMemory
+    starved_within stop line = cut_short statuses.NoMemory first stop.some stop.marks stop.taken first_sound (some_sound stop.some stop.more stop.parts) (λ contents lost cut.
+        let reported = subst (λ (v : World). IsReportedUntil stops.NoMemory before.held mid (texts_of v first stop.some stop.marks)) root_is stop.reported in
+        record {
+          cut = cut;
+          later = [];
+          front_ahead = sym (append-nil first);
+          begun = inl refl;
+          untaken = stop.more;
+          front = stop.parts;
+          told = reported.0;
+          untold = reported.1;
+          parts = reported.2;
+          report = then_status before.held mid held failed (concat reported.0) (status_text statuses.NoMemory) reported.3 line;
+        })
 
-      starved_within : StopsAt rules speech stops.NoMemory root first (said (lines_read whole read)) b.names seen before mid
-          → AppendsThenStatus mid held failed [] (status_text statuses.NoMemory) → IsRunAt statuses.NoMemory
-      starved_within stop line = run_is statuses.NoMemory first stop.some stop.marks stop.taken (record {
-        whole = λ no. absurd cc;
-        limits = tt;
-        untaken = stop.more;
-        counted = some_counted stop.some stop.more stop.parts;
-        all_taken = λ no. absurd cc;
-        is_ahead = inl refl;
-        ahead_sound = first_sound;
-        sound = some_sound stop.some stop.more stop.parts;
-        noted = λ no. absurd cc;
-        over = λ no. absurd cc;
-        counts = λ no. absurd cc;
-      }) (λ losses is. (
-        (stop.reported.0, stop.reported.1, stop.reported.2, then_status before mid held failed (concat stop.reported.0) (status_text statuses.NoMemory) stop.reported.3 line),
-        tt,
-      ))
-
-      unwritten_within : StopsAt rules speech stops.Report root first (said (lines_read whole read)) b.names seen before mid → held ≡ mid → IsRunAt statuses.ReportFault
-      unwritten_within stop same = run_is statuses.ReportFault first stop.some stop.marks stop.taken (record {
-        whole = λ no. absurd cc;
-        limits = tt;
-        untaken = stop.more;
-        counted = some_counted stop.some stop.more stop.parts;
-        all_taken = λ no. absurd cc;
-        is_ahead = inl refl;
-        ahead_sound = first_sound;
-        sound = some_sound stop.some stop.more stop.parts;
-        noted = λ no. absurd cc;
-        over = λ no. absurd cc;
-        counts = λ no. absurd cc;
-      }) (λ losses is. (
-        subst (λ (h : Option (List ℕ)). HasReport b.names (last_world (speech.first root) first) stop.some stop.marks losses (ConcludesWith stop.more losses) statuses.ReportFault before h failed) (sym same) (inl stop.reported),
-        tt,
-      ))
+    unwritten_within : StopsAt rules speech stops.Report root first (said (lines_read (is_empty rest) read)) (names_in w) seen before.held mid → held ≡ mid → IsRunAt statuses.ReportFault
+    unwritten_within stop same = cut_short statuses.ReportFault first stop.some stop.marks stop.taken first_sound (some_sound stop.some stop.more stop.parts) (λ contents lost cut. record {
+      cut = cut;
+      all_ahead = refl;
+      untaken = stop.more;
+      front = stop.parts;
+      report = inl (subst (λ (h : Option (List ℕ)). AppendsFront before.held h (concat (texts_of w first stop.some stop.marks))) (sym same)
+          (subst (λ (v : World). IsReportedUntil stops.Report before.held mid (texts_of v first stop.some stop.marks)) root_is stop.reported));
+    })
 
     -- memory was wanting for one of the first events, or before them
-    not_begun : (ahead more : List (Reads Saying)) → first ≡ ahead ++ more → StandsAt rules speech root ahead [] b.names seen before mid b.tally → AppendsThenStatus mid held failed [] (status_text statuses.NoMemory)
-        → IsRunAt statuses.NoMemory
-    not_begun ahead more parts stands line = run_is statuses.NoMemory ahead [] stands.marks stands.taken (record {
-      whole = λ no. absurd cc;
-      limits = tt;
-      untaken = lines_counted statuses.NoMemory grammar read (rest_of left');
-      counted = refl;
-      all_taken = λ no. absurd cc;
-      is_ahead = inr (refl, more, parts);
-      ahead_sound = each-front IsSound ahead more (subst (λ (ls : List (Reads Saying)). Each IsSound ls) parts first_sound);
-      sound = tt;
-      noted = λ no. absurd cc;
-      over = λ no. absurd cc;
-      counts = λ no. absurd cc;
-    }) (λ losses is. (
-      ends_starved b.names (last_world (speech.first root) ahead) [] stands.marks losses b.tally stands.tallied before mid held failed stands.reported
-          (ConcludesWith (lines_counted statuses.NoMemory grammar read (rest_of left')) losses) line,
-      tt,
-    ))
+    not_begun : read ≡ [] → (ahead more : List (Reads Saying)) → first ≡ ahead ++ more → StandsAt rules speech root ahead [] (names_in w) seen before.held mid b.tally
+        → AppendsThenStatus mid held failed [] (status_text statuses.NoMemory) → IsRunAt statuses.NoMemory
+    not_begun none ahead more parts stands line =
+        starved ahead [] stands (each-front IsSound ahead more (subst (λ (ls : List (Reads Saying)). Each IsSound ls) parts first_sound)) tt more parts (inr (none, refl)) (said (lines_read (is_empty rest) read)) refl line
 
     -- ---- all of them
 
-    whole_when : (e : Bool) → (e ≡ true → IsEnded left') → e ≡ true → (is_empty (rest_of left') && true) ≡ true
-    whole_when e then is = both_true (is_empty (rest_of left')) ∙ ended_empty left' e then is
+    whole_when : (e : Bool) → (e ≡ true → IsEnded after.left) → e ≡ true → is_empty rest ≡ true
+    whole_when e then is = ended_empty after.left e then is
 
     module _ (peers : ℕ) (peers_are : peers ≡ length wires) (old : BuilderView Opening Job Said) (old_grammar : old.grammar ≡ grammar) (reads reads' writes writes' counted counted' : ℕ) where
       abbrev outside : Outside
-      outside = record { left = left; reads_failed = reads; held = before; writes_failed = writes; steps = counted }
+      outside = record { left = left; reads_failed = reads; held = before.held; writes_failed = writes; steps = counted }
 
       abbrev outside' : Outside
-      outside' = record { left = left'; reads_failed = reads'; held = mid; writes_failed = writes'; steps = counted' }
+      outside' = record { left = after.left; reads_failed = reads'; held = mid; writes_failed = writes'; steps = counted' }
 
       -- the verbs are those of the run
       ends_here : (end : End) → EndsAt rules speech first old b outside outside' end read → EndsAt rules speech first (record old { grammar = grammar }) b outside outside' end read
       ends_here end h = subst (λ (g : Grammar). EndsAt rules speech first (record old { grammar = g }) b outside outside' end read) old_grammar h
 
       comes_at : (end : End) (status : Status) → EndsAt rules speech first (record old { grammar = grammar }) b outside outside' end read
-          → IsFinished b.names (losses_from 0 (all_losses 0 peers history)) b.tally.accepted b.tally.refused mid held failed end unnoted status → IsRunAt status
+          → IsFinished (names_in w) (losses_from 0 (all_losses 0 peers history)) b.tally.accepted b.tally.refused mid held failed end unnoted status → IsRunAt status
       comes_at ends.Complete status h finished =
           by_losses h.0 h.1 (over_at h.3) (stands_at first (said (lines_read true read)) h.2) peers peers_are unnoted refl status finished
       comes_at ends.Read status h finished =
           subst (λ (s : Status). IsRunAt s) (sym finished.0) (unread h.0 (stands_at first (said (lines_read false read)) h.1) finished.1)
       comes_at ends.TooLong status h finished =
-          let whole = is_empty (rest_of left') && true in
-          subst (λ (s : Status). IsRunAt s) (sym finished.0) (too_long h.0 whole refl (stands_at first (said (lines_read whole read)) (h.1 whole)) finished.1)
+          subst (λ (s : Status). IsRunAt s) (sym finished.0) (too_long h.0 (stands_at first (said (lines_read (is_empty rest) read)) (h.1 (is_empty rest))) finished.1)
       comes_at ends.NoMemory status (inl h) finished =
-          let whole = is_empty (rest_of left') && true in
           subst (λ (s : Status). IsRunAt s) (sym finished.0)
-          (starved_within whole refl (stops_at stops.NoMemory first (said (lines_read whole read)) (h.2 whole (whole_when h.0 h.1))) finished.1)
-      comes_at ends.NoMemory status (inr h) finished = subst (λ (s : Status). IsRunAt s) (sym finished.0) (not_begun h.within.some h.within.more h.within.parts (stands_at h.within.some [] h.within.stands) finished.1)
+          (starved_within (stops_at stops.NoMemory first (said (lines_read (is_empty rest) read)) (h.2 (is_empty rest) (whole_when h.0 h.1))) finished.1)
+      comes_at ends.NoMemory status (inr h) finished =
+          subst (λ (s : Status). IsRunAt s) (sym finished.0) (not_begun h.none h.within.some h.within.more h.within.parts (stands_at h.within.some [] h.within.stands) finished.1)
       comes_at ends.Report status h finished =
-          let whole = is_empty (rest_of left') && true in
           subst (λ (s : Status). IsRunAt s) (sym finished.0)
-          (unwritten_within whole refl (stops_at stops.Report first (said (lines_read whole read)) (h.0.2 whole (whole_when h.0.0 h.0.1))) finished.1)
+          (unwritten_within (stops_at stops.Report first (said (lines_read (is_empty rest) read)) (h.0.2 (is_empty rest) (whole_when h.0.0 h.0.1))) finished.1)
 
       pub comes : (end : End) (status : Status) → EndsAt rules speech first old b outside outside' end read
           → IsFinished b.names (losses_from 0 (all_losses 0 peers history)) b.tally.accepted b.tally.refused mid held failed end unnoted status → IsRunAt status
-      comes end status h finished = comes_at end status (ends_here end h) finished
+      comes end status h finished =
+          comes_at end status (ends_here end h)
+          (subst (λ (ns : List (List ℕ)). IsFinished ns (losses_from 0 (all_losses 0 peers history)) b.tally.accepted b.tally.refused mid held failed end unnoted status) b_names finished)

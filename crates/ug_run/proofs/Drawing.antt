@@ -1,9 +1,9 @@
 -- What a run over a drawn workload comes to.
 use Rattle.std.proofs.Common.{◌≡◌, ℕ, zero, suc, ◌+◌, ◌-◌, ◌<◌, ◌≤◌, Bool, true, false, inl, inr, List, [], ◌∷◌, ◌++◌, length, map, take, Option, Some, None, Ok, refl, sym, ◌∙◌, ap, subst, arith}
-use Rattle.std.specs.Prelude.{slice_get, nat_le, if◌then◌else◌}
+use Rattle.std.specs.Prelude.{slice_get, nat_le, not, if◌then◌else◌}
 use Rattle.std.proofs.lemmas.List.{append-nil, length-map}
 use Rattle.std.proofs.lemmas.Option.{slice_get_within}
-use Rattle.ug_edge.specs.Told.{FileTold, Bytes}
+use Rattle.ug_edge.specs.Told.{FileTold, Bytes, file_told}
 use Rattle.ug_edge.specs.WireState.{WireState}
 use Rattle.ug_board.specs.Entry.{Entry}
 use Rattle.ug_board.specs.Rules.{Rules}
@@ -21,8 +21,9 @@ use Rattle.ug_speaker.specs.Speech.{Speech, capabilities_of}
 use Rattle.ug_world.specs.After.{after, come_up, gone_down, with_policy, refiltered, with_orf, changed_peer}
 use Rattle.ug_speaker.specs.Told.{world_after as through}
 use Rattle.ug_speaker.specs.Owes.{IsSpeaker}
-use Rattle.ug_run_rules.specs.Contents.{WireTold, Content, EachFrom, EachWireFrom}
+use Rattle.ug_run_rules.specs.Contents.{WireTold, Content, EachFrom, EachWire}
 use Rattle.ug_run_rules.specs.Kept.{IsSent, IsSessionRight, IsSessionWhole, IsWireRight, IsWireOf}
+use Rattle.ug_run_rules.proofs.EachWires.{EachWireFrom, one-by-one}
 use Rattle.ug_run_rules.proofs.Lines.{accepted, accepted_event, last-accepted}
 use Rattle.ug_run_rules.proofs.Runs.{events-are}
 use Rattle.ug_report.specs.Report.{losses_from}
@@ -32,13 +33,16 @@ use Rattle.ug_report.specs.declared.status.Status.{Status}
 use Rattle.ug_report.specs.declared.status.Status.TheVariants as statuses
 use Rattle.ug_pieces.specs.Lines.{ended_from, rest_from, where_some}
 use Rattle.ug_event_loop.specs.Standing.{said_by}
-use Rattle.ug_event_loop.specs.Files.{most_lines, most_bytes}
+use Rattle.ug_event_loop.specs.Files.{most_lines, most_bytes, lines_read}
 use Rattle.ug_event_loop.specs.Reading.{first_of}
 use Rattle.ug_event_loop.specs.declared.grammar.Grammar.{Grammar}
 use Rattle.ug_event_loop.specs.declared.grammar.Grammar.TheVariants.{Every}
 use Rattle.ug_selfrun.specs.Lines.{line_of, lines_of, accepted_by, accepted_events}
 use Rattle.ug_selfrun.specs.Standings.{LeavesTable, HoldsTable, HoldTables}
-use Rattle.ug_run.specs.Promise.{lines_counted, IsAhead, IsEarly, IsRun, IsPromised, EndsEarly, IsCounted, IsCountedFrom, IsStopped}
+use Rattle.ug_run.specs.Told.{RunTold}
+use Rattle.ug_run.specs.Outcomes.{Course, taken, marked, EndsWell, IsDoneBy, IsOutcome}
+use Rattle.ug_commands.specs.Files.{IsPartOf}
+use Rattle.ug_run.specs.Promise.{IsEarly, IsRun, IsPromised, IsCounted, IsCountedFrom, IsStopped, IsStoppedFrom}
 use Rattle.ug_run.specs.Drawn.{IsSummed, IsDrawnRun}
 
 -- ---- the lines
@@ -149,83 +153,88 @@ none_ended n true = ap (λ (bs : List ℕ). ended_from [] bs ++ []) (none_taken 
 none_ended n false = ap (λ (bs : List ℕ). ended_from [] bs ++ []) (none_taken n)
 
 -- an empty file has no lines
-nothing_counted : lines_counted statuses.Ok Every [] [] ≡ []
+nothing_counted : map (said_by Every) (lines_read true []) ≡ []
 nothing_counted = ap (map (said_by Every)) (ap (take most_lines) (none_ended most_bytes (nat_le 0 most_bytes)) ∙ none_taken most_lines)
 
 nothing_read : (read rest : List ℕ) → [] ≡ read ++ rest → (read ≡ []) × (rest ≡ [])
 nothing_read [] rest h = (refl, sym h)
 nothing_read (b ∷ read) rest h = absurd cc
 
-no_lines : (lines untaken : List (Reads Saying)) → [] ≡ lines ++ untaken → lines ≡ []
-no_lines [] untaken h = refl
-no_lines (line ∷ lines) untaken h = absurd cc
-
 -- a run that completed came to `Ok` or failed in its report
 completed_ran : (status : Status) → (row_of status).completed ≡ true → status ≡ statuses.NoMemory → ⊥
 completed_ran status done is = let at : (row_of statuses.NoMemory).completed ≡ true = subst (λ (s : Status). (row_of s).completed ≡ true) is done in cc
 
-never_early : (IsEarly statuses.Ok) → ⊥
-never_early (inl is) = cc
-never_early (inr (inl is)) = cc
-never_early (inr (inr is)) = cc
-
 module _ {Opening State Job Said : Type 0} (rules : Rules Opening State Job Said) (speech : Speech Opening State Job Said) where
-  module _ (speaks : IsSpeaker rules speech) (w : World) (events : List Event) (names names' : Option (List (List ℕ))) (wires : List WireState) (history : List (Entry Job Said)) (spent : Bool) (is_open : Bool) (left before held : Option (List ℕ)) (failed : Type 0) where
+  module _ (speaks : IsSpeaker rules speech) (w : World) (events : List Event) (run : RunTold Job Said) (wires : List WireState) (wires_are : run.wires ≡ map told wires) (empty : file_told run.before.files [] ≡ Bytes [])
+      (ended_well : run.status ≡ statuses.Ok) where
     abbrev Held : Type 0
     Held = HoldTables (last_world w (lines_of (map event_of events))) 0 (last_world w (lines_of (map event_of events))).peers (map (λ (wire : WireState). wire.sessions) wires)
 
-    run_home : IsRun rules speech w Every (first_of events) (Bytes []) statuses.Ok (map told wires) history spent is_open left before held failed → Held × IsDrawnRun rules speech w (map event_of events) history
-    run_home run =
-        let parts = nothing_read run.read run.rest run.is_part in
-        let counted : lines_counted statuses.Ok Every [] [] ≡ run.lines ++ run.untaken =
-        subst (λ (r : List ℕ). lines_counted statuses.Ok Every r [] ≡ run.lines ++ run.untaken) parts.0 (subst (λ (r : List ℕ). lines_counted statuses.Ok Every run.read r ≡ run.lines ++ run.untaken) parts.1 run.counted) in
-        let all : run.ahead ++ run.lines ≡ lines_of (map event_of events) =
-        ap (λ (ls : List (Reads Saying)). run.ahead ++ ls) (no_lines run.lines run.untaken (sym nothing_counted ∙ counted)) ∙ (append-nil run.ahead ∙ (ahead_is run.ahead run.is_ahead ∙ first_lines events)) in
-        let last = last_world w (run.ahead ++ run.lines) in
-        let many : length last.peers ≡ length w.peers = ap (λ (v : World). length v.peers) (last-accepted w (run.ahead ++ run.lines)) ∙ length_through w (accepted w (run.ahead ++ run.lines)) in
-        let done = run.done in (
+    run_home : IsRun rules speech w Every (first_of events) [] run → Held × IsDrawnRun rules speech w (map event_of events) run.history
+    run_home is =
+        let c = is.course in
+        let well : EndsWell rules speech w Every (first_of events) run c = subst (λ (s : Status). IsOutcome rules speech w Every (first_of events) run c s) ended_well is.outcome in
+        let complete = well.complete in
+        let done = complete.done in
+        let none : c.read ≡ [] = (nothing_read c.read c.rest (subst (λ (f : FileTold). IsPartOf f c.read c.rest) empty is.file.is_part)).0 in
+        let no_lines : c.lines ≡ [] = complete.all ∙ (ap (λ (bytes : List ℕ). map (said_by Every) (lines_read true bytes)) none ∙ nothing_counted) in
+        let all : taken c ≡ lines_of (map event_of events) =
+        ap (λ (ls : List (Reads Saying)). c.ahead ++ ls) no_lines ∙ (append-nil c.ahead ∙ (complete.all_ahead ∙ first_lines events)) in
+        let last = last_world w (taken c) in
+        let many : length last.peers ≡ length w.peers = ap (λ (v : World). length v.peers) (last-accepted w (taken c)) ∙ length_through w (accepted w (taken c)) in
+        let wires_many : length run.wires ≡ length wires = ap (λ (ws : List WireTold). length ws) wires_are ∙ length-map wires told in (
           subst (λ (ls : List (Reads Saying)). HoldTables (last_world w ls) 0 (last_world w ls).peers (map (λ (wire : WireState). wire.sessions) wires)) all
-              (tables_from (worlds w (run.ahead ++ run.lines)) last 0 last.peers wires run.contents run.lost (λ k s at. let same : k ≡ 0 + k = omega arith in subst (λ (n : ℕ). slice_get last.peers n ≡ Some s) same at)
-              (many ∙ (sym run.kept.all ∙ length-map wires told)) run.first_loss run.kept.each),
+              (tables_from (worlds w (taken c)) last 0 last.peers wires c.contents c.lost (λ k s at. let same : k ≡ 0 + k = omega arith in subst (λ (n : ℕ). slice_get last.peers n ≡ Some s) same at)
+              (many ∙ (sym complete.kept.all ∙ wires_many)) well.none_lost
+              (one-by-one (IsWireOf (worlds w (taken c)) last true) (map told wires) c.contents c.lost
+              (subst (λ (ws : List WireTold). EachWire (IsWireOf (worlds w (taken c)) last true) ws c.contents c.lost) wires_are complete.kept.each))),
           record {
             root = done.root;
-            first = done.first;
+            first = done.begins;
             legal = done.closed.legal;
-            taken = events-are rules speech speaks done.root (run.ahead ++ run.lines) (run.first_marks ++ run.marks) true (map told wires) history done.closed
-                ∙ (ap (λ (v : World). accepted v (run.ahead ++ run.lines)) done.first ∙ (ap (accepted w) all ∙ accepted_same w (map event_of events)));
+            taken = events-are rules speech speaks done.root (taken c) (marked c) true run.wires run.history done.closed
+                ∙ (ap (λ (v : World). accepted v (taken c)) done.begins ∙ (ap (accepted w) all ∙ accepted_same w (map event_of events)));
             drained = done.closed.drained refl;
-            closed = done.ended refl;
+            closed = done.stopped ∙ ap not complete.unspent;
           },
         )
-      where
-        ahead_is : (ahead : List (Reads Saying)) → IsAhead statuses.Ok (first_of events) ahead → ahead ≡ first_of events
-        ahead_is ahead (inl is) = is
-        ahead_is ahead (inr is) = let no = is.0 in absurd cc
 
-    pub came_home : IsPromised rules speech w Every (first_of events) [] (Bytes []) names names' statuses.Ok (map told wires) history spent is_open left before held failed → Held × IsDrawnRun rules speech w (map event_of events) history
-    came_home (inl early) = absurd (never_early early.early)
-    came_home (inr run) = run_home run.1
+    pub came_home : IsPromised rules speech w Every (first_of events) [] run → Held × IsDrawnRun rules speech w (map event_of events) run.history
+    came_home (inl early) = absurd (subst (λ (s : Status). IsEarly (length w.peers) (length run.wires) run.after.picks.is_open s) ended_well early.early)
+    came_home (inr is) = run_home is.1
 
-  -- the same, where what the run was over is known by equations
-  pub came_back : (speaks : IsSpeaker rules speech) (w w' : World) (events : List Event) (es : List Happening) (file : FileTold) (status : Status) (names names' : Option (List (List ℕ))) (wires : List WireState) (history : List (Entry Job Said)) (spent : Bool)
-      (is_open : Bool) (left before held : Option (List ℕ)) (failed : Type 0) → w' ≡ w → map event_of events ≡ es → file ≡ Bytes [] → status ≡ statuses.Ok
-      → IsPromised rules speech w' Every (first_of events) [] file names names' status (map told wires) history spent is_open left before held failed
-      → HoldTables (last_world w (lines_of es)) 0 (last_world w (lines_of es)).peers (map (λ (wire : WireState). wire.sessions) wires) × IsDrawnRun rules speech w es history
-  came_back speaks w w' events es file status names names' wires history spent is_open left before held failed e f g h promised =
-      subst (λ (hs : List Happening). HoldTables (last_world w (lines_of hs)) 0 (last_world w (lines_of hs)).peers (map (λ (wire : WireState). wire.sessions) wires) × IsDrawnRun rules speech w hs history) f
-      (came_home speaks w events names names' wires history spent is_open left before held failed
-      (subst (λ (v : World). IsPromised rules speech v Every (first_of events) [] (Bytes []) names names' statuses.Ok (map told wires) history spent is_open left before held failed) e
-      (subst (λ (t : FileTold). IsPromised rules speech w' Every (first_of events) [] t names names' statuses.Ok (map told wires) history spent is_open left before held failed) g
-      (subst (λ (s : Status). IsPromised rules speech w' Every (first_of events) [] file names names' s (map told wires) history spent is_open left before held failed) h promised))))
+  -- the same, where the world and the events are known by equations
+  pub came_back : (speaks : IsSpeaker rules speech) (w w' : World) (events : List Event) (es : List Happening) (run : RunTold Job Said) (wires : List WireState)
+      → IsPromised rules speech w' Every (first_of events) [] run → run.wires ≡ map told wires → w' ≡ w → map event_of events ≡ es → file_told run.before.files [] ≡ Bytes [] → run.status ≡ statuses.Ok
+      → HoldTables (last_world w (lines_of es)) 0 (last_world w (lines_of es)).peers (map (λ (wire : WireState). wire.sessions) wires) × IsDrawnRun rules speech w es run.history
+  came_back speaks w w' events es run wires promised wires_are e f g h =
+      subst (λ (hs : List Happening). HoldTables (last_world w (lines_of hs)) 0 (last_world w (lines_of hs)).peers (map (λ (wire : WireState). wire.sessions) wires) × IsDrawnRun rules speech w hs run.history) f
+      (came_home speaks w events run wires wires_are g h (subst (λ (v : World). IsPromised rules speech v Every (first_of events) [] run) e promised))
 
   -- what is known of the end of a run, whatever it came to
-  pub stopped_as : (w w' : World) (grammar : Grammar) (first : List (Reads Saying)) (events : List ℕ) (file : FileTold) (names names' : Option (List (List ℕ))) (status : Status) (wires : List WireTold) (history : List (Entry Job Said)) (spent : Bool)
-      (is_open : Bool) (left before held : Option (List ℕ)) (failed : Type 0) → w' ≡ w
-      → IsPromised rules speech w' grammar first events file names names' status wires history spent is_open left before held failed → IsStopped rules speech w spent history
-  stopped_as w w' grammar first events file names names' status wires history spent is_open left before held failed e (inl early) = inl early.none
-  stopped_as w w' grammar first events file names names' status wires history spent is_open left before held failed e (inr run) =
-      let done = run.1.done in
-      inr (record { root = done.root; first = done.first ∙ e; stopped = done.stopped })
+  module _ (w : World) (grammar : Grammar) (first : List (Reads Saying)) (run : RunTold Job Said) (c : Course) where
+    stopped_by : (complete : Bool) → IsDoneBy rules speech w grammar first run c complete → IsStoppedFrom rules speech w run.spent run.history
+    stopped_by complete done = record { root = done.root; first = done.begins; stopped = done.stopped }
+
+    stopped_at : (status : Status) → IsOutcome rules speech w grammar first run c status → IsStoppedFrom rules speech w run.spent run.history
+    stopped_at statuses.Ok h = stopped_by true h.complete.done
+    stopped_at (statuses.Lost peer session) h = stopped_by true h.complete.done
+    stopped_at statuses.ReadFault h = stopped_by false h.cut.done
+    stopped_at statuses.ReportFault h = stopped_by false h.cut.done
+    stopped_at statuses.NoMemory h = stopped_by false h.cut.done
+    stopped_at statuses.TooLong h = stopped_by false h.cut.done
+    stopped_at statuses.Usage h = absurd h
+    stopped_at (statuses.Config number field) h = absurd h
+    stopped_at statuses.SiteFault h = absurd h
+    stopped_at (statuses.Malformed cause offset) h = absurd h
+    stopped_at (statuses.Refuted peer session kind message key) h = absurd h
+    stopped_at (statuses.Unclear line) h = absurd h
+
+  pub stopped_as : (w w' : World) (grammar : Grammar) (first : List (Reads Saying)) (events : List ℕ) (run : RunTold Job Said) → w' ≡ w
+      → IsPromised rules speech w' grammar first events run → IsStopped rules speech w run.spent run.history
+  stopped_as w w' grammar first events run e (inl early) = inl (early.none, early.unspent)
+  stopped_as w w' grammar first events run e (inr is) =
+      inr (subst (λ (v : World). IsStoppedFrom rules speech v run.spent run.history) e (stopped_at w' grammar first run is.1.course run.status is.1.outcome))
 
   -- what a run counted that came to `Ok`, whatever was reported of it
   pub counted_as : (w w' : World) (run status : Status) (history : List (Entry Job Said)) (before after : ℕ) → w' ≡ w → ((status ≡ statuses.NoMemory → ⊥) → run ≡ statuses.Ok)

@@ -12,6 +12,9 @@ use Rattle.ug_sender.specs.Lanes.{LaneView}
 use Rattle.ug_run.specs.Lanes.{AreAtPosts, AreKept}
 use Rattle.ug_run.specs.Boards.{IsHistoryOf}
 
+pub some_is : {A : Type 0} (x y : A) → Some x ≡ Some y → x ≡ y
+some_is x y e = cc
+
 pub each_of_all : {A : Type 0} (P Q : A → Type 0) → ((a : A) → P a → Q a) → (xs : List A) → All P xs → Each Q xs
 each_of_all P Q gives [] h = tt
 each_of_all P Q gives (x ∷ xs) h = (gives x (All-head P x xs h), each_of_all P Q gives xs (All-tail P x xs h))

@@ -3,13 +3,13 @@ use Rattle.std.proofs.Common.{◌≡◌, ℕ, ◌+◌, ◌<◌, ◌≤◌, Bool,
 use Rattle.std.specs.Prelude.{IfSome}
 use Rattle.std.specs.List.{list_any}
 use Rattle.std.proofs.lemmas.List.{length-map}
-use Rattle.ug_edge.specs.Told.{Rose, IsEnded, WireName, HasPicked, FileText, file_told}
+use Rattle.ug_edge.specs.Told.{Rose, IsEnded, TakesFront, WireName, HasPicked, FileText, file_told}
 use Rattle.ug_pieces.specs.ReadingLaws.{Rose-later}
 use Rattle.ug_board.specs.Entry.{Entry}
 use Rattle.ug_board.specs.Rules.{Rules, IsMachine}
 use Rattle.ug_history_rules.specs.Deeds.{Each}
 use Rattle.ug_turnstile.specs.Passes.{Gate, Held, Agrees}
-use Rattle.ug_board.specs.History.{IsLegal}
+use Rattle.ug_board.specs.History.{IsLegal, MayGoOn, replay}
 use Rattle.ug_sender.specs.Lanes.{LaneView}
 use Rattle.ug_events.specs.Events.{IsEvent, Saying}
 use Rattle.ug_events.specs.Reads.{Reads}
@@ -40,9 +40,11 @@ use Rattle.ug_commands.proofs.Ends.{part_read, later_status}
 use Rattle.ug_run_rules.specs.Contents.{WireTold}
 use Rattle.ug_run_rules.specs.Crew.{all_losses}
 use Rattle.ug_run.specs.Ends.{last_text, IsConcluded, CompletesBy, IsFinished}
+use Rattle.ug_run.specs.Told.{Before, After}
 use Rattle.ug_run.specs.Promise.{IsRun, IsCounted}
 use Rattle.ug_event_loop.proofs.Counting.{least-whole, most-whole}
-use Rattle.ug_run.proofs.Stories.{crew-from, IsBehind, behind}
+use Rattle.ug_run.proofs.Stories.{crew-from, IsBehind, behind, legal-open}
+use Rattle.ug_run.proofs.Histories.{some_is}
 use Rattle.ug_run.proofs.Coming.{comes}
 
 -- ---- lanes and their posts
@@ -231,9 +233,6 @@ never_spent : (a b : Bool) → (a ≡ true → b ≡ true) → b ≡ false → a
 never_spent true b then unspent = let spent : b ≡ true = then refl in absurd cc
 never_spent false b then unspent = refl
 
-some_is : {A : Type 0} (x y : A) → Some x ≡ Some y → x ≡ y
-some_is x y e = cc
-
 abbrev agrees_at : {Opening Job Said : Type 0} → Opening → List (Entry Job Said) → Held (Entry Job Said) Opening → Type 0
 agrees_at {Opening} {Job} {Said} root history pass = Agrees (λ (entry : Entry Job Said). entry.pass) root history pass
 
@@ -281,15 +280,16 @@ module _ {W Opening State Job Said : Type 0} (rules : Rules Opening State Job Sa
       → (lanes : List (LaneView W Opening Job Said)) → posts lanes ≡ posts (fresh_lanes made_for 0 wires passes)
       → (pass : Held (Entry Job Said) Opening) → pass ≡ new.pass → (history : List (Entry Job Said)) → IsHistoryOf rules pass lanes history → AreKept rules sessions begun faults lanes
       → (unnoted : Bool) → unnoted ≡ list_any (λ (lane : LaneView W Opening Job Said). lane.unnoted) lanes
-      → (files : Option (List FileText)) (name : List ℕ) → HasPicked files name o.left → (is_picked : Bool) → is_picked ≡ true
+      → (name : List ℕ) (before : Before) (after : After) → HasPicked before.files name o.left → after.left ≡ o'.left → after.picks.is_open ≡ true → o.held ≡ before.held → (made_for' : List WireName)
       → (peers : ℕ) → peers ≡ length w.peers → (names' : List (List ℕ)) → names' ≡ new.names → (tally : Tally) → tally ≡ new.tally → (history' : List (Entry Job Said)) → history' ≡ history
-      → (held : Option (List ℕ)) (F G : Type 0) → (F → G) → (status : Status)
-      → IsFinished names' (losses_from 0 (all_losses 0 peers history')) tally.accepted tally.refused o'.held held F end unnoted status
+      → (F : Type 0) → (F → Rose before.faults after.faults) → (status : Status)
+      → IsFinished names' (losses_from 0 (all_losses 0 peers history')) tally.accepted tally.refused o'.held after.held F end unnoted status
       → (back : List W) → back ≡ map (λ (lane : LaneView W Opening Job Said). lane.wire) lanes
-      → (spent : Bool) → (pass.spent ≡ true → spent ≡ true)
-      → IsRun rules speech w grammar first (file_told files name) status (map (told_one sessions faults) back) history spent is_picked o'.left o.held held G
-  came-home w opens gate b0 passes wires is many all first sound names names_is grammar every old new old_is o o' end ended lanes same pass pass_is history hist kept unnoted unnoted_is files name picked is_picked stays
-      peers peers_is names' names'_is tally tally_is history' history'_is held F G f status finished back back_is spent spends =
+      → (spent : Bool) → (pass.spent ≡ true → spent ≡ true) → (spent ≡ true → (root : Opening) → pass.root ≡ Some root → MayGoOn rules root history)
+      → IsRun rules speech w grammar first name (record { before = before; after = after; status = status; wires = map (told_one sessions faults) back; made_for = made_for'; history = history; spent = spent })
+  came-home w opens gate b0 passes wires is many all first sound names names_is grammar every old new old_is o o' end ended lanes same pass pass_is history hist kept unnoted unnoted_is name before after picked left_is stays held_is made_for'
+      peers peers_is names' names'_is tally tally_is history' history'_is F f status finished back back_is spent spends goes_on =
+      let G : Type 0 = Rose before.faults after.faults in
       let root_old : b0.root ≡ Some is.root = root-is made_for speech w gate b0 passes wires is in
       let root_new : new.pass.root ≡ Some is.root = ended.same.pass.2 ∙ (ap (λ (b : BuilderView Opening Job Said). b.pass.root) old_is ∙ root_old) in
       let at = back-at made_for speech w gate b0 passes wires is lanes same in
@@ -301,21 +301,25 @@ module _ {W Opening State Job Said : Type 0} (rules : Rules Opening State Job Sa
       let done = ended.ended stands in
       let agree = subst (λ (r : Opening). Each (λ (lane : LaneView W Opening Job Said). agrees_at r history lane.pass) lanes) root_same hist.lanes_agree in
       let behind_new = behind-home w gate b0 passes wires is names grammar every old new old_is first o o' end ended lanes pass pass_is history hist in
-      let fine = subst (λ (h : List (Entry Job Said)). IsFinished new.names (losses_from 0 (all_losses 0 peers h)) new.tally.accepted new.tally.refused o'.held held G end unnoted status) history'_is
-      (subst (λ (t : Tally). IsFinished new.names (losses_from 0 (all_losses 0 peers history')) t.accepted t.refused o'.held held G end unnoted status) tally_is
-      (subst (λ (ns : List (List ℕ)). IsFinished ns (losses_from 0 (all_losses 0 peers history')) tally.accepted tally.refused o'.held held G end unnoted status) names'_is
-      (finished-later names' (losses_from 0 (all_losses 0 peers history')) tally.accepted tally.refused o'.held held F G f end unnoted status finished))) in
+      let fine = subst (λ (h : List (Entry Job Said)). IsFinished new.names (losses_from 0 (all_losses 0 peers h)) new.tally.accepted new.tally.refused o'.held after.held G end unnoted status) history'_is
+      (subst (λ (t : Tally). IsFinished new.names (losses_from 0 (all_losses 0 peers history')) t.accepted t.refused o'.held after.held G end unnoted status) tally_is
+      (subst (λ (ns : List (List ℕ)). IsFinished ns (losses_from 0 (all_losses 0 peers history')) tally.accepted tally.refused o'.held after.held G end unnoted status) names'_is
+      (finished-later names' (losses_from 0 (all_losses 0 peers history')) tally.accepted tally.refused o'.held after.held F G f end unnoted status finished))) in
+      let so =
+      subst (λ (h : Option (List ℕ)). EndsAt rules speech first old new (record o { held = h }) (record o' { left = after.left }) end done.read) held_is
+      (subst (λ (l : Option (List ℕ)). EndsAt rules speech first old new o (record o' { left = l }) end done.read) (sym left_is) done.so) in
       let run = comes rules speech machine speaks w opens grammar first sound is.root is.first (map (toldl sessions faults) lanes) wires_all history
       (subst (λ (r : Opening). legal_at rules r history) root_same hist.legal)
       (subst (λ n. Each (λ (entry : Entry Job Said). entry.pass ≤ n) history) (sym count) hist.owned)
       unnoted
       (λ complete noted. crew-from rules speech sessions begun faults gate.id is.root history complete 0 lanes at kept agree (λ over. sym unnoted_is ∙ noted over))
       new root_new (ended.same.names ∙ (ap (λ (b : BuilderView Opening Job Said). b.names) old_is ∙ names_is)) behind_new
-      files name o.left o'.left picked is_picked stays o.held o'.held held G spent
+      name before after o.left picked stays o'.held made_for' spent
       (λ unspent. subst (λ (u : Bool). IsClosedAt rules speech u new.pass.root new.pass.seen) (ap (λ (p : Held (Entry Job Said) Opening). p.spent) (sym pass_is) ∙ never_spent pass.spent spent spends unspent) ended.closed)
-      done.read (part_read files name o.left o'.left done.read picked done.taken)
-      peers (peers_is ∙ sym wires_all) old (ap (λ (b : BuilderView Opening Job Said). b.grammar) old_is) o.reads_failed o'.reads_failed o.writes_failed o'.writes_failed o.steps o'.steps end status done.so fine in
-      subst (λ (ts : List WireTold). IsRun rules speech w grammar first (file_told files name) status ts history spent is_picked o'.left o.held held G)
+      (λ is'. let more = goes_on is' is.root (ap (λ (p : Held (Entry Job Said) Opening). p.root) pass_is ∙ root_new) in legal-open rules speech speaks.steps more.0 (replay rules is.root history) more.1)
+      done.read (part_read before.files name o.left after.left done.read picked (subst (λ (l : Option (List ℕ)). TakesFront o.left l done.read) (sym left_is) done.taken))
+      peers (peers_is ∙ sym wires_all) old (ap (λ (b : BuilderView Opening Job Said). b.grammar) old_is) o.reads_failed o'.reads_failed o.writes_failed o'.writes_failed o.steps o'.steps end status so fine in
+      subst (λ (ts : List WireTold). IsRun rules speech w grammar first name (record { before = before; after = after; status = status; wires = ts; made_for = made_for'; history = history; spent = spent }))
       (sym (ap (λ (ws : List W). map (told_one sessions faults) ws) back_is ∙ told_wires sessions faults lanes)) run
 
 -- A builder over the pass of a run that begins has the pace of the run's world.

@@ -2,12 +2,7 @@
 use Rattle.std.specs.Prelude.{◌⊎◌}
 use Rattle.std.proofs.Common.{◌≡◌, ℕ, zero, suc, ◌+◌, ◌≤◌, Bool, true, false, List, [], ◌∷◌, length, map, take, Option, Some, None, Result, Ok, Err, inl, inr, refl, sym, ◌∙◌, ap, subst, arith}
 use Rattle.std.proofs.lemmas.List.{append-nil, length-map}
-use Rattle.ug_edge.specs.Told.{IsFresh, TakesFront, HasPicked, WireName, WiresMade, Picks, AppendsAll, FileText, FileTold, file_told}
-use Rattle.ug_board.specs.Rules.{Rules}
-use Rattle.ug_events.specs.Events.{Saying}
-use Rattle.ug_events.specs.Reads.{Reads}
-use Rattle.ug_speaker.specs.Speech.{Speech}
-use Rattle.ug_event_loop.specs.declared.grammar.Grammar.{Grammar}
+use Rattle.ug_edge.specs.Told.{Rose, IsFresh, TakesFront, HasPicked, WireName, WiresMade, Picks, AppendsAll, FileText, FileTold, file_told}
 use Rattle.ug_history_rules.specs.Deeds.{Each}
 use Rattle.ug_world.specs.World.{World}
 use Rattle.ug_report.specs.Report.{names_in}
@@ -19,7 +14,8 @@ use Rattle.ug_report.specs.Statuses.{row_of, status_text}
 use Rattle.ug_report.specs.declared.status.Status.{Status}
 use Rattle.ug_report.specs.declared.status.Status.TheVariants as statuses
 use Rattle.ug_commands.proofs.Ends.{rest_of, part_read, agrees_read, unread_of, part_unread}
-use Rattle.ug_run.specs.Promise.{IsUnmade, IsEarly, IsUntouched, IsUnread, EndsEarly, IsRun}
+use Rattle.ug_run.specs.Told.{RunTold}
+use Rattle.ug_run.specs.Promise.{IsUnmade, IsEarly, IsUntouched, IsUnread, EndsEarly}
 use Rattle.ug_run.specs.Commands.{IsUnconfigured}
 
 -- wires as they are made are untouched
@@ -40,39 +36,70 @@ made-none made dir names = record { counted = omega arith; named = same_names ma
 pub all-names : (w : World) → length (names_in w) ≡ length w.peers
 all-names w = length-map w.peers _
 
+-- the statuses of a run that ended before its first line
+abbrev pub IsSoon : Status → Type 0
+IsSoon status = (status ≡ statuses.ReadFault) ⊎ IsUnmade status
+
+early-as : (peers wires : ℕ) (is_open : Bool) (status : Status) → IsSoon status → (status ≡ statuses.ReadFault → (is_open ≡ false) × (wires ≡ peers)) → wires ≤ peers → IsEarly peers wires is_open status
+early-as peers wires is_open status (inl is) unpicked few = subst (λ (s : Status). IsEarly peers wires is_open s) (sym is) (unpicked is)
+early-as peers wires is_open status (inr (inl is)) unpicked few = subst (λ (s : Status). IsEarly peers wires is_open s) (sym is) few
+early-as peers wires is_open status (inr (inr is)) unpicked few = subst (λ (s : Status). IsEarly peers wires is_open s) (sym is) few
+
 module _ {W : Type 0} (sessions : W → Option (List (List ℕ))) (begun faults : W → ℕ) where
   abbrev pub seen_of : W → WireTold
   seen_of wire = record { sessions = sessions wire; faults = faults wire }
 
-  -- A run that ended before its first line.
-  pub ends-early : {J R : Type 0} (w : World) (events : List ℕ) (file : FileTold) (names names' : Option (List (List ℕ))) (status : Status) (wires : List W) (history : List (Entry J R)) (is_open : Bool) (left before held : Option (List ℕ)) (failed : Type 0)
-      → IsEarly status → (status ≡ statuses.ReadFault → is_open ≡ false) → IsUnread events file names names' is_open left → length wires ≤ length w.peers → ((row_of status).made_wires ≡ true → length wires ≡ length w.peers) → AreNewWires sessions begun faults wires → history ≡ []
-      → AppendsThenStatus before held failed [] (status_text status) → EndsEarly w events file names names' status (map seen_of wires) history is_open left before held failed
-  ends-early {J} {R} w events file names names' status wires history is_open left before held failed early unopened unread few all new none report = record {
-    early = early;
-    unopened = unopened;
-    unread = unread;
-    few = rw (length-map wires seen_of) few;
-    all = λ made. length-map wires seen_of ∙ all made;
-    untouched = new-untouched sessions begun faults wires new;
-    none = none;
-    report = report;
-  }
+  module _ {J R : Type 0} (w : World) (events : List ℕ) (files : Option (List FileText)) (picks picks' : Picks) (left : Option (List ℕ)) (made made' : WiresMade) (before held : Option (List ℕ)) (writes writes' : ℕ) (made_for : List WireName) where
+    -- what stood outside before it and behind it, and a run that ended so
+    abbrev pub ended-as : Status → List W → List (Entry J R) → Bool → RunTold J R
+    ended-as status wires history spent = record {
+      before = record { files = files; picks = picks; made = made; held = before; faults = writes };
+      after = record { picks = picks'; left = left; made = made'; held = held; faults = writes' };
+      status = status;
+      wires = map seen_of wires;
+      made_for = made_for;
+      history = history;
+      spent = spent;
+    }
 
--- the statuses of wires that could not be made don't say that all were
-pub unmade-early : (status : Status) → IsUnmade status → IsEarly status
+    -- A run that ended before its first line.
+    pub ends-early : (status : Status) (wires : List W) (history : List (Entry J R)) (spent : Bool)
+        → IsSoon status → (status ≡ statuses.ReadFault → (picks'.is_open ≡ false) × (length wires ≡ length w.peers))
+        → IsUnread events (file_told files events) picks.names picks'.names picks'.is_open left → length wires ≤ length w.peers → AreNewWires sessions begun faults wires
+        → history ≡ [] → spent ≡ false → AppendsThenStatus before held (Rose writes writes') [] (status_text status)
+        → EndsEarly w events (ended-as status wires history spent)
+    ends-early status wires history spent soon unpicked unread few new none unspent report = record {
+      early =
+          let same = length-map wires seen_of in
+          early-as (length w.peers) (length (map seen_of wires)) picks'.is_open status soon (λ is. ((unpicked is).0, same ∙ (unpicked is).1)) (rw same few);
+      unread = unread;
+      untouched = new-untouched sessions begun faults wires new;
+      none = none;
+      unspent = unspent;
+      report = report;
+    }
+
+    -- the same, with the status and the wires as they are handed on
+    pub early-home : (status mid given : Status) (wires back : List W) (history : List (Entry J R)) (spent : Bool) → given ≡ mid → mid ≡ status → back ≡ wires → history ≡ [] → spent ≡ false
+        → IsSoon status → (status ≡ statuses.ReadFault → (picks'.is_open ≡ false) × (length wires ≡ length w.peers))
+        → IsUnread events (file_told files events) picks.names picks'.names picks'.is_open left → length wires ≤ length w.peers → AreNewWires sessions begun faults wires
+        → AppendsThenStatus before held (Rose writes writes') [] (status_text status)
+        → EndsEarly w events (ended-as given back history spent)
+    early-home status mid given wires back history spent one other back_is none unspent soon unpicked unread few new report =
+        subst (λ (s : Status). EndsEarly w events (ended-as s back history spent)) (sym (one ∙ other))
+        (subst (λ (ws : List W). EndsEarly w events (ended-as status ws history spent)) (sym back_is)
+        (ends-early status wires history spent soon unpicked unread few new none unspent report))
+
+-- the statuses of wires that could not be made
+pub unmade-early : (status : Status) → IsUnmade status → IsSoon status
 unmade-early status is = inr is
 
-pub unmade-some : (status : Status) (P : Type 0) → IsUnmade status → (row_of status).made_wires ≡ true → P
-unmade-some status P (inl is) made = let at : (row_of statuses.SiteFault).made_wires ≡ true = subst (λ (s : Status). (row_of s).made_wires ≡ true) is made in absurd cc
-unmade-some status P (inr is) made = let at : (row_of statuses.NoMemory).made_wires ≡ true = subst (λ (s : Status). (row_of s).made_wires ≡ true) is made in absurd cc
-
--- nor do those of a file that could not be picked say that it was read
-pub unbegun-early : (status : Status) → IsUnbegun status → IsEarly status
+-- those of a file that could not be picked
+pub unbegun-early : (status : Status) → IsUnbegun status → IsSoon status
 unbegun-early status (inl is) = inl is
 unbegun-early status (inr is) = inr (inr is)
 
-pub early-completed : (status : Status) (P : Type 0) → IsEarly status → (row_of status).completed ≡ true → P
+pub early-completed : (status : Status) (P : Type 0) → IsSoon status → (row_of status).completed ≡ true → P
 early-completed status P (inl is) done = let at : (row_of statuses.ReadFault).completed ≡ true = subst (λ (s : Status). (row_of s).completed ≡ true) is done in absurd cc
 early-completed status P (inr (inl is)) done = let at : (row_of statuses.SiteFault).completed ≡ true = subst (λ (s : Status). (row_of s).completed ≡ true) is done in absurd cc
 early-completed status P (inr (inr is)) done = let at : (row_of statuses.NoMemory).completed ≡ true = subst (λ (s : Status). (row_of s).completed ≡ true) is done in absurd cc
@@ -81,7 +108,7 @@ pub unmade-unread : (status : Status) (P : Type 0) → IsUnmade status → statu
 unmade-unread status P (inl is) e = let at : statuses.SiteFault ≡ statuses.ReadFault = sym is ∙ e in absurd cc
 unmade-unread status P (inr is) e = let at : statuses.NoMemory ≡ statuses.ReadFault = sym is ∙ e in absurd cc
 
-pub early-reported : (status : Status) (P : Type 0) → IsEarly status → status ≡ statuses.ReportFault → P
+pub early-reported : (status : Status) (P : Type 0) → IsSoon status → status ≡ statuses.ReportFault → P
 early-reported status P (inl is) e = let at : statuses.ReadFault ≡ statuses.ReportFault = sym is ∙ e in absurd cc
 early-reported status P (inr (inl is)) e = let at : statuses.SiteFault ≡ statuses.ReportFault = sym is ∙ e in absurd cc
 early-reported status P (inr (inr is)) e = let at : statuses.NoMemory ≡ statuses.ReportFault = sym is ∙ e in absurd cc
@@ -89,17 +116,6 @@ early-reported status P (inr (inr is)) e = let at : statuses.NoMemory ≡ status
 pub unbegun-made : (status : Status) (P : Type 0) → IsUnbegun status → status ≡ statuses.SiteFault → P
 unbegun-made status P (inl is) e = let at : statuses.ReadFault ≡ statuses.SiteFault = sym is ∙ e in absurd cc
 unbegun-made status P (inr is) e = let at : statuses.NoMemory ≡ statuses.SiteFault = sym is ∙ e in absurd cc
-
-module _ {W : Type 0} (sessions : W → Option (List (List ℕ))) (begun faults : W → ℕ) where
-  -- the same, with the status and the wires as they are handed on
-  pub early-home : {J R : Type 0} (w : World) (events : List ℕ) (file : FileTold) (names names' : Option (List (List ℕ))) (status mid given : Status) (wires back : List W) (history : List (Entry J R)) (is_open : Bool) (left before held : Option (List ℕ)) (failed : Type 0)
-      → given ≡ mid → mid ≡ status → back ≡ wires → history ≡ []
-      → IsEarly status → (status ≡ statuses.ReadFault → is_open ≡ false) → IsUnread events file names names' is_open left → length wires ≤ length w.peers → ((row_of status).made_wires ≡ true → length wires ≡ length w.peers) → AreNewWires sessions begun faults wires
-      → AppendsThenStatus before held failed [] (status_text status) → EndsEarly w events file names names' given (map (seen_of sessions begun faults) back) history is_open left before held failed
-  early-home {J} {R} w events file names names' status mid given wires back history is_open left before held failed one other back_is none early unopened unread few all new report =
-      subst (λ (s : Status). EndsEarly w events file names names' s (map (seen_of sessions begun faults) back) history is_open left before held failed) (sym (one ∙ other))
-      (subst (λ (ws : List W). EndsEarly w events file names names' status (map (seen_of sessions begun faults) ws) history is_open left before held failed) (sym back_is)
-      (ends-early sessions begun faults w events file names names' status wires history is_open left before held failed early unopened unread few all new none report))
 
 -- no wire was made, and none is given back
 pub made-idle : {W : Type 0} (made_for : W → WireName) (wires : List W) (made : WiresMade) (dir : List ℕ) (names : List (List ℕ)) → wires ≡ [] → AreMadeFor made made dir names (map made_for wires)
@@ -136,13 +152,6 @@ unread-open name files mid_files old mid new left files_same same opened named p
       part_read files name left left [] here (takes-nothing left),
       agrees_read new.is_open left [] opened,
     )
-
--- the file is the same, however the site tells of it
-pub same-files : {Opening State Job Said : Type 0} (rules : Rules Opening State Job Said) (speech : Speech Opening State Job Said) (w : World) (grammar : Grammar) (first : List (Reads Saying))
-    (old new : Option (List FileText)) (name : List ℕ) (status : Status) (wires : List WireTold) (history : List (Entry Job Said)) (spent : Bool) (is_picked : Bool) (left before held : Option (List ℕ)) (failed : Type 0) → new ≡ old
-    → IsRun rules speech w grammar first (file_told new name) status wires history spent is_picked left before held failed → IsRun rules speech w grammar first (file_told old name) status wires history spent is_picked left before held failed
-same-files rules speech w grammar first old new name status wires history spent is_picked left before held failed same run =
-    subst (λ (fs : Option (List FileText)). IsRun rules speech w grammar first (file_told fs name) status wires history spent is_picked left before held failed) same run
 
 -- a configuration that stands for no world ends no run that completed
 pub unset-completed : (file : FileTold) (status : Status) (P : Type 0) → IsUnconfigured file status → (row_of status).completed ≡ true → P

@@ -1,6 +1,6 @@
 -- A run whose board is closed: its story is that of its lines, and each wire holds what its lane was handed.
 use Rattle.std.proofs.Common.{◌≡◌, ℕ, zero, suc, ◌+◌, ◌<◌, ◌≤◌, Bool, true, false, List, [], ◌∷◌, ◌++◌, length, map, slice_get, Option, Some, None, Ok, Err, inl, inr, refl, sym, ◌∙◌, ap, subst, arith}
-use Rattle.std.specs.Prelude.{◌==◌, ◌||◌, filter}
+use Rattle.std.specs.Prelude.{◌==◌, ◌||◌, ◌&&◌, not, nat_lt, is_none, filter}
 use Rattle.std.specs.List.{list_any}
 use Rattle.std.proofs.lemmas.Bool.{cases_lt, eq-eqb}
 use Rattle.std.proofs.lemmas.List.{length-map, append-nil, append_cancel_left}
@@ -22,8 +22,9 @@ use Rattle.ug_events.specs.Events.{Happening, IsEvent, Saying, SaysNothing, Says
 use Rattle.ug_events.specs.Reads.{Reads}
 use Rattle.ug_events.specs.Grammar.{verb_of, routes_verb_of}
 use Rattle.ug_input_laws.proofs.Lines.{line_sound}
-use Rattle.ug_speaker.specs.Speech.{Speech}
-use Rattle.ug_speaker.specs.Owes.{StepsRight, IsOpening}
+use Rattle.ug_speaker.specs.Speech.{Purpose, TakesEvent, MarksTold, Ends, Prepares, Speech}
+use Rattle.ug_speaker.specs.Owes.{IsTimely, StepsRight, IsOpening}
+use Rattle.ug_world.specs.Verdicts.{verdict}
 use Rattle.ug_speaker.specs.Story.{IsSound, IsBetween, IsStory}
 use Rattle.ug_speaker.specs.StoryLaws.{story-between}
 use Rattle.ug_event_loop.specs.declared.grammar.Grammar.{Grammar}
@@ -51,6 +52,30 @@ said_sound grammars.Routes line = sound_by (said_by grammars.Routes line) (λ e 
 pub lines-sound : (g : Grammar) (lines : List (List ℕ)) → Each IsSound (map (said_by g) lines)
 lines-sound g [] = tt
 lines-sound g (line ∷ lines) = (said_sound g line, lines-sound g lines)
+
+-- ---- jobs
+
+pub not_true : (b : Bool) → not b ≡ true → b ≡ false
+not_true true h = absurd cc
+not_true false h = refl
+
+last_true : (a b : Bool) → (a && b) ≡ true → b ≡ true
+last_true true b h = h
+last_true false b h = absurd cc
+
+-- Where a job may be done the work is not ended.
+module _ {Opening State Job Said : Type 0} (rules : Rules Opening State Job Said) (speech : Speech Opening State Job Said) where
+  open_for : (p : Purpose) (legal : Bool) (s : State) → IsTimely rules speech p legal s → legal ≡ true → speech.closed s ≡ false
+  open_for (TakesEvent e) legal s timely may =
+      let new = is_none (verdict (speech.world s) e) in
+      let few = nat_lt (speech.world s).version 4294967295 in
+      not_true (speech.closed s) (last_true (speech.settled s) (not (speech.closed s)) (last_true few (speech.settled s && not (speech.closed s)) (last_true new (few && (speech.settled s && not (speech.closed s))) (sym timely ∙ may))))
+  open_for MarksTold legal s timely may = not_true (speech.closed s) (last_true (speech.drained s) (not (speech.closed s)) (sym timely ∙ may))
+  open_for Ends legal s timely may = not_true (speech.closed s) (sym timely ∙ may)
+  open_for Prepares legal s timely may = timely may
+
+  pub legal-open : StepsRight rules speech → (job : Job) (s : State) → rules.legal job s ≡ true → speech.closed s ≡ false
+  legal-open steps job s may = open_for (speech.purpose job) (rules.legal job s) s (steps.timely job s) may
 
 -- ---- lanes
 

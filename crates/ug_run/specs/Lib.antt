@@ -4,6 +4,8 @@ pub mod Boards
 pub mod Losses
 pub mod Ends
 pub mod Setups
+pub mod Told
+pub mod Outcomes
 pub mod Promise
 pub mod Commands
 pub mod Drawn

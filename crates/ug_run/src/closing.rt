@@ -1,8 +1,9 @@
 //! The end of the work on a board.
 
-ghost use Rattle.std.specs.Prelude.{◌≡◌, ◌+◌, ◌≤◌, List, [], length, map, true, false};
+ghost use Rattle.std.specs.Prelude.{◌≡◌, ◌+◌, ◌≤◌, List, [], length, map, true, false, Some};
 ghost use Rattle.std.specs.List.{list_any};
 ghost use Rattle.ug_board.specs.Entry.{Entry};
+ghost use Rattle.ug_board.specs.History.{MayGoOn};
 ghost use Rattle.ug_run.specs.Lanes.{AreKept, AreAtPosts};
 ghost use Rattle.ug_run.specs.Boards.{IsHistoryOf};
 
@@ -44,6 +45,7 @@ pub fn close<W: Wire, S: Speaker>(
     ensures history { IsHistoryOf S.Machine.rules builder lanes.items result.history.items }
     ensures only { (other : List (Entry S.Job S.Said)) → IsHistoryOf S.Machine.rules builder lanes.items other → other ≡ result.history.items }
     ensures spent { builder.spent ≡ true → result.spent ≡ true }
+    ensures open { result.spent ≡ true → (root : S.Opening) → builder.root ≡ Some root → MayGoOn S.Machine.rules root result.history.items }
     ensures wires { result.wires.items ≡ map (λ lane. lane.wire) lanes.items }
     ensures made_for { map W.made_for result.wires.items ≡ map (λ lane. lane.made_for) lanes.items }
     ensures unnoted { result.unnoted ≡ list_any (λ lane. lane.unnoted) lanes.items }

@@ -1,7 +1,7 @@
 //! A run over a world: its wires are made, the file of events is read beside the lanes, and everything comes back.
 
 ghost use Rattle.std.specs.Prelude.{◌≡◌, ◌+◌, ◌<◌, ◌≤◌, [], List, ℕ, map, take, length, true, false, Some, IfOk, IfErr, OnOk, IsErrOf};
-ghost use Rattle.ug_edge.specs.Told.{Rose, IsEnded, HasPicked, file_told};
+ghost use Rattle.ug_edge.specs.Told.{Rose, IsEnded, HasPicked};
 ghost use Rattle.ug_events.specs.Views.{event_of};
 ghost use Rattle.ug_world.specs.World.{World};
 ghost use Rattle.ug_speaker.specs.Owes.{IsOpening, AreEvents};
@@ -12,6 +12,7 @@ ghost use Rattle.ug_run.specs.Wires.{AreNewWires, HasMade, AreMadeFor, wire_name
 ghost use Rattle.ug_run.specs.Lanes.{ArePassesFrom};
 ghost use Rattle.ug_run.specs.Boards.{IsBegun};
 ghost use Rattle.ug_report.specs.Statuses.{row_of, is_fixed};
+ghost use Rattle.ug_run.specs.Told.{Before};
 ghost use Rattle.ug_run.specs.Promise.{IsPromised, IsRun, IsUnmade, IsCounted};
 
 use crate::beginning::{Begun, begin};
@@ -85,9 +86,15 @@ pub(crate) fn run_over<S: Speaker, R: Threads + Wait + Sync, E: Site, K: Sink, L
 ) -> Done<E::Wire, S>
     requires opening { IsOpening plan.world }
     requires form { AreEvents (map event_of plan.first.items) }
-    ensures promised { IsPromised S.Machine.rules S.speech plan.world plan.grammar (first_of plan.first.items) events.now (file_told (E.files site.old) events.now) (E.picks site.old).names (E.picks site.new).names result.status
-        (map (λ wire. record { sessions = E.Wire.sessions wire; faults = E.Wire.faults wire }) result.wires.items) result.history.items result.spent
-        (E.picks site.new).is_open (E.left site.new) (K.held report.old) (K.held report.new) (Rose (K.faults report.old) (K.faults report.new)) }
+    ensures promised { IsPromised S.Machine.rules S.speech plan.world plan.grammar (first_of plan.first.items) events.now (record {
+      before = record { files = E.files site.old; picks = E.picks site.old; made = E.made site.old; held = K.held report.old; faults = K.faults report.old };
+      after = record { picks = E.picks site.new; left = E.left site.new; made = E.made site.new; held = K.held report.new; faults = K.faults report.new };
+      status = result.status;
+      wires = map (λ wire. record { sessions = E.Wire.sessions wire; faults = E.Wire.faults wire }) result.wires.items;
+      made_for = map E.Wire.made_for result.wires.items;
+      history = result.history.items;
+      spent = result.spent;
+    }) }
     ensures made { AreMadeFor (E.made site.old) (E.made site.new) dir.now (names_in plan.world) (map E.Wire.made_for result.wires.items) }
     ensures read { result.status ≡ Status.ReadFault → Rose (E.faults site.old) (E.faults site.new) }
     ensures unharmed { (result.status ≡ Status.ReadFault → ⊥) → E.faults site.new ≡ E.faults site.old }
@@ -202,12 +209,19 @@ fn run_begun<S: Speaker, R: Threads + Wait + Sync, E: Site, K: Sink, L: Ledger>(
     requires passes_room { length start.wires.items + 1 ≤ begun.passes_home.spare }
     requires fresh { AreNewWires E.Wire.sessions E.Wire.begun E.Wire.faults start.wires.items }
     requires form { AreEvents (map event_of start.first.items) }
-    ensures done { (w : World) (events : List ℕ) → IsOpening w → IsBegun S.speech w begun.turnstile begun.builder begun.passes.items
+    ensures done { (w : World) (events : List ℕ) (before : Before) → IsOpening w → IsBegun S.speech w begun.turnstile begun.builder begun.passes.items
         → start.names.items ≡ names_in w → start.peers ≡ length w.peers → length w.peers ≡ length start.wires.items
+        → before.files ≡ E.files site.old → before.held ≡ K.held report.old → before.faults ≡ K.faults report.old
         → HasPicked (E.files site.old) events (E.left site.old) → (E.picks site.old).is_open ≡ true
-        → IsRun S.Machine.rules S.speech w start.grammar (first_of start.first.items) (file_told (E.files site.old) events) result.status
-        (map (λ wire. record { sessions = E.Wire.sessions wire; faults = E.Wire.faults wire }) result.wires.items) result.history.items result.spent
-        (E.picks site.new).is_open (E.left site.new) (K.held report.old) (K.held report.new) (Rose (K.faults report.old) (K.faults report.new)) }
+        → IsRun S.Machine.rules S.speech w start.grammar (first_of start.first.items) events (record {
+          before = before;
+          after = record { picks = E.picks site.new; left = E.left site.new; made = E.made site.new; held = K.held report.new; faults = K.faults report.new };
+          status = result.status;
+          wires = map (λ wire. record { sessions = E.Wire.sessions wire; faults = E.Wire.faults wire }) result.wires.items;
+          made_for = map E.Wire.made_for result.wires.items;
+          history = result.history.items;
+          spent = result.spent;
+        }) }
     ensures all { length result.wires.items ≡ length start.wires.items }
     ensures made_for { map E.Wire.made_for result.wires.items ≡ map E.Wire.made_for start.wires.items }
     ensures read { result.status ≡ Status.ReadFault → Rose (E.faults site.old) (E.faults site.new) }

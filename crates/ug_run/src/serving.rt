@@ -70,13 +70,25 @@ pub fn serve<S: Speaker, R: Threads + Wait + Sync, E: Site, K: Sink, L: Ledger>(
     steps: &mut Steps<L>,
 ) -> Done<E::Wire, S>
     ensures one { (command : OneCommand) → command_of (map string_bytes words.now) ≡ Some (One command) →
-        IsOne S.Machine.rules S.speech command.events (file_told (E.files site.old) command.events) (E.picks site.old).names (E.picks site.new).names result.status
-        (map (λ wire. record { sessions = E.Wire.sessions wire; faults = E.Wire.faults wire }) result.wires.items) result.history.items result.spent
-        (E.picks site.new).is_open (E.left site.new) (K.held report.old) (K.held report.new) (Rose (K.faults report.old) (K.faults report.new)) }
+        IsOne S.Machine.rules S.speech command.events (record {
+          before = record { files = E.files site.old; picks = E.picks site.old; made = E.made site.old; held = K.held report.old; faults = K.faults report.old };
+          after = record { picks = E.picks site.new; left = E.left site.new; made = E.made site.new; held = K.held report.new; faults = K.faults report.new };
+          status = result.status;
+          wires = map (λ wire. record { sessions = E.Wire.sessions wire; faults = E.Wire.faults wire }) result.wires.items;
+          made_for = map E.Wire.made_for result.wires.items;
+          history = result.history.items;
+          spent = result.spent;
+        }) }
     ensures run { (command : RunCommand) → command_of (map string_bytes words.now) ≡ Some (Run command) →
-        IsRunOf S.Machine.rules S.speech command (file_told (E.files site.old) command.config) (file_told (E.files site.old) command.events) (E.picks site.old).names (E.picks site.new).names result.status
-        (map (λ wire. record { sessions = E.Wire.sessions wire; faults = E.Wire.faults wire }) result.wires.items) result.history.items result.spent (map E.Wire.made_for result.wires.items) (E.made site.old) (E.made site.new)
-        (E.picks site.new).is_open (E.left site.new) (K.held report.old) (K.held report.new) (Rose (K.faults report.old) (K.faults report.new)) }
+        IsRunOf S.Machine.rules S.speech command (record {
+          before = record { files = E.files site.old; picks = E.picks site.old; made = E.made site.old; held = K.held report.old; faults = K.faults report.old };
+          after = record { picks = E.picks site.new; left = E.left site.new; made = E.made site.new; held = K.held report.new; faults = K.faults report.new };
+          status = result.status;
+          wires = map (λ wire. record { sessions = E.Wire.sessions wire; faults = E.Wire.faults wire }) result.wires.items;
+          made_for = map E.Wire.made_for result.wires.items;
+          history = result.history.items;
+          spent = result.spent;
+        }) }
     ensures checked { (command : CheckCommand) → command_of (map string_bytes words.now) ≡ Some (Check command) →
         IsChecked command (file_told (E.files site.old) command.stream) (E.picks site.new).is_open (E.left site.new) result.status (K.held report.old) (K.held report.new) (Rose (K.faults report.old) (K.faults report.new)) }
     ensures listed { (command : GroupsCommand) → command_of (map string_bytes words.now) ≡ Some (Groups command) →
@@ -115,16 +127,16 @@ pub fn serve<S: Speaker, R: Threads + Wait + Sync, E: Site, K: Sink, L: Ledger>(
     ensures check_unmade { (command : CheckCommand) → command_of (map string_bytes words.now) ≡ Some (Check command) → E.made site.new ≡ E.made site.old }
     ensures groups_unmade { (command : GroupsCommand) → command_of (map string_bytes words.now) ≡ Some (Groups command) → E.made site.new ≡ E.made site.old }
     ensures audit_unmade { (command : AuditCommand) → command_of (map string_bytes words.now) ≡ Some (Audit command) → E.made site.new ≡ E.made site.old }
-    ensures check_idle { (command : CheckCommand) → command_of (map string_bytes words.now) ≡ Some (Check command) → (result.wires.items ≡ []) × (result.history.items ≡ []) × (steps.new ≡ steps.old) }
-    ensures groups_idle { (command : GroupsCommand) → command_of (map string_bytes words.now) ≡ Some (Groups command) → (result.wires.items ≡ []) × (result.history.items ≡ []) × (steps.new ≡ steps.old) }
-    ensures audit_idle { (command : AuditCommand) → command_of (map string_bytes words.now) ≡ Some (Audit command) → (result.wires.items ≡ []) × (result.history.items ≡ []) × (steps.new ≡ steps.old) }
+    ensures check_idle { (command : CheckCommand) → command_of (map string_bytes words.now) ≡ Some (Check command) → (result.wires.items ≡ []) × (result.history.items ≡ []) × (result.spent ≡ false) × (steps.new ≡ steps.old) }
+    ensures groups_idle { (command : GroupsCommand) → command_of (map string_bytes words.now) ≡ Some (Groups command) → (result.wires.items ≡ []) × (result.history.items ≡ []) × (result.spent ≡ false) × (steps.new ≡ steps.old) }
+    ensures audit_idle { (command : AuditCommand) → command_of (map string_bytes words.now) ≡ Some (Audit command) → (result.wires.items ≡ []) × (result.history.items ≡ []) × (result.spent ≡ false) × (steps.new ≡ steps.old) }
     // `selfrun` leaves the site alone: nothing is read, and no wire is made.
     ensures drawn_alone { (command : SelfRunCommand) → command_of (map string_bytes words.now) ≡ Some (SelfRun command) → (site.new ≡ site.old) × (result.wires.items ≡ []) }
     // Words that are no command.
     ensures usage { (result.status ≡ Status.Usage) ↔ (is_command (map string_bytes words.now) ≡ false) }
     ensures no_command { is_command (map string_bytes words.now) ≡ false →
         AppendsThenStatus (K.held report.old) (K.held report.new) (Rose (K.faults report.old) (K.faults report.new)) [] (status_text Status.Usage) }
-    ensures idle { is_command (map string_bytes words.now) ≡ false → (result.wires.items ≡ []) × (result.history.items ≡ []) × (steps.new ≡ steps.old) }
+    ensures idle { is_command (map string_bytes words.now) ≡ false → (result.wires.items ≡ []) × (result.history.items ≡ []) × (result.spent ≡ false) × (steps.new ≡ steps.old) }
     ensures unmade { is_command (map string_bytes words.now) ≡ false → E.made site.new ≡ E.made site.old }
     ensures unread { is_command (map string_bytes words.now) ≡ false → E.left site.new ≡ E.left site.old }
     ensures unpicked { is_command (map string_bytes words.now) ≡ false → E.picks site.new ≡ E.picks site.old }
@@ -173,9 +185,15 @@ fn one<S: Speaker, R: Threads + Wait + Sync, E: Site, K: Sink, L: Ledger>(
     report: &mut K,
     steps: &mut Steps<L>,
 ) -> Done<E::Wire, S>
-    ensures promised { IsOne S.Machine.rules S.speech words.now.events.now (file_told (E.files site.old) words.now.events.now) (E.picks site.old).names (E.picks site.new).names result.status
-        (map (λ wire. record { sessions = E.Wire.sessions wire; faults = E.Wire.faults wire }) result.wires.items) result.history.items result.spent
-        (E.picks site.new).is_open (E.left site.new) (K.held report.old) (K.held report.new) (Rose (K.faults report.old) (K.faults report.new)) }
+    ensures promised { IsOne S.Machine.rules S.speech words.now.events.now (record {
+      before = record { files = E.files site.old; picks = E.picks site.old; made = E.made site.old; held = K.held report.old; faults = K.faults report.old };
+      after = record { picks = E.picks site.new; left = E.left site.new; made = E.made site.new; held = K.held report.new; faults = K.faults report.new };
+      status = result.status;
+      wires = map (λ wire. record { sessions = E.Wire.sessions wire; faults = E.Wire.faults wire }) result.wires.items;
+      made_for = map E.Wire.made_for result.wires.items;
+      history = result.history.items;
+      spent = result.spent;
+    }) }
     ensures made { AreMadeFor (E.made site.old) (E.made site.new) words.now.dir.now (names_in one_world) (map E.Wire.made_for result.wires.items) }
     ensures read { result.status ≡ Status.ReadFault → Rose (E.faults site.old) (E.faults site.new) }
     ensures unharmed { (result.status ≡ Status.ReadFault → ⊥) → E.faults site.new ≡ E.faults site.old }
@@ -233,10 +251,15 @@ fn run<S: Speaker, R: Threads + Wait + Sync, E: Site, K: Sink, L: Ledger>(
     report: &mut K,
     steps: &mut Steps<L>,
 ) -> Done<E::Wire, S>
-    ensures promised { IsRunOf S.Machine.rules S.speech (record { config = words.now.config.now; events = words.now.events.now; dir = words.now.dir.now; apart = words.now.apart })
-        (file_told (E.files site.old) words.now.config.now) (file_told (E.files site.old) words.now.events.now) (E.picks site.old).names (E.picks site.new).names result.status
-        (map (λ wire. record { sessions = E.Wire.sessions wire; faults = E.Wire.faults wire }) result.wires.items) result.history.items result.spent (map E.Wire.made_for result.wires.items) (E.made site.old) (E.made site.new)
-        (E.picks site.new).is_open (E.left site.new) (K.held report.old) (K.held report.new) (Rose (K.faults report.old) (K.faults report.new)) }
+    ensures promised { IsRunOf S.Machine.rules S.speech (record { config = words.now.config.now; events = words.now.events.now; dir = words.now.dir.now; apart = words.now.apart }) (record {
+      before = record { files = E.files site.old; picks = E.picks site.old; made = E.made site.old; held = K.held report.old; faults = K.faults report.old };
+      after = record { picks = E.picks site.new; left = E.left site.new; made = E.made site.new; held = K.held report.new; faults = K.faults report.new };
+      status = result.status;
+      wires = map (λ wire. record { sessions = E.Wire.sessions wire; faults = E.Wire.faults wire }) result.wires.items;
+      made_for = map E.Wire.made_for result.wires.items;
+      history = result.history.items;
+      spent = result.spent;
+    }) }
     ensures read { result.status ≡ Status.ReadFault → Rose (E.faults site.old) (E.faults site.new) }
     ensures unharmed { (result.status ≡ Status.ReadFault → ⊥) → E.faults site.new ≡ E.faults site.old }
     ensures report { result.status ≡ Status.ReportFault → Rose (K.faults report.old) (K.faults report.new) }

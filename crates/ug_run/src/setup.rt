@@ -1,9 +1,9 @@
 //! The configuration of a run.
 
-ghost use Rattle.std.specs.Prelude.{◌≡◌, ◌≤◌, ◌<◌, ◌⊎◌, [], ◌∷◌, true, Ok, IfOk, OnOk, IfErr, IsErrOf};
+ghost use Rattle.std.specs.Prelude.{◌≡◌, ◌≤◌, ◌<◌, ◌⊎◌, [], ◌∷◌, Ok, IfOk, OnOk, IfErr, IsErrOf};
 ghost use Rattle.ug_edge.specs.Told.{Rose, AppendsAll, file_told, Missing};
 ghost use Rattle.ug_commands.specs.declared.stop.Stop.TheVariants.{Report as ReportStops};
-ghost use Rattle.ug_report.specs.Statuses.{row_of, status_text};
+ghost use Rattle.ug_report.specs.Statuses.{status_text};
 ghost use Rattle.ug_commands.specs.Files.{AppendsThenStatus};
 ghost use Rattle.ug_commands.specs.Listed.{IsConfigured};
 ghost use Rattle.ug_run.specs.Commands.{IsUnconfigured};
@@ -40,7 +40,6 @@ pub(crate) fn configure<E: Site>(alloc: Global, config: &str, site: &mut E) -> R
 pub(crate) fn end_unset<K: Sink>(alloc: Global, stop: Stop, report: &mut K) -> Status
     requires { stop ≡ ReportStops → ⊥ }
     ensures cause { (file : _) → IsStopOf file stop → IsUnconfigured file result }
-    ensures missing { IsStopOf Missing stop → (row_of result).may_be_unread ≡ true }
     ensures read { result ≡ Status.ReadFault → stop ≡ Stop.Read }
     ensures unread { stop ≡ Stop.Read → result ≡ Status.ReadFault }
     ensures starved { stop ≡ Stop.NoMemory → result ≡ Status.NoMemory }

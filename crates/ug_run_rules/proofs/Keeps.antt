@@ -16,7 +16,7 @@ use Rattle.ug_speaker.specs.Speech.{Speech, capabilities_of}
 use Rattle.ug_speaker.specs.Told.{begun, told, is_lost, world_at}
 use Rattle.ug_speaker.specs.Right.{IsToldAll, IsToldAgain}
 use Rattle.ug_speaker.specs.Owes.{IsSpeaker}
-use Rattle.ug_run_rules.specs.Contents.{WireTold, Content, EachSession, EachWireFrom, session_at, content_at, has_number, is_lost_of, is_lost_at}
+use Rattle.ug_run_rules.specs.Contents.{WireTold, Content, EachSession, session_at, content_at, has_number, is_lost_of, is_lost_at}
 use Rattle.ug_run_rules.specs.Kept.{IsWireOf, HasMark, IsSynced, world_at_line, IsKept}
 use Rattle.ug_run_rules.specs.Crew.{losses_in, all_losses, IsClosed}
 use Rattle.ug_run_rules.proofs.Lists.{some-same}
@@ -25,6 +25,7 @@ use Rattle.ug_run_rules.proofs.Growth.{front-within, told-grows, losses-entries}
 use Rattle.ug_run_rules.proofs.Lines.{line-at, lines-at}
 use Rattle.ug_run_rules.proofs.Marking.{marks-right}
 use Rattle.ug_run_rules.proofs.Runs.{builders-are}
+use Rattle.ug_run_rules.proofs.EachWires.{EachWireFrom, by-place}
 use Rattle.ug_run_rules.proofs.Wired.{IsWireHeld, wire-held}
 use Rattle.ug_run_rules.proofs.Syncs.{IsLine, IsSyncedAt, synced-at, synced-told}
 use Rattle.ug_run_rules.proofs.Requests.{asked-at, asked-told}
@@ -323,13 +324,13 @@ module _ {Opening State Job Said : Type 0} (rules : Rules Opening State Job Said
     kept : IsKept first lines marks complete wires contents lost
     kept = record {
       all = closed.all;
-      each = wires_right;
+      each = by-place (IsWireOf (worlds first lines) (last_world first lines) complete) wires contents lost wires_right;
       marked = marks-right rules speech speaks opening lines marks complete wires history closed (is_lost_at lost) told_lost;
       sync = sync_right;
       begun = begun_right;
       rise = rise_right;
       held = held_right;
-      again = again_right;
+      again = λ i j e m m' c s is there. again_right i j e m m' s c is.later is.event is.mark is.sync is.mark' is.same_peer is.same_session there is.holds is.enough;
     }
 
   -- A closed run keeps what is promised. Where it completed, the lost sessions are those whose losses are entries.

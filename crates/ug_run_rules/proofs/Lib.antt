@@ -1,4 +1,5 @@
 pub mod Lists
+pub mod EachWires
 pub mod Growing
 pub mod Peers
 pub mod Owned

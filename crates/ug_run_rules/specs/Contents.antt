@@ -1,5 +1,5 @@
 -- What the wires of a run tell, and what their sessions hold.
-use Rattle.std.specs.Prelude.{◌≡◌, ℕ, zero, suc, ◌+◌, ◌<◌, ◌==◌, Bool, true, false, not, List, [], ◌∷◌, slice_get, Option, Some, None, option_and_then}
+use Rattle.std.specs.Prelude.{◌≡◌, ℕ, zero, suc, ◌+◌, ◌<◌, ◌==◌, Bool, true, false, not, List, [], ◌∷◌, length, slice_get, Option, Some, None, option_and_then}
 use Rattle.std.specs.List.{list_any}
 use Rattle.ug_types.specs.Messages.{Message}
 use Rattle.ug_types.specs.Bytes.{is_empty}
@@ -29,14 +29,11 @@ abbrev pub EachSession : (ℕ → List ℕ → Content → Type 0) → Option (L
 EachSession P None contents = contents ≡ []
 EachSession P (Some sessions) contents = EachFrom P 1 sessions contents
 
--- For each wire, by the place of its peer, with the contents of its sessions and the numbers of those that were lost.
-abbrev pub EachWireFrom : (ℕ → WireTold → List Content → List ℕ → Type 0) → ℕ → List WireTold → List (List Content) → List (List ℕ) → Type 0
-EachWireFrom P p [] [] [] = Unit {0}
-EachWireFrom P p [] [] (l ∷ lost) = ⊥
-EachWireFrom P p [] (c ∷ contents) lost = ⊥
-EachWireFrom P p (wire ∷ wires) [] lost = ⊥
-EachWireFrom P p (wire ∷ wires) (c ∷ contents) [] = ⊥
-EachWireFrom P p (wire ∷ wires) (c ∷ contents) (l ∷ lost) = P p wire c l × EachWireFrom P (p + 1) wires contents lost
+-- There are as many wires as lists of contents and lists of lost numbers, and at each place it holds of these.
+pub record EachWire (P : ℕ → WireTold → List Content → List ℕ → Type 0) (wires : List WireTold) (contents : List (List Content)) (lost : List (List ℕ)) : Type 0 where
+  pub all_contents : length contents ≡ length wires
+  pub all_lost : length lost ≡ length wires
+  pub at : (p : ℕ) (wire : WireTold) (c : List Content) (numbers : List ℕ) → slice_get wires p ≡ Some wire → slice_get contents p ≡ Some c → slice_get lost p ≡ Some numbers → P p wire c numbers
 
 -- the content of session `n`, counted from 1, on the wire at a place
 abbrev pub session_at : ℕ → List Content → Option Content

@@ -11,7 +11,7 @@ use Rattle.ug_world.specs.Worlds.{worlds, last_world}
 use Rattle.ug_speaker.specs.Speech.{capabilities_of}
 use Rattle.ug_speaker.specs.Right.{IsAmong, IsToldRight, IsToldAll, IsToldAgain}
 use Rattle.ug_run_rules.specs.Marks.{AreMarks}
-use Rattle.ug_run_rules.specs.Contents.{WireTold, Content, has_rest, EachSession, EachWireFrom, content_at, has_number, is_lost_at, RiseFrom}
+use Rattle.ug_run_rules.specs.Contents.{WireTold, Content, has_rest, EachSession, EachWire, content_at, has_number, is_lost_at, RiseFrom}
 
 -- The messages of a session: UPDATEs, and with enhanced refresh its marks (RFC 7313).
 abbrev pub IsSent : Bool → Message → Type 0
@@ -66,11 +66,23 @@ IsSynced w m c lost = ((m.handed ≤ length c.messages) × IsToldAll m.peer w (t
 abbrev pub world_at_line : World → List (Reads Saying) → ℕ → World
 world_at_line w lines i = last_world w (take i lines)
 
+-- An event of one line has a mark, and a later `sync` has one of the same session, which holds as many messages as that tells.
+pub record IsMarkedAgain (lines : List (Reads Saying)) (marks : List (List Mark)) (contents : List (List Content)) (i j : ℕ) (e : Happening) (m m' : Mark) (c : Content) : Type 0 where
+  pub later : i < j
+  pub event : slice_get lines i ≡ Some (Ok (Says e))
+  pub mark : HasMark marks i m
+  pub sync : slice_get lines j ≡ Some (Ok SaysSync)
+  pub mark' : HasMark marks j m'
+  pub same_peer : m'.peer ≡ m.peer
+  pub same_session : m'.session ≡ m.session
+  pub holds : content_at contents m.peer m.session ≡ Some c
+  pub enough : m'.handed ≤ length c.messages
+
 -- What was told by these lines, with these marks, from this world on: `contents` has for each wire what its sessions
 -- hold, and `lost` the numbers of those that were lost. Nothing of it knows how the speaker works.
 pub record IsKept (w : World) (lines : List (Reads Saying)) (marks : List (List Mark)) (complete : Bool) (wires : List WireTold) (contents : List (List Content)) (lost : List (List ℕ)) : Type 0 where
   pub all : length wires ≡ length w.peers
-  pub each : EachWireFrom (IsWireOf (worlds w lines) (last_world w lines) complete) 0 wires contents lost
+  pub each : EachWire (IsWireOf (worlds w lines) (last_world w lines) complete) wires contents lost
   -- each line has its marks, but for sessions that were lost
   pub marked : AreMarks (is_lost_at lost) w lines marks
   -- at a mark of `sync` the whole table is the private one
@@ -85,7 +97,5 @@ pub record IsKept (w : World) (lines : List (Reads Saying)) (marks : List (List 
   pub held : (i : ℕ) (m : Mark) (c : Content) → HasMark marks i m → content_at contents m.peer m.session ≡ Some c → is_lost_at lost m.peer m.session ≡ false → m.handed ≤ length c.messages
   -- Between a mark of a request and one of a later `sync` of that session each route was announced again, and with
   -- enhanced refresh a refresh begun (RFC 2918, RFC 7313).
-  pub again : (i j : ℕ) (e : Happening) (m m' : Mark) (s : PeerState) (c : Content) → i < j → slice_get lines i ≡ Some (Ok (Says e)) → HasMark marks i m
-      → slice_get lines j ≡ Some (Ok SaysSync) → HasMark marks j m' → m'.peer ≡ m.peer → m'.session ≡ m.session
-      → slice_get (world_at_line w lines j).peers m.peer ≡ Some s → content_at contents m.peer m.session ≡ Some c → m'.handed ≤ length c.messages
-      → IsToldAgain m.peer s.peer (world_at_line w lines j) m.handed (take m'.handed c.messages)
+  pub again : (i j : ℕ) (e : Happening) (m m' : Mark) (c : Content) (s : PeerState) → IsMarkedAgain lines marks contents i j e m m' c
+      → slice_get (world_at_line w lines j).peers m.peer ≡ Some s → IsToldAgain m.peer s.peer (world_at_line w lines j) m.handed (take m'.handed c.messages)

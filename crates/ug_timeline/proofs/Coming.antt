@@ -27,7 +27,7 @@ use Rattle.ug_speaker.proofs.Peers.{Moved, peer_after, peers-after, next-of}
 use Rattle.ug_timeline.specs.declared.timeline.Timeline.{Timeline}
 use Rattle.ug_timeline.specs.Touched.{keys_at}
 use Rattle.ug_timeline.specs.Timelines.{IsSpan, end_of}
-use Rattle.ug_timeline.specs.Standing.{over, StandsAt, IsMarked, IsNotedFor}
+use Rattle.ug_timeline.specs.Standing.{over, StandsBy, StandsAt, IsMarked, IsNotedFor}
 use Rattle.ug_timeline.proofs.Touching.{stays}
 use Rattle.ug_timeline.proofs.Naming.{names-after, comes_from_down}
 use Rattle.ug_timeline.proofs.Spanning.{get_before, get_at, get_inside, same_item, end_is_over, end_is_open, end_before, end_at, none_more, span_stays, span_grows, span_begins, is_in, is_down, is_other}
@@ -230,28 +230,31 @@ moves-few s t (inl stays) = omega (arith, stays.1)
 moves-few s t (inr (inl gone)) = omega (arith, gone.1)
 moves-few s t (inr (inr came)) = omega (arith, came.1)
 
-pub comes :
-    (e : Happening) (p : ℕ) (ws : List World) (w w' : World) (s' : PeerState) (keys : List Key) (old new : Timeline)
-    → verdict w e ≡ None → w' ≡ after w e → StandsAt p ws w old
-    → ((s : PeerState) → slice_get w.peers p ≡ Some s → slice_get w'.peers p ≡ Some s' → keys ≡ keys_at e s.peer w ++ keys_at e s'.peer w')
-    → slice_get w'.peers p ≡ Some s' → IsNotedFor p w' keys old.log.changes new.log.changes
+at_peer : (e : Happening) (p : ℕ) (w w' : World) (s s' : PeerState) → w' ≡ after w e → slice_get w.peers p ≡ Some s → slice_get w'.peers p ≡ Some s' → s' ≡ peer_after e s
+at_peer e p w w' s s' led is later =
+    some_same s' (peer_after e s) (sym later ∙ (ap (λ (x : World). slice_get x.peers p) led ∙ (peers-after e w p ∙ ap (option_map (peer_after e)) is)))
+  where
+    some_same : (a b : PeerState) → Some a ≡ Some b → a ≡ b
+    some_same a b same = cc
+
+-- the sessions
+pub marked-comes :
+    (e : Happening) (p : ℕ) (ws : List World) (w w' : World) (s' : PeerState) (old new : Timeline)
+    → verdict w e ≡ None → w' ≡ after w e → StandsBy p ws w old → slice_get w'.peers p ≡ Some s'
     → new.begun.items ≡ (if nat_lt (length old.begun.items) s'.sessions then old.begun.items ++ (w'.version - 1) ∷ [] else old.begun.items)
     → new.ended.items ≡ (if not s'.up && nat_lt (length old.ended.items) (length new.begun.items) then old.ended.items ++ w'.version ∷ [] else old.ended.items)
-    → StandsAt p (ws ++ w' ∷ []) w' new
-comes e p ws w w' s' keys old new accepted led h keys_are later noted begun ended =
+    → StandsBy p (ws ++ w' ∷ []) w' new
+marked-comes e p ws w w' s' old new accepted led h later begun ended =
     let next = at_peer e p w w' h.state s' led h.there later in
     let size = ap (λ (xs : List World). length xs) h.parts ∙ length-append h.front (w ∷ []) in
     let version : w'.version ≡ length ws = (let v = ap (λ (x : World). x.version) led ∙ version-after e w in let before = h.version in omega (arith, v, before, size)) in
     let moved = (next-of e h.state).moved in
-    let spans = spans_by p ws h.front w w' h.state s' old.begun.items old.ended.items new.begun.items new.ended.items h.parts version h.there later h.some h.begun h.ended h.later h.is.spans begun ended
+    let spans = spans_by p ws h.front w w' h.state s' old.begun.items old.ended.items new.begun.items new.ended.items h.parts version h.there later h.some h.begun h.ended h.later h.spans begun ended
     (peer_after e h.state) next (comes_from_down e w p h.state h.distinct h.there accepted) moved
     in
     let few : h.state.sessions ≤ s'.sessions = (let f = moves-few h.state (peer_after e h.state) moved in let n = ap (λ (u : PeerState). u.sessions) next in omega (arith, f, n)) in
     record {
-      is = record {
-        log = log_more e p ws h.front w w' h.state s' keys old.log.changes new.log.changes h.parts h.version led h.there later next (keys_are h.state h.there later) h.is.log noted;
-        spans = spans.spans;
-      };
+      spans = spans.spans;
       front = ws;
       parts = refl;
       version = version;
@@ -263,13 +266,21 @@ comes e p ws w w' s' keys old new accepted led h keys_are later noted begun ende
       later = λ n more. none_more p n ws w' (out_of p n w' s' later more) (h.later n (omega (arith, few, more)));
       distinct = ap are_distinct (ap (λ (x : World). map peer_name x.peers) led ∙ names-after e w) ∙ h.distinct;
     }
-  where
-    at_peer : (e : Happening) (p : ℕ) (w w' : World) (s s' : PeerState) → w' ≡ after w e → slice_get w.peers p ≡ Some s → slice_get w'.peers p ≡ Some s' → s' ≡ peer_after e s
-    at_peer e p w w' s s' led is later =
-        some_same s' (peer_after e s) (sym later ∙ (ap (λ (x : World). slice_get x.peers p) led ∙ (peers-after e w p ∙ ap (option_map (peer_after e)) is)))
-      where
-        some_same : (a b : PeerState) → Some a ≡ Some b → a ≡ b
-        some_same a b same = cc
+
+pub comes :
+    (e : Happening) (p : ℕ) (ws : List World) (w w' : World) (s' : PeerState) (keys : List Key) (old new : Timeline)
+    → verdict w e ≡ None → w' ≡ after w e → StandsAt p ws w old
+    → ((s : PeerState) → slice_get w.peers p ≡ Some s → slice_get w'.peers p ≡ Some s' → keys ≡ keys_at e s.peer w ++ keys_at e s'.peer w')
+    → slice_get w'.peers p ≡ Some s' → IsNotedFor p w' keys old.log.changes new.log.changes
+    → new.begun.items ≡ (if nat_lt (length old.begun.items) s'.sessions then old.begun.items ++ (w'.version - 1) ∷ [] else old.begun.items)
+    → new.ended.items ≡ (if not s'.up && nat_lt (length old.ended.items) (length new.begun.items) then old.ended.items ++ w'.version ∷ [] else old.ended.items)
+    → StandsAt p (ws ++ w' ∷ []) w' new
+comes e p ws w w' s' keys old new accepted led h keys_are later noted begun ended =
+    let next = at_peer e p w w' h.by.state s' led h.by.there later in
+    record {
+      log = log_more e p ws h.by.front w w' h.by.state s' keys old.log.changes new.log.changes h.by.parts h.by.version led h.by.there later next (keys_are h.by.state h.by.there later) h.log noted;
+      by = marked-comes e p ws w w' s' old new accepted led h.by later begun ended;
+    }
 
 -- an event leaves as many peers
 pub as-many : (e : Happening) (w w' : World) → w' ≡ after w e → length w'.peers ≡ length w.peers

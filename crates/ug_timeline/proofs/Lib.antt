@@ -4,3 +4,12 @@ pub mod Spanning
 pub mod Following
 pub mod Coming
 pub mod Replayed
+pub mod Told
+pub mod Holding
+pub mod MergedChanges
+pub mod MergedKeys
+pub mod GroupTables
+pub mod GroupNotes
+pub mod SeatSteps
+pub mod SeatTurns
+pub mod HistorySteps

@@ -18,7 +18,7 @@ use Rattle.ug_world.proofs.Keeping.{down}
 use Rattle.ug_timeline.specs.declared.timeline.Timeline.{Timeline}
 use Rattle.ug_timeline.specs.Lines.{IsAccepted, IsPassed}
 use Rattle.ug_timeline.specs.Timelines.{IsFirst, IsTimeline, HasSessions}
-use Rattle.ug_timeline.specs.Standing.{StandsAt}
+use Rattle.ug_timeline.specs.Standing.{StandsBy, StandsAt}
 use Rattle.ug_timeline.proofs.Spanning.{is_down}
 use Rattle.ug_timeline.proofs.Coming.{version-after, some_there}
 
@@ -49,7 +49,7 @@ pub record IsReplayed (p : ℕ) (first w : World) (t : Timeline) (left all : Lis
   pub worlds_are : ws ++ accepted_worlds w left ≡ worlds first all
   pub last_is : last_world w left ≡ last_world first all
 
-before : (o : Outcome) (xs : List World) → where_accepted o xs ≡ where_accepted o [] ++ xs
+pub before : (o : Outcome) (xs : List World) → where_accepted o xs ≡ where_accepted o [] ++ xs
 before Passes xs = refl
 before (Accepts next) xs = refl
 before (Refuses refusal) xs = refl
@@ -71,26 +71,31 @@ nothing_told p w none entries is =
     subst (λ (es : List (Key × Vec Change)). IsLog es (map (private_table p) (w ∷ []))) (sym is)
     (λ key. (omega arith, λ n low less. (let zero_is : n ≡ 0 = omega (arith, less) in ap (λ (k : ℕ). slice_get (values_at key (map (private_table p) (w ∷ []))) k) zero_is ∙ ap (λ v. Some v) (none key))))
 
+pub sessions_begin : (p : ℕ) (first : World) (t : Timeline) (s : PeerState) → slice_get first.peers p ≡ Some s → IsFirst first → t.begun.items ≡ [] → t.ended.items ≡ [] → StandsBy p (first ∷ []) first t
+sessions_begin p first t s there is begun ended =
+    let up = is.down p s there in
+    let none_had = is.none p s there in
+    record {
+      spans = λ i from begins. absurd (let none : slice_get [] i ≡ Some from = ap (λ (xs : List ℕ). slice_get xs i) (sym begun) ∙ begins in cc);
+      front = [];
+      parts = refl;
+      version = is.version;
+      state = s;
+      there = there;
+      some = λ yes. absurd (let clash = sym yes ∙ up in cc);
+      begun = ap (λ (xs : List ℕ). length xs) begun ∙ sym none_had;
+      ended = ap (λ (xs : List ℕ). length xs) ended ∙ sym (ap (λ (b : Bool). if b then s.sessions - 1 else s.sessions) up ∙ none_had);
+      later = λ n more. ap (λ (b : Bool). if b then first ∷ [] else []) (is_down p n first s there up);
+      distinct = is.distinct;
+    }
+
 pub replay_begins : (p : ℕ) (first w : World) (t : Timeline) (all : List (Reads Saying)) → p < length first.peers → IsFirst first → w ≡ first → t.log.changes ≡ [] → t.begun.items ≡ [] → t.ended.items ≡ [] → IsReplayed p first w t all all
 replay_begins p first w t all inside is same log begun ended =
     let peer = some_there first.peers p inside in
     let up = is.down p peer.0 peer.1 in
-    let none_had = is.none p peer.0 peer.1 in
     let start : StandsAt p (first ∷ []) first t = record {
-      is = record {
-        log = nothing_told p first (λ key. down first p peer.0 key peer.1 up) t.log.changes log;
-        spans = λ i from there. absurd (let none : slice_get [] i ≡ Some from = ap (λ (xs : List ℕ). slice_get xs i) (sym begun) ∙ there in cc);
-      };
-      front = [];
-      parts = refl;
-      version = is.version;
-      state = peer.0;
-      there = peer.1;
-      some = λ yes. absurd (let clash = sym yes ∙ up in cc);
-      begun = ap (λ (xs : List ℕ). length xs) begun ∙ sym none_had;
-      ended = ap (λ (xs : List ℕ). length xs) ended ∙ sym (ap (λ (b : Bool). if b then peer.0.sessions - 1 else peer.0.sessions) up ∙ none_had);
-      later = λ n more. ap (λ (b : Bool). if b then first ∷ [] else []) (is_down p n first peer.0 peer.1 up);
-      distinct = is.distinct;
+      log = nothing_told p first (λ key. down first p peer.0 key peer.1 up) t.log.changes log;
+      by = sessions_begin p first t peer.0 peer.1 is begun ended;
     }
     in
     subst (λ (x : World). IsReplayed p first x t all all) (sym same) (record { ws = first ∷ []; at = start; worlds_are = refl; last_is = refl })
@@ -99,8 +104,8 @@ pub replay_ends : (p : ℕ) (first w : World) (t : Timeline) (left all : List (R
 replay_ends p first w t left all none r =
     let whole : r.ws ≡ worlds first all = sym (append-nil r.ws) ∙ (sym (ap (λ (ls : List (Reads Saying)). r.ws ++ accepted_worlds w ls) none) ∙ r.worlds_are) in
     let last : w ≡ last_world first all = sym (ap (last_world w) none) ∙ r.last_is in (
-      subst (λ (xs : List World). IsTimeline p xs t) whole r.at.is,
-      subst (λ (x : World). HasSessions p x t) last (λ s there. r.at.begun ∙ ap (λ (u : PeerState). u.sessions) (same_state r.at.state s (sym r.at.there ∙ there))),
+      subst (λ (xs : List World). IsTimeline p xs t) whole (record { log = r.at.log; spans = r.at.by.spans }),
+      subst (λ (x : World). HasSessions p x t) last (λ s there. r.at.by.begun ∙ ap (λ (u : PeerState). u.sessions) (same_state r.at.by.state s (sym r.at.by.there ∙ there))),
     )
   where
     same_state : (a b : PeerState) → Some a ≡ Some b → a ≡ b

@@ -1,9 +1,9 @@
 -- How far a timeline has come.
-use Rattle.std.specs.Prelude.{◌≡◌, ℕ, ◌-◌, ◌<◌, nat_lt, ◌&&◌, not, true, List, [], ◌∷◌, ◌++◌, length, map, filter, slice_get, Some, if◌then◌else◌}
+use Rattle.std.specs.Prelude.{◌≡◌, ℕ, suc, ◌-◌, ◌<◌, nat_lt, ◌&&◌, not, true, List, [], ◌∷◌, ◌++◌, length, map, filter, slice_get, Some, if◌then◌else◌}
 use Rattle.std.specs.Global.{Vec}
 use Rattle.ug_types.specs.declared.key.Key.{Key}
 use Rattle.ug_climb.specs.declared.change.Change.{Change}
-use Rattle.ug_hearing.specs.Logs.{AreNoted}
+use Rattle.ug_hearing.specs.Logs.{IsLog, AreNoted}
 use Rattle.ug_world.specs.declared.peer_state.PeerState.{PeerState}
 use Rattle.ug_world.specs.World.{World}
 use Rattle.ug_world.specs.Names.{are_distinct}
@@ -11,15 +11,15 @@ use Rattle.ug_world.specs.Kept.{peer_name}
 use Rattle.ug_world.specs.Private.{private_table}
 use Rattle.ug_world.specs.Worlds.{in_session}
 use Rattle.ug_timeline.specs.declared.timeline.Timeline.{Timeline}
-use Rattle.ug_timeline.specs.Timelines.{IsTimeline}
+use Rattle.ug_timeline.specs.Timelines.{IsSpan, end_of}
 
 -- how many sessions are over
 abbrev pub over : PeerState → ℕ
 over s = if s.up then s.sessions - 1 else s.sessions
 
--- These worlds came, the last of them `w`.
-pub record StandsAt (p : ℕ) (ws : List World) (w : World) (t : Timeline) : Type 0 where
-  pub is : IsTimeline p ws t
+-- These worlds came, the last of them `w`, and this is known of the sessions of the peer.
+pub record StandsBy (p : ℕ) (ws : List World) (w : World) (t : Timeline) : Type 0 where
+  pub spans : (i from : ℕ) → slice_get t.begun.items i ≡ Some from → IsSpan p (suc i) ws from (end_of t.ended.items i (length ws))
   pub front : List World
   pub parts : ws ≡ front ++ w ∷ []
   pub version : w.version ≡ length front
@@ -30,6 +30,11 @@ pub record StandsAt (p : ℕ) (ws : List World) (w : World) (t : Timeline) : Typ
   pub ended : length t.ended.items ≡ over state
   pub later : (n : ℕ) → state.sessions < n → filter (in_session p n) ws ≡ []
   pub distinct : are_distinct (map peer_name w.peers) ≡ true
+
+-- So it is, and of what it should have.
+pub record StandsAt (p : ℕ) (ws : List World) (w : World) (t : Timeline) : Type 0 where
+  pub log : IsLog t.log.changes (map (private_table p) ws)
+  pub by : StandsBy p ws w t
 
 -- What the peer should have under these keys was noted.
 abbrev pub IsNotedFor : ℕ → World → List Key → List (Key × Vec Change) → List (Key × Vec Change) → Type 0

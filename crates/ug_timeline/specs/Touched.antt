@@ -1,5 +1,5 @@
 -- The keys under which an event can change what a peer should have.
-use Rattle.std.specs.Prelude.{ℕ, List, [], if◌then◌else◌}
+use Rattle.std.specs.Prelude.{ℕ, Bool, List, [], if◌then◌else◌}
 use Rattle.ug_types.specs.Bytes.{same_bytes}
 use Rattle.ug_types.specs.declared.key.Key.{Key}
 use Rattle.ug_outbound.specs.declared.peer.Peer.{Peer}
@@ -22,3 +22,15 @@ keys_at (HasPolicy name policy) peer w = keys_where name peer w
 keys_at (AsksAgain name) peer w = keys_where name peer w
 keys_at (SendsRequest name) peer w = keys_where name peer w
 keys_at (SendsList name request) peer w = keys_where name peer w
+
+-- those under which it can change what the peers of a group key should have
+abbrev pub keys_touched : Happening → Bool → World → List Key
+keys_touched (HasPaths prefix paths) add_path w = keys_to add_path prefix (paths_to w.routes prefix)
+keys_touched (HasNone prefix) add_path w = keys_to add_path prefix (paths_to w.routes prefix)
+keys_touched (HasEntries name entries) add_path w = keys_of add_path w.routes
+keys_touched (ComesUp name) add_path w = []
+keys_touched (GoesDown name) add_path w = []
+keys_touched (HasPolicy name policy) add_path w = []
+keys_touched (AsksAgain name) add_path w = []
+keys_touched (SendsRequest name) add_path w = []
+keys_touched (SendsList name request) add_path w = []

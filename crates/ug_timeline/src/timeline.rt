@@ -10,11 +10,11 @@ ghost use Rattle.ug_world.specs.declared.peer_state.PeerState as peers;
 ghost use Rattle.ug_timeline.specs.Standing.{StandsAt, IsMarked, IsNotedFor};
 
 use crate::keys::keys_at;
+use crate::routes::routes_of;
 use std::alloc::Global;
 use std::sync::ledger::Ledger;
 use ug_events::Event;
 use ug_hearing::Log;
-use ug_private::routes_of;
 use ug_types::{Key, NoMemory, PeerId, Steps};
 use ug_world::World;
 
@@ -88,7 +88,7 @@ impl Timeline {
     }
 
     /// Notes that a session begins with the world of a new version, or is over there.
-    fn mark(&mut self, world: &World, id: PeerId) -> Result<(), NoMemory>
+    pub(crate) fn mark(&mut self, world: &World, id: PeerId) -> Result<(), NoMemory>
         requires id { id < length world.now.peers }
         requires version { world.now.version < 4294967296 }
         ensures { OnOk result ((s : peers.PeerState) → slice_get world.now.peers id ≡ Some s → IsMarked s world.now.version self.old self.new) }

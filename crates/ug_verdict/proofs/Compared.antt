@@ -19,7 +19,7 @@ use Rattle.ug_hearing.specs.Courses.{changes_of, items_or_none, passed}
 use Rattle.ug_hearing.specs.Rows.{row_for}
 use Rattle.ug_hearing.proofs.Keys.{same_is}
 use Rattle.ug_hearing.proofs.Among.{either}
-use Rattle.ug_hearing.proofs.Listed.{among-there}
+use Rattle.ug_hearing.proofs.Listed.{among-there, found-in}
 use Rattle.ug_verdict.specs.Differences.{IsSame, Differs}
 use Rattle.ug_verdict.proofs.Leasts.{up-to-self}
 
@@ -109,8 +109,15 @@ module _ (rows : List (Key × Row)) (entries : List (Key × Vec Change)) (from v
       never : Less ≡ Greater → ⊥
       never e = absurd cc
 
-  pub one-same : (done : List (Key × Vec Change)) (e : Key × Vec Change) → AllByRecursion (λ k. IsSame rows entries from version k) (keys_of done) → IsSame rows entries from version e.0
-      → AllByRecursion (λ k. IsSame rows entries from version k) (keys_of (done ++ e ∷ []))
-  one-same done e h is =
-      subst (λ (ks : List Key). AllByRecursion (λ k. IsSame rows entries from version k) ks) (sym (map-append (λ (x : Key × Vec Change). x.0) done (e ∷ [])))
-      (all_last (λ k. IsSame rows entries from version k) (keys_of done) e.0 h is)
+-- all keys so far, and one more
+pub one-more-of : (P : Key → Type 0) (done : List (Key × Vec Change)) (e : Key × Vec Change) → AllByRecursion P (keys_of done) → P e.0 → AllByRecursion P (keys_of (done ++ e ∷ []))
+one-more-of P done e h is = subst (λ (ks : List Key). AllByRecursion P ks) (sym (map-append (λ (x : Key × Vec Change). x.0) done (e ∷ []))) (all_last P (keys_of done) e.0 h is)
+
+pub all-map : (P Q : Key → Type 0) (keys : List Key) → ((k : Key) → P k → Q k) → AllByRecursion P keys → AllByRecursion Q keys
+all-map P Q [] goes h = tt
+all-map P Q (k ∷ keys) goes h = (goes k h.0, all-map P Q keys goes h.1)
+
+-- each entry of a list in the order of its keys is found by its key
+pub entry-found : {X : Type 0} (done rest : List (Key × X)) (e : Key × X) (all : List (Key × X)) → done ++ e ∷ rest ≡ all → IsStrictlySortedBy key_cmp (keys_of all) → value_for all e.0 ≡ Some e.1
+entry-found {X} done rest e all parts sorted =
+    subst (λ (es : List (Key × X)). value_for es e.0 ≡ Some e.1) parts (found-in done rest e (subst (λ (es : List (Key × X)). IsStrictlySortedBy key_cmp (keys_of es)) (sym parts) sorted))

@@ -1,6 +1,9 @@
 pub mod Leasts
 pub mod Compared
-pub mod Worse
+pub mod Between
+pub mod Versions
+pub mod Dating
+pub mod Followed
 pub mod Places
 pub mod Judging
 pub mod Messages

@@ -13,6 +13,8 @@ use Rattle.ug_hearing.specs.declared.hearing.Hearing.{Hearing}
 use Rattle.ug_hearing.specs.Heard.{IsHeard, IsTaken}
 use Rattle.ug_verdict.specs.declared.session.Session.{Session}
 use Rattle.ug_verdict.specs.declared.judge.Judge.{Judge}
+use Rattle.ug_verdict.specs.declared.watch.Watch.{Watch}
+use Rattle.ug_verdict.specs.Watched.{IsWatched}
 use Rattle.ug_verdict.specs.Least.{IsLeastOf}
 use Rattle.ug_verdict.specs.Marked.{IsWorst, AreMarksOf}
 use Rattle.ug_verdict.specs.Judged.{IsSession, found_amiss, IsChecked, IsClear, IsFound, IsSo, IsJudged}
@@ -32,8 +34,9 @@ module _ (session : Session) (past tables : List Table) (is : IsSession session 
       → ((i : ℕ) (m : Mark) → slice_get session.syncs.items i ≡ Some m → i < mid.next → m.handed < length ms)
       → ((i : ℕ) (m : Mark) → slice_get session.syncs.items i ≡ Some m → mid.next ≤ i → length ms ≤ m.handed)
       → AreMarksOf session.syncs.items mid.next new.next mid.messages
-      → IsChecked mid new (IsWorst mid.hearing.standings.rows session.course.changes session.course.from session.syncs.items mid.next new.next) → IsJudged session past tables new ms
-  checked-so mid new ms count room none heard whole behind ahead marks h =
+      → IsChecked mid new (IsWorst mid.hearing.standings.rows session.course.changes session.course.from session.syncs.items mid.next new.next)
+      → IsWatched mid.hearing.standings.rows session.course.changes session.course.from new.watch → IsJudged session past tables new ms
+  checked-so mid new ms count room none heard whole behind ahead marks h watched =
       record { count = h.messages ∙ count; room = subst (λ k. k < 18446744073709551615) (sym h.messages) room; so = by h.worst h.it h.found }
     where
       marks' : AreMarksOf session.syncs.items mid.next new.next (length ms)
@@ -46,6 +49,7 @@ module _ (session : Session) (past tables : List Table) (is : IsSession session 
             heard = subst (λ (x : Hearing). Heard x ms) (sym h.hearing) heard;
             marks = up_to session past tables is ms mid.hearing.standings mid.hearing.refreshing heard mid.next new.next whole behind ahead marks';
             whole = all-whole session past tables is ms mid.hearing.standings mid.hearing.refreshing heard mid.next new.next whole behind ahead marks' it;
+            watched = subst (λ (x : Hearing). IsWatched x.standings.rows session.course.changes session.course.from new.watch) (sym h.hearing) watched;
           })
       by (Some key) it found =
           subst (λ (o : Option Breach). IsSo session past tables new ms o) (sym found)
@@ -68,7 +72,7 @@ module _ (session : Session) (past tables : List Table) (is : IsSession session 
 
     -- a key is stuck
     pub stuck-so : (key : Key) → IsLeastOf failed (Some key)
-        → IsJudged session past tables (record { hearing = hearing; messages = old.messages + 1; next = old.next; found = Some (record { kind = kinds.Stuck; message = old.messages + 1; key = Some key }) }) (ms ++ m ∷ [])
+        → IsJudged session past tables (record { hearing = hearing; messages = old.messages + 1; next = old.next; found = Some (record { kind = kinds.Stuck; message = old.messages + 1; key = Some key }); watch = old.watch }) (ms ++ m ∷ [])
     stuck-so key least = record {
       count = sym (size ∙ number);
       room = few;
@@ -78,24 +82,25 @@ module _ (session : Session) (past tables : List Table) (is : IsSession session 
     }
 
     -- none is, and the marks were checked
-    pub goes-so : (new : Judge) → failed ≡ [] → AreMarksOf session.syncs.items old.next new.next (old.messages + 1)
-        → IsChecked (record { hearing = hearing; messages = old.messages + 1; next = old.next; found = old.found }) new
-        (IsWorst hearing.standings.rows session.course.changes session.course.from session.syncs.items old.next new.next) → IsJudged session past tables new (ms ++ m ∷ [])
-    goes-so new empty marks h =
-        checked-so (record { hearing = hearing; messages = old.messages + 1; next = old.next; found = old.found }) new (ms ++ m ∷ []) (sym (size ∙ number)) few none (taken.heard empty)
+    pub goes-so : (watch : Watch) (new : Judge) → failed ≡ [] → AreMarksOf session.syncs.items old.next new.next (old.messages + 1)
+        → IsChecked (record { hearing = hearing; messages = old.messages + 1; next = old.next; found = old.found; watch = watch }) new
+        (IsWorst hearing.standings.rows session.course.changes session.course.from session.syncs.items old.next new.next) → IsWatched hearing.standings.rows session.course.changes session.course.from new.watch
+        → IsJudged session past tables new (ms ++ m ∷ [])
+    goes-so watch new empty marks h watched =
+        checked-so (record { hearing = hearing; messages = old.messages + 1; next = old.next; found = old.found; watch = watch }) new (ms ++ m ∷ []) (sym (size ∙ number)) few none (taken.heard empty)
         (λ i mark table there less version key.
         let few : mark.handed ≤ length ms = (let s = size in omega arith) in
         ap (λ (xs : List Message). table_of xs key) (take-append-le mark.handed ms (m ∷ []) few) ∙ clear.whole i mark table there few version key)
         (λ i mark there less. let few = clear.marks.behind i mark there less in let s = size in omega arith)
-        (λ i mark there low. let more = clear.marks.ahead i mark there low in let s = size in omega arith) marks h
+        (λ i mark there low. let more = clear.marks.ahead i mark there low in let s = size in omega arith) marks h watched
 
   -- a breach was found before
   pub still-found : (old : Judge) (ms : List Message) (m : Message) (b : Breach) → old.found ≡ Some b → old.messages + 1 < 18446744073709551615 → IsJudged session past tables old ms
-      → IsJudged session past tables (record { hearing = old.hearing; messages = old.messages + 1; next = old.next; found = old.found }) (ms ++ m ∷ [])
+      → IsJudged session past tables (record { hearing = old.hearing; messages = old.messages + 1; next = old.next; found = old.found; watch = old.watch }) (ms ++ m ∷ [])
   still-found old ms m b found few judged = record {
     room = few;
     count = (let count = judged.count in let s = length-append ms (m ∷ []) in omega arith);
     so =
-        subst (λ (o : Option Breach). IsSo session past tables (record { hearing = old.hearing; messages = old.messages + 1; next = old.next; found = old.found }) (ms ++ m ∷ []) o) (sym found)
+        subst (λ (o : Option Breach). IsSo session past tables (record { hearing = old.hearing; messages = old.messages + 1; next = old.next; found = old.found; watch = old.watch }) (ms ++ m ∷ []) o) (sym found)
         (found-more session past tables is b old.next ms m (subst (λ (o : Option Breach). IsSo session past tables old ms o) found judged.so));
   }

@@ -14,6 +14,7 @@ use Rattle.ug_hearing.specs.Courses.{IsCourse}
 use Rattle.ug_hearing.specs.Heard.{IsHeard}
 use Rattle.ug_verdict.specs.declared.session.Session.{Session}
 use Rattle.ug_verdict.specs.declared.judge.Judge.{Judge}
+use Rattle.ug_verdict.specs.Watched.{IsWatched}
 
 -- the numbers of messages do not fall along these marks
 abbrev pub Rise : ℕ → List Mark → Type 0
@@ -62,6 +63,7 @@ pub record IsClear (session : Session) (past tables : List Table) (j : Judge) (m
   pub heard : IsHeard session.course.changes session.course.from session.course.to past tables j.hearing.standings j.hearing.refreshing ms
   pub marks : IsUpToMark session.syncs.items j.next (length ms)
   pub whole : AreWhole tables session.syncs.items ms
+  pub watched : IsWatched j.hearing.standings.rows session.course.changes session.course.from j.watch
 
 -- the breach is that the session ends before a mark of `sync`
 abbrev pub is_short_by : BreachKind → Option Key → Bool

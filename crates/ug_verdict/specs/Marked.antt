@@ -27,3 +27,10 @@ pub record AreMarksOf (syncs : List Mark) (from to messages : ℕ) : Type 0 wher
   pub low : from ≤ to
   pub of : (m : Mark) → IsMarkIn syncs from to m → m.handed ≡ messages
   pub behind : (m : Mark) → slice_get syncs to ≡ Some m → m.handed ≢ messages
+
+-- The key is as in the table at each of these marks, or differs at one of them.
+abbrev pub IsSameAtAll : List (Key × Row) → List (Key × Vec Change) → ℕ → List Mark → ℕ → ℕ → Key → Type 0
+IsSameAtAll rows entries begin syncs from to key = (m : Mark) → IsMarkIn syncs from to m → IsSame rows entries begin m.version key
+
+abbrev pub DiffersAtOne : List (Key × Row) → List (Key × Vec Change) → ℕ → List Mark → ℕ → ℕ → Key → Type 0
+DiffersAtOne rows entries begin syncs from to key = (m : Mark) × IsMarkIn syncs from to m × Differs rows entries begin m.version key

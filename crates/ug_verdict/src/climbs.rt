@@ -46,8 +46,7 @@ fn climbs_of(alloc: Global, standings: &Standings, course: &Course) -> Result<Ve
 {
     let _keys = standings.rows.len();
     let mut climbs = Vec::new(alloc);
-    for (key, _row) in standings.rows.iter() {
-        let row = standings.row(course, key);
+    for (key, row) in standings.rows.iter() {
         let moves = moves_back(alloc, &standings.moves, row.moved)?;
         climbs.push(Climb { key: *key, moves })?;
     }

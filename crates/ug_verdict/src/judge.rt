@@ -4,26 +4,29 @@ ghost use Rattle.std.specs.Prelude.{◌≡◌, List, OnOk, [], ◌∷◌, ◌++�
 ghost use Rattle.ug_types.specs.Messages.{Message, message_of};
 ghost use Rattle.ug_table_rules.specs.Tables.{Table};
 ghost use Rattle.ug_verdict.specs.Marked.{IsWorst, AreMarksOf};
+ghost use Rattle.ug_verdict.specs.Watched.{IsWatched};
 ghost use Rattle.ug_verdict.specs.Judged.{IsSession, IsChecked, IsJudged};
 ghost use Rattle.ug_verdict.specs.Ended.{IsAnswer, found_in_end, IsEndOf, is_short_of, IsOffBy, is_amiss, is_unread};
 
 use crate::differences::first_difference;
 use crate::key_order::least;
-use crate::marks::{Checked, pass_marks};
+use crate::marks::{marks_of, worst_key};
 use crate::session::Session;
+use crate::watch::Watch;
 use std::alloc::Global;
 use ug_hearing::{Hearing, Standings};
 use ug_session_rules::{Breach, BreachKind, Ending};
 use ug_types::{Item, Key, NoMemory};
 
-/// What is known of a session after the messages so far: how its keys stand, how many marks of `sync` were passed, and the
-/// breach that was found.
+/// What is known of a session after the messages so far: how its keys stand, how many marks of `sync` were passed, the
+/// breach that was found, and what is watched up to the next mark.
 #[derive(Drop)]
 pub struct Judge {
     pub hearing: Hearing,
     pub messages: u64,
     pub next: usize,
     pub found: Option<Breach>,
+    pub watch: Watch,
 }
 
 impl Judge {
@@ -39,8 +42,10 @@ impl Judge {
             messages: 0,
             next: 0,
             found: None,
+            watch: Watch::new(alloc, &session.course),
         };
-        judge.check(session);
+        let to = marks_of(session, 0, 0);
+        judge.look(session, to);
         judge
     }
 
@@ -60,10 +65,13 @@ impl Judge {
         let failed = self
             .hearing
             .take(alloc, &session.course, self.messages, item)?;
-        match least(&failed) {
-            Some(key) => self.find(BreachKind::Stuck, key),
-            None => self.check(session),
+        if let Some(key) = least(&failed) {
+            self.find(BreachKind::Stuck, key);
+            return Ok(());
         }
+        let most = self.most_named(session);
+        self.watch.hear(item, most)?;
+        self.check(alloc, session)?;
         Ok(())
     }
 
@@ -145,22 +153,50 @@ impl Judge {
         });
     }
 
-    /// Checks the marks of the messages so far.
-    fn check(&mut self, session: &Session)
-        ensures marks { AreMarksOf session.now.syncs.items self.old.next self.new.next self.old.messages }
-        ensures worst { IsChecked self.old self.new (IsWorst self.old.hearing.standings.rows session.now.course.changes session.now.course.from session.now.syncs.items self.old.next self.new.next) }
+    /// Checks the marks of the messages so far: by what was watched, and where a key differs by looking at all keys once.
+    fn check(&mut self, alloc: Global, session: &Session) -> Result<(), NoMemory>
+        ensures marks { OnOk result (AreMarksOf session.now.syncs.items self.old.next self.new.next self.old.messages) }
+        ensures worst { OnOk result (IsWatched self.old.hearing.standings.rows session.now.course.changes session.now.course.from self.old.watch →
+            IsChecked self.old self.new (IsWorst self.old.hearing.standings.rows session.now.course.changes session.now.course.from session.now.syncs.items self.old.next self.new.next)) }
+        ensures watched { OnOk result (IsWatched self.old.hearing.standings.rows session.now.course.changes session.now.course.from self.old.watch →
+            IsWatched self.old.hearing.standings.rows session.now.course.changes session.now.course.from self.new.watch) }
     {
-        let Checked { next, worst } = pass_marks(
-            &self.hearing.standings,
-            session,
-            self.next,
-            self.messages,
-        );
-        self.next = next;
+        let to = marks_of(session, self.next, self.messages);
+        if to == self.next {
+            return Ok(());
+        }
+        self.watch.date(alloc, &session.course)?;
+        if self
+            .watch
+            .pass(&self.hearing.standings, session, self.next, to)
+        {
+            self.next = to;
+            return Ok(());
+        }
+        self.look(session, to);
+        Ok(())
+    }
+
+    /// Looks at all keys, at the marks up to this number.
+    fn look(&mut self, session: &Session, to: usize)
+        ensures next { self.new.next ≡ to }
+        ensures watch { self.new.watch ≡ self.old.watch }
+        ensures worst { IsChecked self.old self.new (IsWorst self.old.hearing.standings.rows session.now.course.changes session.now.course.from session.now.syncs.items self.old.next to) }
+    {
+        let worst = worst_key(&self.hearing.standings, session, self.next, to);
+        self.next = to;
         let Some(key) = worst else {
             return;
         };
         self.find(BreachKind::Amiss, key);
+    }
+
+    /// How many keys are worth being remembered before the next mark of `sync`: a part of all, and none where there is none.
+    fn most_named(&self, session: &Session) -> usize {
+        if self.next >= session.syncs.len() {
+            return 0;
+        }
+        session.course.changes.len() / 4 + 16
     }
 }
 

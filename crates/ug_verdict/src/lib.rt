@@ -2,15 +2,20 @@
 #![tactic(auto)]
 
 mod climbs;
+mod dated;
+mod dates;
 mod differences;
 mod judge;
 mod key_order;
 mod marks;
 mod session;
+mod watch;
+mod watching;
 
 pub use climbs::{Climb, Move};
+pub use dated::Dated;
 pub use differences::first_difference;
 pub use judge::Judge;
 pub use key_order::{least, lesser};
-pub use marks::{Checked, pass_marks};
 pub use session::Session;
+pub use watch::Watch;

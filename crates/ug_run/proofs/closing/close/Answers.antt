@@ -1,7 +1,8 @@
 use Rattle.std.proofs.Common.{◌≡◌, true, false, ◌+◌, ◌<◌, [], ◌∷◌, ◌++◌, length, map, All, Any, sym, ◌∙◌, ap, subst, arith}
 use Rattle.std.proofs.lemmas.List.Elements.{All-push}
+use Rattle.ug_board.specs.History.{MayGoOn}
 use Rattle.ug_turnstile.specs.Passes.{Agrees}
-use Rattle.ug_run.proofs.Histories.{passes_here, passes_free, passes_whole, last_of_all, history_of, told_by}
+use Rattle.ug_run.proofs.Histories.{passes_here, passes_free, passes_whole, last_of_all, history_of, some_is, told_by}
 use Rattle.ug_run.proofs.closing.close.Goals as goal
 
 pub close-board-requires-clause-here : goal.close-board-requires-clause-here
@@ -46,3 +47,12 @@ returns-clause-spent g c = λ is.
     let whole = c.put.ensures.items ∙ ap (λ ps. ps ++ c.args.builder ∷ []) c.part-unnoted.ensures.passes in
     let all = subst (λ ps. All (λ p. p.spent ≡ true → c.close-board.result.spent ≡ true) ps) whole c.close-board.ensures.spent in
     c.is_spent-spent.ensures.spent ∙ last_of_all (λ p. p.spent ≡ true → c.close-board.result.spent ≡ true) (map (λ lane. lane.pass) c.args.lanes.items) c.args.builder all is
+
+pub returns-clause-open : goal.returns-clause-open
+returns-clause-open g c is root known =
+    let whole = c.put.ensures.items ∙ ap (λ ps. ps ++ c.args.builder ∷ []) c.part-unnoted.ensures.passes in
+    let agrees = subst (λ ps. All (Agrees (λ entry. entry.pass) c.close-board.result.opening c.close-board.result.history) ps) whole c.close-board.ensures.agrees in
+    let here = (last_of_all (Agrees (λ entry. entry.pass) c.close-board.result.opening c.close-board.result.history) (map (λ lane. lane.pass) c.args.lanes.items) c.args.builder agrees).0 in
+    let same = some_is c.close-board.result.opening root (sym here ∙ known) in
+    subst (λ h. MayGoOn g.S.Machine.rules root h) (sym c.into_history-history.ensures.history)
+    (subst (λ r. MayGoOn g.S.Machine.rules r c.close-board.result.history) same (c.is_spent-spent.ensures.open is))

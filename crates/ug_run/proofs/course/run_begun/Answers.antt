@@ -1,5 +1,6 @@
-use Rattle.std.proofs.Common.{◌≡◌, Some, length, map, sym, ◌∙◌, ap, subst, arith}
+use Rattle.std.proofs.Common.{◌≡◌, ℕ, Some, refl, length, map, sym, ◌∙◌, ap, subst, arith}
 use Rattle.ug_pieces.specs.ReadingLaws.{Rose-later}
+use Rattle.ug_edge.specs.Told.{Rose, HasPicked}
 use Rattle.ug_sender.specs.Posts.{posts}
 use Rattle.std.proofs.lemmas.List.{length-map}
 use Rattle.ug_event_loop.specs.Reading.{Outside, first_of}
@@ -58,7 +59,7 @@ close-history-requires-clause-passes_room g c κs within =
     omega arith
 
 pub returns-clause-done : goal.returns-clause-done
-returns-clause-done g c = λ w events opens is names_is peers_is alike picked stays.
+returns-clause-done g c = λ w events before opens is names_is peers_is alike files_is held_is faults_is picked stays.
     let machine = g.met.S.Machine g.world.𝓛 g.world.𝓜 g.world.𝓡 ((λ s x. x), (λ x. x), (λ x. x), λ x. x) in
     let speaker = g.met.S.Speaker g.world.𝓛 g.world.𝓜 g.world.𝓡 ((λ s x. x), (λ x. x), (λ x. x), λ x. x) in
     let old = c.new.result in
@@ -72,10 +73,18 @@ returns-clause-done g c = λ w events opens is names_is peers_is alike picked st
     old new c.new.ensures o o' c.in-Some.end ended
     c.read_lines-lanes.result.items (c.read_lines-lanes.ensures.posts ∙ ap posts c.man-lanes.ensures) c.into_parts-pass.result.0 c.into_parts-pass.ensures.pass
     c.close-history.result.history.items c.close-history.ensures.history c.close-history.ensures.kept c.close-history.result.unnoted c.close-history.ensures.unnoted
-    (g.E.Source.files c.args.site.now) events picked (g.E.Source.picks c.read_lines-lanes.new.source).is_open (ap (λ p. p.is_open) c.read_lines-lanes.ensures.picks ∙ stays)
+    events before
+    (record {
+      picks = g.E.Source.picks c.read_lines-lanes.new.source;
+      left = g.E.Source.left c.read_lines-lanes.new.source;
+      made = g.E.Source.made c.read_lines-lanes.new.source;
+      held = g.K.Sink.held c.finish-status.new.report;
+      faults = g.K.Sink.faults c.finish-status.new.report;
+    })
+    (subst (λ fs. HasPicked fs events (g.E.Source.left c.args.site.now)) (sym files_is) picked) refl (ap (λ p. p.is_open) c.read_lines-lanes.ensures.picks ∙ stays) (sym held_is) (map g.E.Wire.Wire.made_for c.close-history.result.wires.items)
     c.args.start.peers peers_is c.as_slice.result.now (c.as_slice.ensures ∙ c.into_parts-pass.ensures.names) c.tally-tally.result c.tally-tally.ensures c.as_slice-2.result.now c.as_slice-2.ensures
-    (g.K.Sink.held c.finish-status.new.report) _ _ (λ rose. Rose-later _ _ _ ended.writes c.finish-status.ensures.faults rose) c.finish-status.result c.finish-status.ensures.finished
-    c.close-history.result.wires.items c.close-history.ensures.wires c.close-history.result.spent c.close-history.ensures.spent
+    _ (λ rose. subst (λ (n : ℕ). Rose n (g.K.Sink.faults c.finish-status.new.report)) (sym faults_is) (Rose-later _ _ _ ended.writes c.finish-status.ensures.faults rose)) c.finish-status.result c.finish-status.ensures.finished
+    c.close-history.result.wires.items c.close-history.ensures.wires c.close-history.result.spent c.close-history.ensures.spent c.close-history.ensures.open
 
 pub returns-clause-all : goal.returns-clause-all
 returns-clause-all g c =

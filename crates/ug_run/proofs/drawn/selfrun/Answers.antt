@@ -1,3 +1,4 @@
+use Rattle.std.proofs.Common.{refl}
 use Rattle.ug_run.specs.Drawn.{drawn_world, drawn_events}
 use Rattle.ug_run.proofs.Drawing.{came_back, stopped_as, counted_as, held_as, summed_as, summed_fault, summed_usage, summed_unread, summed_unwired}
 use Rattle.ug_run.proofs.drawn.selfrun.Goals as goal
@@ -5,8 +6,8 @@ use Rattle.ug_run.proofs.drawn.selfrun.Goals as goal
 pub end_drawn-requires : goal.end_drawn-requires
 end_drawn-requires g c = λ is.
     let speaker = g.met.S.Speaker g.world.𝓛 g.world.𝓜 g.world.𝓡 ((λ s x. x), (λ x. x), (λ x. x), λ x. x) in
-    let back = came_back g.S.Machine.rules g.S.Speaker.speech speaker.speaks drawn_world c.in-Ok.drawn.world c.in-Ok.drawn.events.items (drawn_events c.args.number) _ _ _ _ c.run_over-done.result.wires.items c.run_over-done.result.history.items _ _ _ _ _ _
-    c.in-Ok.ensures.world c.in-Ok.ensures.events c.in-Ok.ensures.site is c.run_over-done.ensures.promised in
+    let back = came_back g.S.Machine.rules g.S.Speaker.speech speaker.speaks drawn_world c.in-Ok.drawn.world c.in-Ok.drawn.events.items (drawn_events c.args.number) _ c.run_over-done.result.wires.items
+    c.run_over-done.ensures.promised refl c.in-Ok.ensures.world c.in-Ok.ensures.events c.in-Ok.ensures.site is in
     held_as c.in-Ok.drawn.last.world _ c.as_slice.result.now c.run_over-done.result.wires.items c.in-Ok.ensures.last c.as_slice.ensures back.0
 
 pub returns-clause-drawn : goal.returns-clause-drawn
@@ -14,10 +15,10 @@ returns-clause-drawn g c = record {
   summed = summed_as c.args.number _ _ _ _ _ _ c.end_drawn.result _ _ _ c.in-Ok.ensures.last c.in-Ok.ensures.accepted c.in-Ok.ensures.refused c.end_drawn.ensures.summed;
   ran = λ enough.
       let speaker = g.met.S.Speaker g.world.𝓛 g.world.𝓜 g.world.𝓡 ((λ s x. x), (λ x. x), (λ x. x), λ x. x) in
-      let back = came_back g.S.Machine.rules g.S.Speaker.speech speaker.speaks drawn_world c.in-Ok.drawn.world c.in-Ok.drawn.events.items (drawn_events c.args.number) _ _ _ _ c.run_over-done.result.wires.items c.run_over-done.result.history.items _ _ _ _ _ _
-      c.in-Ok.ensures.world c.in-Ok.ensures.events c.in-Ok.ensures.site (c.end_drawn.ensures.ran enough) c.run_over-done.ensures.promised in
+      let back = came_back g.S.Machine.rules g.S.Speaker.speech speaker.speaks drawn_world c.in-Ok.drawn.world c.in-Ok.drawn.events.items (drawn_events c.args.number) _ c.run_over-done.result.wires.items
+      c.run_over-done.ensures.promised refl c.in-Ok.ensures.world c.in-Ok.ensures.events c.in-Ok.ensures.site (c.end_drawn.ensures.ran enough) in
       back.1;
-  stopped = stopped_as g.S.Machine.rules g.S.Speaker.speech drawn_world c.in-Ok.drawn.world _ _ _ _ _ _ _ _ c.run_over-done.result.history.items _ _ _ _ _ _ c.in-Ok.ensures.world c.run_over-done.ensures.promised;
+  stopped = stopped_as g.S.Machine.rules g.S.Speaker.speech drawn_world c.in-Ok.drawn.world _ _ _ _ c.in-Ok.ensures.world c.run_over-done.ensures.promised;
 }
 
 pub returns-clause-counted : goal.returns-clause-counted

@@ -1,10 +1,9 @@
 use Rattle.std.proofs.Common.{◌≡◌, ℕ, [], true, inl, inr, refl, Err, map, sym, subst, ◌∙◌, ap, arith}
-use Rattle.ug_edge.specs.Told.{Rose, Missing, file_told}
+use Rattle.ug_edge.specs.Told.{Rose, file_told}
 use Rattle.ug_pieces.specs.ReadingLaws.{Rose-later}
 use Rattle.ug_commands.specs.Files.{AppendsThenStatus}
 use Rattle.ug_report.specs.Statuses.{row_of, status_text}
 use Rattle.ug_commands.specs.declared.stop.Stop.TheVariants as stops
-use Rattle.ug_run.specs.Setups.{IsStopOf}
 use Rattle.ug_run.specs.Commands.{IsUnconfigured}
 use Rattle.ug_run.proofs.Starting.{unset-completed, err_same, ok_no_err}
 use Rattle.ug_run.proofs.serving.run.Goals as goal
@@ -14,10 +13,10 @@ returns-clause-promised g c = inr (record {
   there = c.in-Ok.ensures.there;
   world = c.in-Ok.world;
   configured = c.in-Ok.ensures.world;
-  then_names = (g.E.Source.picks c.configure.new.site).names;
+  then_picks = g.E.Source.picks c.configure.new.site;
   picked = c.in-Ok.ensures.named;
   made_all = rw (sym c.configure.ensures.made) c.run_over.ensures.made;
-  promised = let none = rw c.new-2.ensures.items at c.run_over.ensures.promised in rw (sym c.configure.ensures.files) none;
+  promised = let none = rw c.new-2.ensures.items at c.run_over.ensures.promised in rw (sym c.configure.ensures.files, sym c.configure.ensures.made) none;
 })
 
 pub returns-in-Err-clause-promised : goal.returns-in-Err-clause-promised
@@ -30,10 +29,10 @@ returns-in-Err-clause-promised g c =
         | inl named ↦ inl named
         | inr none ↦ inr (c.idle.ensures.status ∙ c.end_unset-status.ensures.starved (err_same c.in-Err.stop stops.NoMemory _ _ refl refl (sym c.in-Err.is ∙ none.0)), none.1)
       ];
-      missing = λ m. subst (λ s. (row_of s).may_be_unread ≡ true) same (c.end_unset-status.ensures.missing (subst (λ f. IsStopOf f c.in-Err.stop) m c.in-Err.ensures.stopped));
       no_wires = ap (map _) (c.idle.ensures.wires ∙ c.new.ensures);
       unmade = c.configure.ensures.made;
       none = c.idle.ensures.history;
+      unspent = c.idle.ensures.unspent;
       report = subst (λ s. AppendsThenStatus (g.K.Sink.held c.args.report.now) (g.K.Sink.held c.end_unset-status.new.report) (Rose (g.K.Sink.faults c.args.report.now) (g.K.Sink.faults c.end_unset-status.new.report)) [] (status_text s)) same c.end_unset-status.ensures.report;
     })
 

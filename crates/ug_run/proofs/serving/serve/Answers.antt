@@ -12,9 +12,9 @@ use Rattle.ug_run.proofs.serving.serve.Goals as goal
 
 pub returns-in-Err-clause-one : goal.returns-in-Err-clause-one
 returns-in-Err-clause-one g c command is =
-    inl (early-home g.E.Wire.Wire.sessions g.E.Wire.Wire.begun g.E.Wire.Wire.faults one_world _ _ _ _ statuses.NoMemory c.end-in-Err.result c.idle-in-Err.result.status [] c.idle-in-Err.result.wires.items c.idle-in-Err.result.history.items
-    _ _ _ _ _ c.idle-in-Err.ensures.status c.end-in-Err.ensures.status (c.idle-in-Err.ensures.wires ∙ c.new-in-Err.ensures) c.idle-in-Err.ensures.history
-    (inr (inr refl)) (λ read. absurd cc) (unread-unpicked _ _ (g.E.Source.picks c.args.site.now) (g.E.Source.picks c.args.site.now) _ _ refl) (omega arith) (λ made. absurd cc) tt c.end-in-Err.ensures.report)
+    inl (early-home g.E.Wire.Wire.sessions g.E.Wire.Wire.begun g.E.Wire.Wire.faults one_world command.events _ _ _ _ _ _ _ _ _ _ _ statuses.NoMemory c.end-in-Err.result c.idle-in-Err.result.status [] c.idle-in-Err.result.wires.items
+    c.idle-in-Err.result.history.items c.idle-in-Err.result.spent c.idle-in-Err.ensures.status c.end-in-Err.ensures.status (c.idle-in-Err.ensures.wires ∙ c.new-in-Err.ensures) c.idle-in-Err.ensures.history c.idle-in-Err.ensures.unspent
+    (inr (inr refl)) (λ read. absurd cc) (unread-unpicked _ _ (g.E.Source.picks c.args.site.now) (g.E.Source.picks c.args.site.now) _ _ refl) (omega arith) tt c.end-in-Err.ensures.report)
 
 pub returns-in-Audit-clause-audited : goal.returns-in-Audit-clause-audited
 returns-in-Audit-clause-audited g c command is =

@@ -2,7 +2,7 @@ use Rattle.std.proofs.Common.{List, ℕ, length, map, ap, arith}
 use Rattle.ug_events.specs.Grammar.{line_of}
 use Rattle.ug_world.specs.World.{World}
 use Rattle.ug_timeline.specs.Lines.{said_in}
-use Rattle.ug_timeline.proofs.Replayed.{replay_begins, replays_on}
+use Rattle.ug_timeline.proofs.Replayed.{replay_begins, replays_on, replay_ends}
 use Rattle.ug_timeline.proofs.replay.counted.Goals as goal
 
 pub loop-line-init : goal.loop-line-init
@@ -32,3 +32,7 @@ loop-line-preserved g c =
       inside = omega (arith, inside, peers);
       room = omega (arith, room, version, count);
     }
+
+pub returns-clause-timeline : goal.returns-clause-timeline
+returns-clause-timeline g c =
+    (replay_ends c.args.id c.args.first.now c.loop-line.world c.loop-line.timeline (said_in c.loop-line.rest.now) (said_in c.args.events.now) (ap (λ (ls : List (List ℕ)). map line_of ls) c.in_default.ensures.none) c.loop-line.invariant.replayed).0

@@ -4,14 +4,26 @@ use Rattle.ug_edge.specs.Told.{file_told, AppendsAll}
 use Rattle.ug_world.specs.World.{World}
 use Rattle.ug_world.specs.declared.peer_state.PeerState.{PeerState}
 use Rattle.ug_timeline.specs.Timelines.{IsTimeline, HasSessions}
+use Rattle.ug_timeline.specs.Histories.{IsHistory}
 use Rattle.ug_audit.specs.Sessions.{sessions_from}
 use Rattle.ug_audit.specs.Auditing.{worlds_of, last_of}
+use Rattle.ug_audit.specs.Stopping.{IsAt}
 use Rattle.ug_audit.proofs.Placed.{peer_first, peer_of, at_number, at_begin, at_then, stopped_then}
 use Rattle.ug_audit.proofs.Steps.{starves_between}
 use Rattle.ug_audit.proofs.run.Run.hear_peer.Goals as goal
 
-pub timeline_of-requires-clause-id : goal.timeline_of-requires-clause-id
-timeline_of-requires-clause-id g c = peer_first c.args.self.now c.args.id c.requires.run c.requires.id
+pub timeline-requires-clause-id : goal.timeline-requires-clause-id
+timeline-requires-clause-id g c = peer_first c.args.self.now c.args.id c.requires.run c.requires.id
+
+pub timeline-requires-clause-history : goal.timeline-requires-clause-history
+timeline-requires-clause-history g c =
+    subst (λ (events : List ℕ). IsHistory (worlds_of c.args.self.now.first events) (last_of c.args.self.now.first events) c.args.history.now) (sym c.as_slice.ensures) c.requires.history
+
+pub returns-then-session-eq0-clause-went : goal.returns-then-session-eq0-clause-went
+returns-then-session-eq0-clause-went g c = λ command names s left same there at.
+    let count = peer_of (λ (t : PeerState). t.sessions) c.args.self.now.last.peers c.args.id s c.session.result c.session.ensures there in
+    let none = c.if-session-eq0.true in
+    subst (λ (n : ℕ). IsAt command (file_told (g.E.Source.files c.args.site.now)) c.args.self.now names (g.E.Source.picks c.args.site.now).names (sessions_from c.args.id s 1 n ++ left) (string_bytes c.args.text.now)) (count ∙ none) at
 
 pub returns-in-Err-clause-stopped : goal.returns-in-Err-clause-stopped
 returns-in-Err-clause-stopped g c = λ command names s left same there at.

@@ -24,4 +24,5 @@ invariant_of-self-2 g c =
           c.job_behind.ensures.opening in_step.stands in_step.counted (rw c.of_job.ensures refl) c.in_ok-said.ensures.state
           (c.record.ensures.items ∙ ap (λ h. h ++ c.of_job.result ∷ []) c.make_room.ensures.items)
           c.in_ok-make_room.ensures.room c.record.ensures.spare c.due_behind.ensures c.in_ok-said.ensures.jobs,
+      λ same. absurd cc,
     )

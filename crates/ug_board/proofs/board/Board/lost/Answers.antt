@@ -25,4 +25,5 @@ invariant_of-self g c =
       λ same. IsInStep-lane g.M.Machine.rules laws.lawful _ _ _ _ c.of_lost.result _ _ _ _ _ _ (Lost c.args.peer c.args.session)
           c.lane_behind-said.ensures.opening in_step (rw c.of_lost.ensures refl) may c.lane_behind-said.ensures.state
           c.record.ensures.items c.record.ensures.spare c.lane_behind-said.ensures.jobs,
+      λ spent. let same = unspent in absurd cc,
     )

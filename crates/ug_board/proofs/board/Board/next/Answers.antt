@@ -21,6 +21,7 @@ invariant_of-self g c =
       λ same. IsInStep-lane g.M.Machine.rules laws.lawful _ _ _ _ c.of_begun.result _ _ _ _ _ _ (Next c.args.peer)
           c.lane_behind-said.ensures.opening in_step (rw c.of_begun.ensures refl) (ap says_more (sym said)) c.lane_behind-said.ensures.state
           c.record.ensures.items c.record.ensures.spare c.lane_behind-said.ensures.jobs,
+      λ spent. let unspent = c.if-self.false in absurd cc,
     )
 
 pub returns-in-Hand-clause-legal : goal.returns-in-Hand-clause-legal
@@ -40,4 +41,5 @@ invariant_of-self-in-Hand g c =
       λ same. IsInStep-lane g.M.Machine.rules laws.lawful _ _ _ _ c.of_hand.result _ _ _ _ _ _ (Next c.args.peer)
           c.lane_behind-said.ensures.opening in_step (rw c.of_hand.ensures refl) (ap says_more (sym said)) c.lane_behind-said.ensures.state
           c.record-in-Hand.ensures.items c.record-in-Hand.ensures.spare c.lane_behind-said.ensures.jobs,
+      λ spent. let unspent = c.if-self.false in absurd cc,
     )

@@ -5,8 +5,8 @@ use Rattle.ug_hearing.specs.Heard.{IsTaken}
 use Rattle.ug_hearing.proofs.Taking.{begins}
 use Rattle.ug_hearing.proofs.hearing.Hearing.begin.Goals as goal
 
-pub returns : goal.returns
-returns c = λ entries from to past tables ms course heard.
+pub returns-clause-taken : goal.returns-clause-taken
+returns-clause-taken c = λ entries from to past tables ms course heard.
     subst (λ (f : List Key). IsTaken entries from to past tables f (record { rows = c.args.self.now.standings.rows; moves = c.args.self.now.standings.moves; refreshes = c.args.self.now.standings.refreshes + 1 }) true (ms ++ Begins ∷ []))
     (sym c.new.ensures.items)
     (begins entries from to past tables course ms c.args.self.now.standings c.args.self.now.refreshing heard

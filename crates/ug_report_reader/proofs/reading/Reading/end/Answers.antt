@@ -7,7 +7,7 @@ returns-then-is_empty-clause-read c = λ stream h. end_none c.args.last.now c.ar
 
 pub returns-in-Ok-clause-read : goal.returns-in-Ok-clause-read
 returns-in-Ok-clause-read c = λ stream h.
-    end_more c.args.last.now c.args.self.now (record { told = c.take_line.new.self; rest = c.args.self.now.rest }) stream (rest_some c.args.self.now.rest c.is_empty.result c.is_empty.ensures c.if-is_empty.false)
+    end_more c.args.last.now c.args.self.now (record { told = c.take_line.new.self; rest = c.args.self.now.rest; most = c.args.self.now.most }) stream (rest_some c.args.self.now.rest c.is_empty.result c.is_empty.ensures c.if-is_empty.false)
     (subst (λ (line : List ℕ). GoesOn c.args.last.now line c.args.self.now.told c.take_line.new.self) c.deref.ensures.value c.in-Ok.ensures.told) h
 
 pub returns-in-Err-clause-stopped : goal.returns-in-Err-clause-stopped

@@ -2,6 +2,7 @@ use Rattle.std.proofs.Common.{◌≡◌, ◌++◌, ◌∷◌, [], ℕ, List, Som
 use Rattle.std.specs.Option.{option_map}
 use Rattle.ug_text.specs.Cutting.{cut_at}
 use Rattle.ug_text.specs.Seen.{seen_parts}
+use Rattle.ug_report_reader.specs.Kept.{KeepsOn}
 use Rattle.ug_report_reader.proofs.Between.{GoesOn, StopsAt, mid_first, mid_next, mid_stop, mid_last}
 use Rattle.ug_report_reader.proofs.reading.Reading.take_piece.Goals as goal
 
@@ -11,14 +12,17 @@ loop-front-init c = λ stream h. mid_first c.args.last.now c.args.self.now strea
 pub returns-in-Err-take_line-clause-stopped : goal.returns-in-Err-take_line-clause-stopped
 returns-in-Err-take_line-clause-stopped c = λ stream h.
     mid_stop c.args.last.now c.loop-front.self (stream ++ c.args.piece.now) c.loop-front.left.now c.in-Some.front.now c.in-Some.behind.now c.deref.result.now c.in-Err-take_line.stop
-    (sym c.cut_at.ensures.parts ∙ ap seen_parts c.in-Some.is) (c.deref.ensures.value ∙ c.in-Ok.ensures.items) c.in-Err-take_line.ensures.stopped (c.loop-front.invariant stream h)
+    (sym c.cut_at.ensures.parts ∙ ap seen_parts c.in-Some.is) (subst (λ (k : List ℕ). KeepsOn c.loop-front.self.most c.loop-front.self.rest.items k c.in-Some.front.now) (sym c.deref.ensures.value) c.in-Ok.ensures)
+    c.in-Err-take_line.ensures.stopped (c.loop-front.invariant stream h)
 
 pub loop-front-preserved : goal.loop-front-preserved
 loop-front-preserved c = λ stream h.
-    mid_next c.args.last.now c.loop-front.self (record { told = c.take_line.new.self; rest = c.clear.new.self }) (stream ++ c.args.piece.now) c.loop-front.left.now c.in-Some.front.now c.in-Some.behind.now c.deref.result.now
-    (sym c.cut_at.ensures.parts ∙ ap seen_parts c.in-Some.is) (c.deref.ensures.value ∙ c.in-Ok.ensures.items) c.clear.ensures.items c.in-Ok-take_line.ensures.told (c.loop-front.invariant stream h)
+    mid_next c.args.last.now c.loop-front.self (record { told = c.take_line.new.self; rest = c.clear.new.self; most = c.loop-front.self.most }) (stream ++ c.args.piece.now) c.loop-front.left.now c.in-Some.front.now c.in-Some.behind.now
+    c.deref.result.now (sym c.cut_at.ensures.parts ∙ ap seen_parts c.in-Some.is)
+    (subst (λ (k : List ℕ). KeepsOn c.loop-front.self.most c.loop-front.self.rest.items k c.in-Some.front.now) (sym c.deref.ensures.value) c.in-Ok.ensures) c.clear.ensures.items refl c.in-Ok-take_line.ensures.told
+    (c.loop-front.invariant stream h)
 
-pub returns-in-Ok-extend_from_slice-clause-read : goal.returns-in-Ok-extend_from_slice-clause-read
-returns-in-Ok-extend_from_slice-clause-read c = λ stream h.
-    mid_last c.args.last.now c.loop-front.self (record { told = c.loop-front.self.told; rest = c.extend_from_slice-2.new.self }) (stream ++ c.args.piece.now) c.loop-front.left.now
-    (sym c.cut_at.ensures.parts ∙ ap seen_parts c.in_default.is) c.in-Ok-extend_from_slice.ensures.items refl (c.loop-front.invariant stream h)
+pub returns-in-Ok-keep-clause-read : goal.returns-in-Ok-keep-clause-read
+returns-in-Ok-keep-clause-read c = λ stream h.
+    mid_last c.args.last.now c.loop-front.self (record { told = c.loop-front.self.told; rest = c.keep-2.new.rest; most = c.loop-front.self.most }) (stream ++ c.args.piece.now) c.loop-front.left.now
+    (sym c.cut_at.ensures.parts ∙ ap seen_parts c.in_default.is) c.in-Ok-keep.ensures refl refl (c.loop-front.invariant stream h)

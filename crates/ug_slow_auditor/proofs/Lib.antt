@@ -1,0 +1,13 @@
+pub mod Ones
+pub mod Left
+pub mod Climbed
+pub mod Firstly
+pub mod Known
+pub mod Adding
+pub mod Testing
+pub mod Deciding
+pub mod Judged
+pub mod Told
+pub mod Sorting
+pub mod Certified
+pub mod Spelled

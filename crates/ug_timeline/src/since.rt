@@ -1,0 +1,6 @@
+/// A value that holds from a version on, until another does.
+#[derive(Debug, Drop)]
+pub struct Since<T> {
+    pub version: u32,
+    pub value: T,
+}
