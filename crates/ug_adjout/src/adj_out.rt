@@ -45,7 +45,7 @@ impl<K: OutKey> AdjOut<K> {
         }
     }
 
-    /// The key is desired with this value from now on. What it was desired with. Want of memory changes nothing.
+    /// The key is desired with this value from now on. What it was desired with. Running out of memory changes nothing.
     pub fn set(&mut self, key: K, id: AttrId) -> Result<Option<AttrId>, NoMemory>
         ensures was { IfOk result (λ was. was ≡ value_at K.cmp self.old.desired key) }
         ensures ok { OnOk result (self.new ≡ with_desired K.cmp nat_eq self.old key (Some id)) }
@@ -54,7 +54,7 @@ impl<K: OutKey> AdjOut<K> {
         self.table.want(key, Some(id))
     }
 
-    /// The key is desired no more. What it was desired with. Want of memory changes nothing.
+    /// The key is desired no more. What it was desired with. Running out of memory changes nothing.
     pub fn clear(&mut self, key: &K) -> Result<Option<AttrId>, NoMemory>
         ensures was { IfOk result (λ was. was ≡ value_at K.cmp self.old.desired key.now) }
         ensures ok { OnOk result (self.new ≡ with_desired K.cmp nat_eq self.old key.now None) }
@@ -63,7 +63,7 @@ impl<K: OutKey> AdjOut<K> {
         self.table.want(*key, None)
     }
 
-    /// All keys of both tables are forced. After want of memory some are.
+    /// All keys of both tables are forced. After running out of memory some are.
     pub fn force_all(&mut self) -> Result<(), NoMemory>
         ensures { OnOk result (self.new ≡ with_all_forced K.cmp nat_eq self.old) }
     {

@@ -35,7 +35,7 @@ impl<K: OutKey> Desired<K> {
         }
     }
 
-    /// The key has this value from now on, or none. What it had before. Want of memory changes nothing.
+    /// The key has this value from now on, or none. What it had before. Running out of memory changes nothing.
     pub fn put(&mut self, key: K, id: Option<AttrId>) -> Result<Option<AttrId>, NoMemory>
         ensures was { IfOk result (λ was. was ≡ value_at K.cmp self.old key) }
         ensures ok { OnOk result (self.new ≡ with_value K.cmp self.old key id) }

@@ -72,7 +72,7 @@ impl<K: OutKey> Line<K> {
         self.keys.len()
     }
 
-    /// This waits at the place from now on, where nothing does. Want of memory changes nothing.
+    /// This waits at the place from now on, where nothing does. Running out of memory changes nothing.
     pub fn add(&mut self, place: u32, waiting: Waiting<K>) -> Result<(), NoMemory>
         requires { value_at nat_cmp self.old place ≡ None }
         ensures ok { OnOk result (self.new ≡ insert_entry nat_cmp self.old place waiting) }
@@ -93,7 +93,7 @@ impl<K: OutKey> Line<K> {
         Ok(())
     }
 
-    /// What waits at the place waits for this value now. Want of memory changes nothing.
+    /// What waits at the place waits for this value now. Running out of memory changes nothing.
     pub fn change(
         &mut self,
         place: u32,
@@ -135,8 +135,8 @@ impl<K: OutKey> Line<K> {
         }
     }
 
-    /// What the step does with the key of this row. Want of memory changes nothing, and comes only where the key is
-    /// desired anew.
+    /// What the step does with the key of this row. Running out of memory changes nothing, and comes only where the key
+    /// is desired anew.
     pub fn step(&mut self, key: K, row: Row, step: Step) -> Result<(), NoMemory>
         requires { IsReady step key row self.old }
         ensures ok { OnOk result (self.new ≡ lined step key row self.old) }
@@ -307,7 +307,7 @@ impl<K: OutKey> Line<K> {
     }
 }
 
-/// This value, or none, stands at the place now. Want of memory changes nothing.
+/// This value, or none, stands at the place now. Running out of memory changes nothing.
 fn announce(
     values: &mut BTreeMap<u32, AttrId>,
     place: u32,

@@ -113,7 +113,7 @@ impl<K: Ord + Copy + Drop> Rows<K> {
         self.forced
     }
 
-    /// The key has this row now. Want of memory changes nothing, and comes only where the key had none.
+    /// The key has this row now. Running out of memory changes nothing, and comes only where the key had none.
     pub fn insert(&mut self, key: K, row: Row) -> Result<(), NoMemory>
         ensures entries { OnOk result (self.new ≡ insert_entry K.cmp self.old key row) }
         ensures absent { OnErr result (value_at K.cmp self.old key ≡ None) }
@@ -128,8 +128,8 @@ impl<K: Ord + Copy + Drop> Rows<K> {
 }
 
 impl<K: OutKey> Rows<K> {
-    /// The step is done with the key's row and with the list. What the row was; None where the key had none. Want of memory
-    /// changes nothing, and comes only where the key is desired anew.
+    /// The step is done with the key's row and with the list. What the row was; None where the key had none. Running
+    /// out of memory changes nothing, and comes only where the key is desired anew.
     pub fn step(&mut self, line: &mut Line<K>, key: K, step: Step) -> Result<Option<Row>, NoMemory>
         requires { IsReady step key (known (value_at K.cmp self.old key)) line.old }
         ensures was { IfOk result (λ was. was ≡ value_at K.cmp self.old key) }
@@ -148,7 +148,7 @@ impl<K: OutKey> Rows<K> {
     }
 }
 
-/// The step is done with the key's row and with the list. What the row was. Want of memory changes nothing.
+/// The step is done with the key's row and with the list. What the row was. Running out of memory changes nothing.
 fn step_row<K: OutKey>(
     rows: &mut BTreeMap<K, Kept>,
     line: &mut Line<K>,

@@ -63,7 +63,8 @@ impl<K: OutKey> Table<K> {
         self.rows.row(key)
     }
 
-    /// A key that waits for nothing waits for this value from now on, at the end of the list. Want of memory changes nothing.
+    /// A key that waits for nothing waits for this value from now on, at the end of the list. Running out of memory
+    /// changes nothing.
     fn begin(&mut self, key: K, row: Row, desired: Option<AttrId>) -> Result<(), NoMemory>
         requires free { IsFree (value_at K.cmp self.old.rows key) }
         requires owed { is_owed row.formatted desired row.forced ≡ true }
@@ -91,7 +92,7 @@ impl<K: OutKey> Table<K> {
         Ok(())
     }
 
-    /// A key that waits waits for this value now, at its place. Want of memory changes nothing.
+    /// A key that waits waits for this value now, at its place. Running out of memory changes nothing.
     pub fn change(
         &mut self,
         key: K,
@@ -125,8 +126,8 @@ impl<K: OutKey> Table<K> {
         Ok(())
     }
 
-    /// The first of those that wait from this place on waits at the place now. Its key and its order stay. Want of memory
-    /// changes nothing.
+    /// The first of those that wait from this place on waits at the place now. Its key and its order stay. Running out
+    /// of memory changes nothing.
     fn bring(&mut self, place: u32) -> Result<(), NoMemory>
         requires { 0 < length (from_place place self.old.waiting) }
         ensures same { adj_of self.new.rows self.new.waiting ≡ adj_of self.old.rows self.old.waiting }
@@ -158,7 +159,7 @@ impl<K: OutKey> Table<K> {
         Ok(())
     }
 
-    /// All that wait are numbered anew from 0, in their order. After want of memory some are.
+    /// All that wait are numbered anew from 0, in their order. After running out of memory some are.
     fn renumber(&mut self) -> Result<(), NoMemory>
         ensures same { adj_of self.new.rows self.new.waiting ≡ adj_of self.old.rows self.old.waiting }
         ensures room { OnOk result (self.new.next + 1 < 2 ^ 32) }
@@ -188,7 +189,7 @@ impl<K: OutKey> Table<K> {
         Ok(())
     }
 
-    /// A key is desired so from now on. What it was before. Want of memory changes nothing.
+    /// A key is desired so from now on. What it was before. Running out of memory changes nothing.
     pub fn want(&mut self, key: K, desired: Option<AttrId>) -> Result<Option<AttrId>, NoMemory>
         ensures was { IfOk result (λ was. was ≡ value_at K.cmp (adj_of self.old.rows self.old.waiting).desired key) }
         ensures ok { OnOk result (adj_of self.new.rows self.new.waiting ≡ with_desired K.cmp nat_eq (adj_of self.old.rows self.old.waiting) key desired) }
@@ -235,7 +236,7 @@ impl<K: OutKey> Table<K> {
         })
     }
 
-    /// All keys of both tables are forced. After want of memory some are.
+    /// All keys of both tables are forced. After running out of memory some are.
     pub fn force_all(&mut self, alloc: Global) -> Result<(), NoMemory>
         ensures ok { OnOk result (adj_of self.new.rows self.new.waiting ≡ with_all_forced K.cmp nat_eq (adj_of self.old.rows self.old.waiting)) }
     {
@@ -265,7 +266,7 @@ impl<K: OutKey> Table<K> {
         Ok(())
     }
 
-    /// The key is forced, which has a row. Want of memory changes nothing.
+    /// The key is forced, which has a row. Running out of memory changes nothing.
     fn force(&mut self, key: K) -> Result<(), NoMemory>
         requires shown { IsShown K.cmp (adj_of self.old.rows self.old.waiting) key }
         requires numbered { self.old.next + 1 < 2 ^ 32 }

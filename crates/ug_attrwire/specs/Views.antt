@@ -45,12 +45,12 @@ so_far all f = record {
 abbrev pub standing : Standing → Attribute
 standing a = record { flags = a.flags; type = a.kind; place = a.place; value = a.value.now }
 
--- Want of memory says nothing of the bytes.
+-- Out of memory says nothing of the bytes.
 abbrev pub Fails : {Y : Type 0} → AttrFault → Result Y Fault → Type 0
 Fails faults.NoMemory read = Unit {0}
 Fails (faults.Refused number place) read = read ≡ Err (fault number place)
 
--- What a function returned, seen by view, is what reading gives, unless memory was wanting.
+-- What a function returned, seen by view, is what reading gives, unless memory ran out.
 abbrev pub Gives : {X Y : Type 0} → (X → Y) → Result X AttrFault → Result Y Fault → Type 0
 Gives view (Ok x) read = read ≡ Ok (view x)
 Gives view (Err e) read = Fails e read

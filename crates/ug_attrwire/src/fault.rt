@@ -16,7 +16,7 @@ pub enum AttrFault {
     /// are needed; 8 an unknown type without the optional bit; 9 MP_REACH_NLRI or MP_UNREACH_NLRI of IPv6 routes
     /// is cut short before the routes, of another family, or has a next hop of another length than 16 and 32.
     Refused { number: u8, place: usize },
-    /// Memory was wanting.
+    /// Memory ran out.
     NoMemory,
 }
 

@@ -22,7 +22,7 @@ pub fn size_of(attrs: &Attrs) -> usize
 }
 
 /// Adds the attributes at the end, by ascending type, and answers where the value of NEXT_HOP stands in the list.
-/// Want of memory leaves the list as it was.
+/// Running out of memory leaves the list as it was.
 #[tactic(auto, using(ug_message::proofs::AttributeParts::attributes_steps))]
 pub fn write_attrs(out: &mut ByteList, attrs: &Attrs) -> Result<usize, NoMemory>
     requires { HasShortValues attrs.now }
@@ -53,8 +53,8 @@ pub fn size_but_next_hop(attrs: &Attrs) -> usize
     before_size(parts) + behind_size(parts)
 }
 
-/// Adds all attributes but NEXT_HOP at the end, by ascending type, as before routes that stand among them. Want of memory
-/// leaves the list as it was.
+/// Adds all attributes but NEXT_HOP at the end, by ascending type, as before routes that stand among them. Running out
+/// of memory leaves the list as it was.
 #[tactic(auto, using(ug_message::proofs::AttributeParts::but_next_hop_steps))]
 pub fn write_but_next_hop(out: &mut ByteList, attrs: &Attrs) -> Result<(), NoMemory>
     requires { HasShortValues attrs.now }

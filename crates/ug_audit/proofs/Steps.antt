@@ -112,7 +112,7 @@ module _ (command : AuditCommand) (files : List ℕ → FileTold) (run : Run) (n
     picked = all_picked picked;
   }
 
-  -- memory is wanting before its file is picked, and behind it
+  -- memory runs out before its file is picked, and behind it
   pub starves_before : names' ≡ mid → IsStopped command files (AppendsAll names names') stops.NoMemory
   starves_before same = audits.IsStarved.Between run.first run.events.items at.report at.front (x ∷ left) text at.heard (same_names names mid names' (files_to command at.front) at.picked same)
 

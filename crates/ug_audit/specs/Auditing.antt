@@ -146,7 +146,7 @@ module _ (command : AuditCommand) (files : List ℕ → FileTold) (picks : List 
         → picks (files_before command) → IsTooLong
     Session : (w : World) (events report bytes : List ℕ) (x : SessionOf) → CameTo w events report x → IsFile (files (file_of command.dir x)) bytes → verdicts.most_bytes < length bytes → IsTooLong
 
-  -- Memory was wanting: the files before the one that was picked last are as they should be, and perhaps that one too.
+  -- Memory ran out: the files before the one that was picked last are as they should be, and perhaps that one too.
   pub data IsStarved : Type 0 where
     Unpicked : picks [] → IsStarved
     Config : picks (command.config ∷ []) → IsStarved

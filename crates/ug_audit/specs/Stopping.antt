@@ -36,7 +36,7 @@ IsPickStop picked unpicked (stops.Config number field) = ⊥
 IsPickStop picked unpicked (stops.Unclear line) = ⊥
 IsPickStop picked unpicked (stops.Refuted peer session breach text) = ⊥
 
--- Why a file wasn't read whole: it could not be, memory was wanting, or its bytes are past its limit.
+-- Why a file wasn't read whole: it could not be, memory ran out, or its bytes are past its limit.
 abbrev pub IsFileStop : FileTold → (List ℕ → Type 0) → Type 0 → Type 0 → Stop → Type 0
 IsFileStop file past picked unpicked stops.Read = picked
 IsFileStop file past picked unpicked stops.NoMemory = picked ⊎ unpicked

@@ -33,7 +33,7 @@ pub fn end_right<K: Sink>(report: &mut K, text: &[u8]) -> Status
     }
 }
 
-/// Tries the status line of an audit that stopped. Where memory is wanting for that of a stop, that is the status.
+/// Tries the status line of an audit that stopped. Where memory runs out for that of a stop, that is the status.
 pub fn end_stopped<K: Sink>(alloc: Global, report: &mut K, stop: Stop) -> Status
     ensures ended { (command : words.AuditCommand) (told : Option (List FileText)) (names : Option (List (List ℕ))) (names' : Option (List (List ℕ))) → IsStopped command (file_told told) (AppendsAll names names') stop →
         IsAuditing command (file_told told) (AppendsAll names names') result (K.held report.old) (K.held report.new) (Rose (K.faults report.old) (K.faults report.new)) }

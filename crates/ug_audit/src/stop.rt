@@ -6,7 +6,7 @@ use ug_types::{ByteList, PeerId};
 pub enum Stop {
     /// A file could not be read.
     Read,
-    /// Memory was wanting.
+    /// Memory ran out.
     NoMemory,
     /// A file is past its limit.
     TooLong,

@@ -12,8 +12,8 @@ abbrev pub HoldSessions : List FileText → List ℕ → List (List ℕ) → Lis
 HoldSessions files dir names wires =
     (p n : ℕ) (name bytes : List ℕ) → slice_get names p ≡ Some name → held_by wires p n ≡ Some bytes → file_named (file_name dir name n) files ≡ Some bytes
 
--- So an audit may end where nothing is amiss: all is right, or a call of the outside failed, memory was wanting, or a file is
--- past its limit.
+-- So an audit may end where nothing is amiss: all is right, or a call of the outside failed, memory ran out, or a file
+-- is past its limit.
 abbrev pub IsNothingAmiss : Status → Type 0
 IsNothingAmiss statuses.Ok = Unit {0}
 IsNothingAmiss statuses.ReadFault = Unit {0}

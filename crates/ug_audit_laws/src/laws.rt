@@ -59,7 +59,7 @@ pub fn run_is_audited<M: Speaker>()
 {}
 
 /// So the files are right that such a run leaves, where each session is in the file of its peer's name and its number. An
-/// audit of them ends with `Ok`, unless a call of the outside fails, memory is wanting, or a file is past its limit.
+/// audit of them ends with `Ok`, unless a call of the outside fails, memory runs out, or a file is past its limit.
 pub fn files_are_right<M: Speaker>()
     ensures right { (audit : AuditCommand) (files : List FileText) (w : World)
         (command : RunCommand) (configuration : List ℕ) (events : List ℕ) (report : List ℕ) (run : RunTold M.Job M.Said) →

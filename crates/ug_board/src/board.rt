@@ -39,7 +39,7 @@ impl<M: Machine> Model for Board<M> {
 }
 
 impl<M: Machine> Board<M> {
-    /// A board with an empty history. Want of memory hands the machine back.
+    /// A board with an empty history. Running out of memory hands the machine back.
     pub fn new(alloc: Global, machine: M) -> Result<Board<M>, M>
         requires state { M.state machine ≡ M.rules.start (M.opening machine) }
         requires jobs { M.jobs machine ≡ 0 }
@@ -206,7 +206,7 @@ impl<M: Machine> Logged for Board<M> {
     }
 }
 
-/// Makes room for one entry and for those that are due after it. Want of memory changes nothing.
+/// Makes room for one entry and for those that are due after it. Running out of memory changes nothing.
 fn make_room<J, R>(history: &mut Sequence<BoardEntry<J, R>>, due: u64) -> Result<(), NoMemory>
     ensures items { history.new.items ≡ history.old.items }
     ensures room { OnOk result (due + 1 ≤ history.new.spare) }

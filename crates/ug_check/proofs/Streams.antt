@@ -76,7 +76,7 @@ within_limit : (total n : ℕ) (buffer piece stream : List ℕ) → total ≤ mo
 within_limit total n buffer piece stream within size is =
     take_front most_bytes stream (take n buffer) (omega arith) ∙ ap (λ (k : ℕ). stream ++ take (most_bytes - k) (take n buffer)) size ∙ ap (λ (p : List ℕ). stream ++ p) (sym is)
 
--- a piece in which there is a fault, or for which memory was wanting
+-- a piece in which there is a fault, or for which memory ran out
 pub stops_at : (stop : Stop) (total n : ℕ) (buffer piece : List ℕ) (left now next : Option (List ℕ)) (session : Capabilities) (r : ReaderState) (t : Rows) (messages eors : ℕ)
     → total ≤ most_bytes → piece ≡ take (most_bytes - total) (take n buffer) → TakesFront now next (take n buffer) → r.session ≡ session
     → ((stream : List ℕ) → HasChecked r t messages eors stream → IsPieceCause stop r.session (stream ++ piece))

@@ -46,7 +46,7 @@ pub record HasReadAll (left now : Option (List ℕ)) (reader : ReaderState) (tab
   pub within : length stream ≤ most_bytes
   pub settled : IsSettled reader table messages eors stream
 
--- Why a piece was not taken whole: there is a fault in the stream with it, or memory was wanting.
+-- Why a piece was not taken whole: there is a fault in the stream with it, or memory ran out.
 abbrev pub IsPieceCause : Stop → Capabilities → List ℕ → Type 0
 IsPieceCause (stops.Malformed cause offset) session stream = (messages : List Message) × IsFaultyAt session stream messages cause offset
 IsPieceCause stops.NoMemory session stream = Unit {0}

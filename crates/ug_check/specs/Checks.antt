@@ -50,7 +50,7 @@ pub record IsDone (session : Capabilities) (left now : Option (List ℕ)) (repor
 abbrev pub AppendsLines : Option (List ℕ) → Option (List ℕ) → List (List ℕ) → Type 0
 AppendsLines before held lines = (front : List (List ℕ)) × (more : List (List ℕ)) × (lines ≡ front ++ more) × AppendsPiece before held (concat front)
 
--- The report was begun: at a fault of it a front of its text was added, and for want of memory a front of its lines.
+-- The report was begun: at a fault of it a front of its text was added, and where memory ran out a front of its lines.
 abbrev pub IsReportedUntil : Stop → Option (List ℕ) → Option (List ℕ) → List (List ℕ) → Type 0
 IsReportedUntil stops.Report before held lines = AppendsFront before held (concat lines)
 IsReportedUntil stops.NoMemory before held lines = AppendsLines before held lines

@@ -10,7 +10,7 @@ pub enum Stop {
     Read,
     /// The report could not be written.
     Report,
-    /// Memory was wanting.
+    /// Memory ran out.
     NoMemory,
     /// The stream has more bytes than are read of one.
     TooLong,

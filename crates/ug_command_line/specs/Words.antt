@@ -85,6 +85,8 @@ with_value word s =
     else if same_bytes word (codes "1") then Some (record s { wants_value = false; workers = Some true })
     else None
 
+-- What a word is, by the first that applies: the value that `--workers` waits for; behind `--` a positional word; `--`
+-- itself, once; an option of the command; else a positional word. Whatever is none of these is no command.
 abbrev pub with_word : Verb → List ℕ → SoFar → Option SoFar
 with_word verb word s =
     if s.wants_value then with_value word s

@@ -52,7 +52,7 @@ unfolding rest_of
 agrees_read is_open None read now_picked = rw now_picked tt
 agrees_read is_open (Some left) read now_picked = rw now_picked refl
 
--- where no file was picked, memory was wanting, or the pick failed
+-- where no file was picked, memory ran out, or the pick failed
 pub unbegun_cause : (status : Status) (P : Type 0) → IsUnbegun status → (status ≡ statuses.ReadFault → ⊥) → (status ≡ statuses.NoMemory → P) → P
 unbegun_cause status P (inl failed) not_failed starved = absurd (not_failed failed)
 unbegun_cause status P (inr none) not_failed starved = starved none

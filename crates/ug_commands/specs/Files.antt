@@ -23,7 +23,7 @@ abbrev pub AppendsThenStatus : Option (List ℕ) → Option (List ℕ) → Type 
 AppendsThenStatus before held failed text line =
     (front : List ℕ) × (tail : List ℕ) × (line ≡ front ++ tail) × AppendsPiece before held (text ++ front) × ((tail ≡ []) ⊎ failed)
 
--- Just the file of this name was picked, once; where memory was wanting for that, none was.
+-- Just the file of this name was picked, once; where memory ran out for that, none was.
 abbrev pub PicksJust : Option (List (List ℕ)) → Option (List (List ℕ)) → List ℕ → Status → Type 0
 PicksJust names names' name status = AppendsAll names names' (name ∷ []) ⊎ ((status ≡ statuses.NoMemory) × (names' ≡ names))
 

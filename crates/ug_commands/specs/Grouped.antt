@@ -23,8 +23,8 @@ IsWholly left now stands_for = HasRead left now (λ read. IsEnded now × (length
 abbrev pub IsGrouped : Option (List ℕ) → Option (List ℕ) → (List ℕ → Type 0) → Type 0
 IsGrouped left now reported = (w : World) × IsWholly left now (Ok w) × reported (concat (group_lines w))
 
--- Why no groups were listed: the configuration is too long, or refused. Of want of memory and of a read that failed it
--- says nothing.
+-- Why no groups were listed: the configuration is too long, or refused. Of running out of memory and of a read that
+-- failed it says nothing.
 abbrev pub IsCause : Stop → Option (List ℕ) → Option (List ℕ) → Type 0
 IsCause stops.Read left now = Unit {0}
 IsCause stops.Report left now = ⊥

@@ -7,7 +7,7 @@ pub enum Stop {
     Read,
     /// The report could not be written.
     Report,
-    /// Memory was wanting.
+    /// Memory ran out.
     NoMemory,
     /// The configuration has more bytes than are read of one.
     TooLong,

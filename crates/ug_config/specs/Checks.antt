@@ -125,7 +125,7 @@ setup bytes = do
   t ← tables d
   checked t
 
--- What a check answers. Want of memory says nothing of the fault.
+-- What a check answers. Out of memory says nothing of the fault.
 abbrev pub Passes : {A : Type 0} → Result A ConfigRefusal → Option Refusal → Type 0
 Passes (Ok x) fault = fault ≡ None
 Passes (Err e) fault = Tells e fault

@@ -5,7 +5,7 @@ use Rattle.ug_edge.specs.declared.lists.FailAt.{FailAt}
 use Rattle.ug_edge.specs.Fails.{raised, lists}
 
 -- The bytes held, the number of writes so far, the calls that are listed to fail, the faults so far, and those of
--- them that came of want of memory.
+-- them that came of running out of memory.
 pub record SinkState : Type 0 where
   pub held : List ℕ
   pub calls : ℕ
@@ -29,6 +29,6 @@ sink_with bytes sink = record sink { held = sink.held ++ bytes; calls = raised s
 abbrev pub sink_failed : SinkState → SinkState
 sink_failed sink = record sink { calls = raised sink.calls; faults = raised sink.faults }
 
--- the sink after a write for which memory was wanting
+-- the sink after a write for which memory ran out
 abbrev pub sink_starved : SinkState → SinkState
 sink_starved sink = record sink { calls = raised sink.calls; faults = raised sink.faults; starved = raised sink.starved }

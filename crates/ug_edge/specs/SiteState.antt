@@ -97,7 +97,7 @@ site_picked name bytes site = record site { is_picked = true; picked = site.pick
 abbrev pub site_unpicked : List ℕ → SiteState → SiteState
 site_unpicked name site = record site { is_picked = false; picked = site.picked ++ name ∷ []; left = []; picks = raised site.picks; faults = raised site.faults }
 
--- the site after a pick for which memory was wanting
+-- the site after a pick for which memory ran out
 abbrev pub site_unnamed : SiteState → SiteState
 site_unnamed site = record site { is_picked = false; left = []; picks = raised site.picks }
 
@@ -113,7 +113,7 @@ site_unread site = record site { reads = raised site.reads; faults = raised site
 abbrev pub site_wired : List ℕ → List ℕ → SiteState → SiteState
 site_wired dir peer site = record site { wires = raised site.wires; made = site.made ++ record { dir = dir; peer = peer } ∷ [] }
 
--- the site after a wire for which memory was wanting
+-- the site after a wire for which memory ran out
 abbrev pub site_unmade : SiteState → SiteState
 site_unmade site = record site { wires = raised site.wires }
 

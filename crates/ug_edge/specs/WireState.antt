@@ -7,7 +7,7 @@ use Rattle.ug_edge.specs.Told.{onto_last, WireName}
 
 -- For whom it was made, the bytes of each session, how many of the last sessions found no memory, how many bytes were sent over all
 -- sessions, the totals at which a send is still to fail, the numbers of the sessions whose begin fails, the faults
--- so far, and those of them that came of want of memory.
+-- so far, and those of them that came of running out of memory.
 pub record WireState : Type 0 where
   pub made_for : WireName
   pub sessions : List (List ℕ)
@@ -26,7 +26,7 @@ fresh_wire made_for cuts failing = record { made_for = made_for; sessions = []; 
 abbrev pub wire_failed : WireState → WireState
 wire_failed wire = record wire { faults = raised wire.faults }
 
--- the wire after a call for which memory was wanting
+-- the wire after a call for which memory ran out
 abbrev pub wire_starved : WireState → WireState
 wire_starved wire = record wire { faults = raised wire.faults; starved = raised wire.starved }
 

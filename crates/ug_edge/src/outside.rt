@@ -111,8 +111,8 @@ pub trait Wire: Send + Drop {
 pub trait Site: Source {
     type Wire: Wire;
 
-    /// Makes the named file the one that is read from, from its start. Where this fails nothing is left to read. Want of
-    /// memory is no pick.
+    /// Makes the named file the one that is read from, from its start. Where this fails nothing is left to read.
+    /// Running out of memory is no pick.
     fn pick(&mut self, name: &str) -> Result<(), SiteFault>
         ensures picked { OnOk result (HasPicked (Self.files self.old) name.now (Self.left self.new)) }
         ensures err { OnErr result (IsEnded (Self.left self.new)) }

@@ -94,7 +94,7 @@ impl Sessions {
         }
     }
 
-    /// Adds bytes to the last session. This fails, and changes nothing, where memory is wanting.
+    /// Adds bytes to the last session. This fails, and changes nothing, where memory runs out.
     pub fn extend(&mut self, piece: &[u8]) -> Result<(), NoMemory>
         requires { 0 < length self.old.bytes }
         ensures ok { OnOk result (self.new.bytes ≡ onto_last piece.now self.old.bytes) }
@@ -122,7 +122,7 @@ fn keep(kept: &mut Sequence<ByteList>, alloc: Global) -> bool
     }
 }
 
-/// Adds bytes to the last list. Want of memory leaves the bytes of each as they were.
+/// Adds bytes to the last list. Running out of memory leaves the bytes of each as they were.
 fn extend_last(kept: &mut Sequence<ByteList>, piece: &[u8]) -> Result<(), NoMemory>
     requires { 0 < length kept.old.items }
     ensures ok { OnOk result (session_bytes kept.new.items 0 ≡ onto_last piece.now (session_bytes kept.old.items 0)) }

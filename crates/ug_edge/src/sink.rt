@@ -11,7 +11,7 @@ use std::alloc::Global;
 use std::marker::Model;
 use ug_types::{ByteList, Sequence};
 
-/// A sink that tells what it holds. Its n-th write fails where that is listed, or where memory is wanting.
+/// A sink that tells what it holds. Its n-th write fails where that is listed, or where memory runs out.
 #[derive(Debug, Drop)]
 pub struct MemSink {
     held: ByteList,
@@ -53,7 +53,7 @@ impl MemSink {
         self.held.as_slice()
     }
 
-    /// How many writes failed for want of memory. They are among the faults.
+    /// How many writes failed since memory ran out. They are among the faults.
     pub fn starved(&self) -> u64
         ensures count { result ≡ self.now.starved }
         ensures within { result ≤ self.now.faults }

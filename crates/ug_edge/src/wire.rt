@@ -13,7 +13,7 @@ use std::alloc::Global;
 use std::marker::Model;
 use ug_types::{NumberList, Sequence};
 
-/// A wire that tells its sessions. Its calls fail where that is listed, or where memory is wanting. A session that
+/// A wire that tells its sessions. Its calls fail where that is listed, or where memory runs out. A session that
 /// found no memory is there, but takes no bytes, and so are those after it.
 #[derive(Drop)]
 pub struct MemWire {
@@ -75,7 +75,7 @@ impl MemWire {
         self.sessions.at(n)
     }
 
-    /// How many calls failed for want of memory. They are among the faults.
+    /// How many calls failed since memory ran out. They are among the faults.
     pub fn starved(&self) -> u64
         ensures count { result ≡ self.now.starved }
         ensures within { result ≤ self.now.faults }

@@ -41,7 +41,7 @@ module _ {Opening State Job Said : Type 0} (rules : Rules Opening State Job Said
     stands = some.stands;
   }
 
-  -- the event was not taken, or it was and memory was wanting behind it
+  -- the event was not taken, or it was and memory ran out behind it
   pub within-before : (e : Event) (first : List (Reads Saying)) (new : BuilderView Opening Job Said) (held : Option (List ℕ))
       → BuilderStands rules speech new first [] held held → StandsWithin rules speech (first ++ said_of e ∷ []) new held held
   within-before e first new held stands = record { some = first; more = said_of e ∷ []; parts = refl; stands = stands }

@@ -52,7 +52,7 @@ module _ {Opening State Job Said : Type 0} (rules : Rules Opening State Job Said
       (stops-still rules speech stop old.pass.root first lines old.names old.pass.seen new.pass.seen before held goes
       (subst (λ (r : Option Opening). IsLegalAt rules speech r new.pass.seen) same.pass.2 legal) stops)
 
-  -- memory was wanting, for the next of these lines or for what follows all
+  -- memory ran out, for the next of these lines or for what follows all
   pub builder-starved : (old new : BuilderView Opening Job Said) → IsSameBuilder old new → GoesOn rules speech old.pass.seen new.pass.seen
       → (IsLegalAt rules speech old.pass.root old.pass.seen → IsLegalAt rules speech new.pass.root new.pass.seen)
       → (first lines more : List (Reads Saying)) (before held : Option (List ℕ)) → BuilderStands rules speech old first lines before held

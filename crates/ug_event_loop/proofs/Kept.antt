@@ -165,7 +165,7 @@ module _ {Opening State Job Said : Type 0} (rules : Rules Opening State Job Said
         subst (λ (ls : List (List ℕ)). StopsWithin rules speech stop old held new held' ls) (sym cut)
         (stops_front stop some front [] last (fronts ∙ sym (append-nil front)) stops)
 
-    -- these lines were taken, and then memory was wanting
+    -- these lines were taken, and then memory ran out
     starved : (lines : List (List ℕ)) → TakesLines rules speech old held new held' lines → StopsWithin rules speech stops.NoMemory old held new held' lines
     starved lines takes first ls before stands =
         subst (λ (rs : List (Reads Saying)). BuilderStops rules speech stops.NoMemory new first rs before held') (append-nil (ls ++ map (said_by old.grammar) lines))

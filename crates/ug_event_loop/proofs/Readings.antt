@@ -65,7 +65,7 @@ module _ {Opening State Job Said : Type 0} (rules : Rules Opening State Job Said
     halted-ends (halts.Stopped stops.NoMemory) read unread rose h = inl (begun-so o'.left read _ _ (stops-at stops.NoMemory) h)
     halted-ends (halts.Stopped stops.Report) read unread rose h = (begun-so o'.left read _ _ (stops-at stops.Report) h, rose refl)
 
-  -- all lines were taken, and memory was wanting before everything was told
+  -- all lines were taken, and memory ran out before everything was told
   pub starved-last : (first : List (Reads Saying)) (old mid new : BuilderView Opening Job Said) (o o' : Outside) (read : List ℕ) → IsSameBuilder mid new → GoesOn rules speech mid.pass.seen new.pass.seen
       → IsLegalAt rules speech new.pass.root new.pass.seen → IsEnded o'.left → StandsBehind rules speech first old mid o o' (lines_read true read) → EndsAt rules speech first old new o o' ends.NoMemory read
   starved-last first old mid new o o' read same goes legal ended stands =
@@ -95,7 +95,7 @@ module _ {Opening State Job Said : Type 0} (rules : Rules Opening State Job Said
   ends-still first old mid new o o' after ends.Report read incomplete same tally goes legal h =
       (begun-so o'.left read _ _ (λ lines. builder-stays-stopped rules speech stops.Report mid new same goes legal first (map (said_by old.grammar) lines) o.held o'.held) h.0, h.1)
 
-  -- memory was wanting before anything was read
+  -- memory ran out before anything was read
   pub given-up : (first : List (Reads Saying)) (old new : BuilderView Opening Job Said) (o : Outside) (before after : ℕ) → IsSameBuilder old new → new.tally ≡ old.tally → GoesOn rules speech old.pass.seen new.pass.seen
       → IsClosedAt rules speech new.pass.spent new.pass.root new.pass.seen → IsLegalAt rules speech new.pass.root new.pass.seen → RisesBy before after (least_at rules old.pass.root old.pass.seen) (least_at rules old.pass.root new.pass.seen)
       → HasEnded rules speech first old new (record o { steps = before }) (record o { steps = after }) ends.NoMemory

@@ -152,7 +152,7 @@ module _ {Opening State Job Said : Type 0} (rules : Rules Opening State Job Said
         tallied = tally_more W lines line came tally tally' here_is stands.tallied lines' accepted' refused';
       }
 
-      -- the line was taken, and memory was wanting for what the report says of it
+      -- the line was taken, and memory ran out for what the report says of it
       pub stops-untold : StopsAt rules speech stops.NoMemory opening first (lines ++ line ∷ []) names seen' before held
       unfolding W
       stops-untold = record {
@@ -203,7 +203,7 @@ module _ {Opening State Job Said : Type 0} (rules : Rules Opening State Job Said
       let was = stops (lanes-front seen goes.more (subst (λ (es : List (Entry Job Said)). AreLanes es) goes.parts lanes)) in
       record { some = was.some; more = was.more; parts = was.parts; marks = was.marks; taken = taken_still opening first was.some was.marks seen seen' was.taken goes legal; reported = was.reported }
 
-  -- memory was wanting, for the next line or for what follows all lines
+  -- memory ran out, for the next line or for what follows all lines
   pub stops-before : (root : Option Opening) (first lines more : List (Reads Saying)) (names : List (List ℕ)) (seen seen' : List (Entry Job Said)) (before held : Option (List ℕ)) (tally : Tally)
       → GoesOn rules speech seen seen' → (IsLegalAt rules speech root seen → IsLegalAt rules speech root seen')
       → Stands rules speech root first lines names seen before held tally → Stops rules speech stops.NoMemory root first (lines ++ more) names seen' before held

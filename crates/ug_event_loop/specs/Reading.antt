@@ -74,7 +74,7 @@ module _ {Opening State Job Said : Type 0} (rules : Rules Opening State Job Said
     abbrev pub StopsBefore : Stop → List (List ℕ) → Type 0
     StopsBefore stop lines = BuilderStops rules speech stop new first (map (said_by old.grammar) lines) outside.held outside'.held
 
-    -- Memory was wanting for one of the first lines, and nothing was read.
+    -- Memory ran out for one of the first lines, and nothing was read.
     pub record IsNotBegun (read : List ℕ) : Type 0 where
       pub none : read ≡ []
       pub within : StandsWithin first new outside.held outside'.held

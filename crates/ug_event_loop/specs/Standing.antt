@@ -44,7 +44,7 @@ pub record IsTally (w : World) (taken : List (Reads Saying)) (tally : Tally) : T
   pub accepted : tally.accepted ≡ accepted_count w taken
   pub refused : tally.refused ≡ refused_count w taken
 
--- What the report got where a run stopped: where memory was wanting some of its lines, each whole, and where the report
+-- What the report got where a run stopped: where memory ran out some of its lines, each whole, and where the report
 -- failed a front of them.
 abbrev pub IsReportedUntil : Stop → Option (List ℕ) → Option (List ℕ) → List (List ℕ) → Type 0
 IsReportedUntil stops.NoMemory before held texts =

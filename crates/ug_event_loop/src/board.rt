@@ -24,7 +24,7 @@ use ug_world::Refusal;
 /// The number of the builder's pass.
 pub const BUILDER: u32 = 0;
 
-/// Does a job where it may be done, and else answers as where memory is wanting.
+/// Does a job where it may be done, and else answers as where memory runs out.
 pub(crate) fn do_job<S: Speaker, L: Ledger>(
     board: &mut Board<S>,
     job: S::Job,

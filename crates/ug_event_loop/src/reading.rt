@@ -36,7 +36,7 @@ pub enum End {
     Read,
     /// The report could not be written.
     Report,
-    /// Memory was wanting.
+    /// Memory ran out.
     NoMemory,
     /// The file has more bytes or more lines than are read.
     TooLong,
@@ -89,7 +89,7 @@ impl<S: Speaker> Reading<S> {
         self.end = Some(end);
     }
 
-    /// Ends the work on the board before anything is read, since memory was wanting.
+    /// Ends the work on the board before anything is read, since memory ran out.
     pub fn give_up<R: Wait, L: Ledger>(
         &mut self,
         rt: &R,

@@ -3,7 +3,7 @@
 /// Why a builder takes no more lines.
 #[derive(Clone, Copy, Debug, PartialEq, Eq, Drop)]
 pub enum Stop {
-    /// Memory was wanting.
+    /// Memory ran out.
     NoMemory,
     /// The report could not be written.
     Report,

@@ -30,12 +30,12 @@ saying_of lines.Blank = SaysNothing
 saying_of lines.Sync = SaysSync
 saying_of (lines.Happened event) = Says (event_of event)
 
--- Want of memory says nothing of the line.
+-- Out of memory says nothing of the line.
 abbrev pub IsRefusedBy : {A : Type 0} → LineRefusal → Reads A → Type 0
 IsRefusedBy refusals.NoMemory read = Unit {0}
 IsRefusedBy (refusals.Refused number inner) read = read ≡ Err (record { number = number; inner = inner })
 
--- What a function returned, seen by view, is what reading gives, unless memory was wanting.
+-- What a function returned, seen by view, is what reading gives, unless memory ran out.
 abbrev pub Gives : {X Y : Type 0} → (X → Y) → Result X LineRefusal → Reads Y → Type 0
 Gives view (Ok x) read = read ≡ Ok (view x)
 Gives view (Err e) read = IsRefusedBy e read

@@ -10,7 +10,8 @@ abbrev pub where_some_bytes : List ℕ → List (List ℕ)
 where_some_bytes [] = []
 where_some_bytes (b ∷ bytes) = (b ∷ bytes) ∷ []
 
--- words are separated by one or more spaces; spaces at either end don't count
+-- The words of these bytes behind `word`, which was begun before them. A space ends a word; a word has at least one byte, so
+-- spaces at either end and several in a row don't count.
 unfoldable pub words_from : List ℕ → List ℕ → List (List ℕ)
 words_from word [] = where_some_bytes word
 words_from word (b ∷ bytes) = if b == 32 then where_some_bytes word ++ words_from [] bytes else words_from (word ++ b ∷ []) bytes

@@ -15,7 +15,7 @@ pub enum LineRefusal {
     /// name; 26 no message: its own refusal is `inner`, which is there for 26 alone.
     #[error("the line is refused: {number}")]
     Refused { number: u8, inner: Option<u8> },
-    /// Memory was wanting.
+    /// Memory ran out.
     #[error("memory was wanting")]
     NoMemory,
 }

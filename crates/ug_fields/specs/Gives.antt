@@ -5,12 +5,12 @@ use Rattle.ug_fields.specs.declared.refusals.ConfigRefusal.{ConfigRefusal}
 use Rattle.ug_fields.specs.declared.refusals.ConfigRefusal.TheVariants as refusals
 use Rattle.ug_fields.specs.Reads.{Refusal, Reads, fault_of}
 
--- The fault that is there is told. Want of memory says nothing of it.
+-- The fault that is there is told. Out of memory says nothing of it.
 abbrev pub Tells : ConfigRefusal → Option Refusal → Type 0
 Tells refusals.NoMemory fault = Unit {0}
 Tells (refusals.Refused number field) fault = fault ≡ Some (record { number = number; field = field.items })
 
--- What a function returned is what reading gives, unless memory was wanting.
+-- What a function returned is what reading gives, unless memory ran out.
 abbrev pub Gives : {A : Type 0} → Result A ConfigRefusal → Reads A → Type 0
 Gives (Ok x) read = read ≡ Ok x
 Gives (Err e) read = Tells e (fault_of read)

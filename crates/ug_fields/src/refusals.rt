@@ -17,7 +17,7 @@ pub enum ConfigRefusal {
     /// top, with points between, and places counted from 0.
     #[error("the configuration is refused: {number}")]
     Refused { number: u8, field: ByteList },
-    /// Memory was wanting.
+    /// Memory ran out.
     #[error("memory was wanting")]
     NoMemory,
 }

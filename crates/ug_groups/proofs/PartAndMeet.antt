@@ -143,7 +143,7 @@ module _ (p q : Pooled OutAttrs) (xs ys : Entries) (g h : ℕ) (apart : (g == h)
         rows_gone next hand p q with_rows ys h with_kept other_gone (rows_in p with_rows) refl
         ∙ ap (λ (rs : Rows). without_row h rs) (rows_done p p xs with_rows g (with_queue (λ l. with_members l (keys_of done.other.subgroup.queue.places))) with_done next hand kept)
 
--- ---- where memory was wanting
+-- ---- where memory ran out
 
 pub part_room : (pool : Pooled OutAttrs) (xs : Entries) (g : ℕ) (e : Entry) → AreKept pool xs → value_of g xs ≡ Some e → HasRoom (length (adj_of e).formatted + length (adj_of e).desired) pool
 part_room pool xs g e kept there = by kept (room_in pool xs kept)

@@ -80,7 +80,7 @@ pub take-open : (w : World) (closed : Bool) (made : ℕ) (rows : Rows) (members 
 take-open w closed made rows members s view e so =
     ap (λ (x : System). x.closed) view ∙ not-true s.closed (third-of (is_none (verdict s.world e)) (nat_lt s.world.version 4294967295) (is_settled s) (not s.closed) so)
 
--- what is left where memory was wanting
+-- what is left where memory ran out
 pub spent-after : (w new : World) (closed : Bool) (made : ℕ) (rows then_rows : Rows) (members then_members : List Member) (e : Happening) → IsKept w closed made rows members → IsEvent e
     → ((w : World) (e : Happening) → IsGoodWorld w → IsEvent e → IsGoodWorld (after w e)) → (new ≡ w) ⊎ (new ≡ after w e) → then_rows ≡ [] → then_members ≡ [] → IsKept new true made then_rows then_members
 spent-after w new closed made rows then_rows members then_members e kept form law either none nobody =

@@ -16,8 +16,8 @@ use ug_live::Live;
 use ug_outbound::GroupKey;
 use ug_types::{NoMemory, OutAttrs, PeerList};
 
-/// One more, of which nothing was formatted and nothing is desired, without members. Want of memory, and of numbers, changes
-/// nothing.
+/// One more, of which nothing was formatted and nothing is desired, without members. Running out of memory, or of
+/// numbers, changes nothing.
 pub fn add(
     live: &mut Live<Entry>,
     next: u64,

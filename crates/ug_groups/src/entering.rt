@@ -24,8 +24,8 @@ use ug_types::{Key, Name, NoMemory, Prefix, Steps};
 use ug_world::World;
 
 /// The world is the one after the event, and each subgroup desires what its key should have in it. For each distinct key of
-/// theirs and each path that the event touches the outbound rules are run once. After want of
-/// memory the world is one of both, and nothing is said of the subgroups.
+/// theirs and each path that the event touches the outbound rules are run once. After running out of memory
+/// the world is one of both, and nothing is said of the subgroups.
 pub fn enter<L: Ledger>(
     alloc: Global,
     world: &mut World,

@@ -33,7 +33,7 @@ pub struct Groups {
 }
 
 impl Groups {
-    /// A machine that begins with this world. Want of memory hands the world back.
+    /// A machine that begins with this world. Running out of memory hands the world back.
     fn new(alloc: Global, world: World) -> Result<Groups, World>
         requires opening { IsOpening world }
         ensures first { IfOk result (λ groups. groups.first.value ≡ world) }

@@ -17,7 +17,7 @@ use crate::handed::Handed;
 use ug_live::Live;
 use ug_types::{NoMemory, PeerEnds, PeerId};
 
-/// Takes a member in, whose cursor is at the end. Want of memory changes nothing.
+/// Takes a member in, whose cursor is at the end. Running out of memory changes nothing.
 pub fn join(live: &mut Live<Entry>, g: u32, member: PeerId) -> Result<(), NoMemory>
     requires there { IsSome (value_of g live.old) }
     requires new { IfSome (value_of g live.old) (λ e. place_of e.subgroup.queue member ≡ None) }

@@ -86,8 +86,8 @@ impl Subgroups {
 
     // ---- that come and go
 
-    /// One more, of which nothing was formatted and nothing is desired, without members. Its number is answered. Want of
-    /// memory, and of numbers, changes nothing.
+    /// One more, of which nothing was formatted and nothing is desired, without members. Its number is answered.
+    /// Running out of memory, and of numbers, changes nothing.
     pub fn add(&mut self, key: GroupKey, limit: usize) -> Result<u32, NoMemory>
         ensures number { IfOk result (λ g. g ≡ length self.old) }
         ensures rows { OnOk result (self.new ≡ with_next (empty_row key limit) self.old) }
@@ -131,7 +131,7 @@ impl Subgroups {
 
     // ---- members
 
-    /// Takes a member in, whose cursor is at the end. Want of memory changes nothing.
+    /// Takes a member in, whose cursor is at the end. Running out of memory changes nothing.
     pub fn join(&mut self, g: u32, member: PeerId) -> Result<(), NoMemory>
         requires { HasRow g self.old (λ r. place_of r.queue member ≡ None) }
         ensures ok { OnOk result (self.new ≡ with_row g (joined_row member) self.old) }
@@ -196,8 +196,8 @@ impl Subgroups {
         Ok(())
     }
 
-    /// It has another key, whose sessions are the same. What peers of that key should have is told by other calls. Want of
-    /// memory changes nothing.
+    /// It has another key, whose sessions are the same. What peers of that key should have is told by other calls.
+    /// Running out of memory changes nothing.
     pub fn rekey(&mut self, g: u32, key: GroupKey) -> Result<(), NoMemory>
         requires { HasRow g self.old (λ r. session_of key ≡ session_of r.sub.key) }
         ensures rows { OnOk result (self.new ≡ with_row g (rekeyed_row key) self.old) }

@@ -76,7 +76,7 @@ impl Point {
         }
     }
 
-    /// A key is desired so from now on. What it was before. Want of memory changes nothing.
+    /// A key is desired so from now on. What it was before. Running out of memory changes nothing.
     fn want(&mut self, key: &Key, id: Option<AttrId>) -> Result<Option<AttrId>, NoMemory>
         requires own { IsKeyOf self.old.key.family self.old.key.add_path key.now }
         ensures was { IfOk result (λ was. was ≡ value_at key_order self.old.adj.desired key.now) }
@@ -88,7 +88,7 @@ impl Point {
     }
 
     /// A key is desired with what the id stands for from now on, or no more, and the pool counts it in place of what it was
-    /// desired with. Want of memory changes nothing.
+    /// desired with. Running out of memory changes nothing.
     pub fn desire(
         &mut self,
         pool: &mut Pool<OutAttrs>,
@@ -112,7 +112,7 @@ impl Point {
         Ok(())
     }
 
-    /// All routes are to be told again: between marks, or at once. Want of memory leaves it without routes.
+    /// All routes are to be told again: between marks, or at once. Running out of memory leaves it without routes.
     pub fn refresh(&mut self, pool: &Pool<OutAttrs>) -> Result<(), NoMemory>
         requires counted { IsCounted pool.now self.old.adj }
         ensures point { OnOk result (seen pool.now self.new ≡ asked (seen pool.now self.old)) }
@@ -144,7 +144,7 @@ impl Point {
         self.stuck = 0;
     }
 
-    /// Another event has passed, and its queue is full or not. A count that has no room is want of memory.
+    /// Another event has passed, and its queue is full or not. A count that has no room counts as out of memory.
     pub fn count(&mut self, full: bool) -> Result<(), NoMemory>
         ensures ok { OnOk result (self.new ≡ record self.old { stuck = if full && not (is_empty self.old.adj.pending) then self.old.stuck + 1 else 0 }) }
         ensures err { OnErr result (self.new ≡ self.old) }
@@ -290,7 +290,7 @@ impl Point {
         self.know_kept();
     }
 
-    /// All keys are forced. Want of memory leaves it without routes.
+    /// All keys are forced. Running out of memory leaves it without routes.
     #[tactic(auto, using(crate::proofs::KeptRibs::kept_forced, crate::proofs::KeptRibs::kept_nothing))]
     fn force(&mut self) -> Result<(), NoMemory>
         ensures point { OnOk result (self.new ≡ forced self.old) }

@@ -68,7 +68,7 @@ pub fn count(live: &mut Live<Entry>, g: u32) -> Result<(), NoMemory>
     entry.subgroup.count()
 }
 
-/// A key is desired with what the id stands for from now on, or no more. Want of memory changes nothing.
+/// A key is desired with what the id stands for from now on, or no more. Running out of memory changes nothing.
 pub fn desire(
     live: &mut Live<Entry>,
     pool: &mut Pool<OutAttrs>,

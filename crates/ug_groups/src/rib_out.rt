@@ -46,7 +46,7 @@ impl RibOut {
         RibOut { table }
     }
 
-    /// The key is desired so from now on. What it was before. Want of memory changes nothing.
+    /// The key is desired so from now on. What it was before. Running out of memory changes nothing.
     pub fn want(&mut self, key: &Key, id: Option<AttrId>) -> Result<Option<AttrId>, NoMemory>
         requires family { key.now.prefix.family ≡ self.old.family }
         ensures was { IfOk result (λ was. was ≡ value_at key_order self.old.adj.desired key.now) }
@@ -86,7 +86,7 @@ impl RibOut {
         marked
     }
 
-    /// All keys of both tables are forced. After want of memory some are.
+    /// All keys of both tables are forced. After running out of memory some are.
     pub fn force_all(&mut self) -> Result<(), NoMemory>
         ensures adj { OnOk result (self.new.adj ≡ with_all_forced key_order nat_eq self.old.adj) }
         ensures family { self.new.family ≡ self.old.family }

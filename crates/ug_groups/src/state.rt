@@ -35,7 +35,7 @@ use ug_types::{MarkList, NoMemory, PeerId, Steps};
 use ug_world::{World, sendable_laws};
 
 /// The world, whether there will be no more jobs, how many packets were formatted, the subgroups, and the peers in configured
-/// order. After want of memory there are no subgroups and no members any more, and no job may be done.
+/// order. After running out of memory there are no subgroups and no members any more, and no job may be done.
 #[derive(Drop)]
 pub struct GroupState {
     alloc: Global,
@@ -59,7 +59,7 @@ impl Model for GroupState {
 }
 
 impl GroupState {
-    /// The state before any job. Want of memory hands the world back.
+    /// The state before any job. Running out of memory hands the world back.
     pub fn new(alloc: Global, world: World) -> Result<GroupState, World>
         requires { IsOpening world }
         ensures ok { IfOk result (λ s. s ≡ start world) }

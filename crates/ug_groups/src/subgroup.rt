@@ -62,7 +62,7 @@ impl Subgroup {
         }
     }
 
-    /// Takes a member in, whose cursor is at the end. Want of memory leaves it as it was.
+    /// Takes a member in, whose cursor is at the end. Running out of memory leaves it as it was.
     pub fn join(&mut self, member: PeerId) -> Result<(), NoMemory>
         requires { place_of self.old.queue member ≡ None }
         ensures ok { OnOk result (self.new ≡ record self.old { queue = with_member self.old.queue member (length self.old.queue.packets) }) }
@@ -118,7 +118,7 @@ impl Subgroup {
         self.queue.leave(member);
     }
 
-    /// A key is desired with what the id stands for from now on, or no more. Want of memory changes nothing.
+    /// A key is desired with what the id stands for from now on, or no more. Running out of memory changes nothing.
     pub fn desire(
         &mut self,
         pool: &mut Pool<OutAttrs>,
@@ -139,7 +139,7 @@ impl Subgroup {
         self.point.desire(pool, key, id)
     }
 
-    /// All routes are to be told again: between marks, or at once. Want of memory leaves it without routes.
+    /// All routes are to be told again: between marks, or at once. Running out of memory leaves it without routes.
     pub fn refresh(&mut self, pool: &Pool<OutAttrs>) -> Result<(), NoMemory>
         requires counted { IsCounted pool.now self.old.point.adj }
         ensures point { OnOk result (seen pool.now self.new.point ≡ asked (seen pool.now self.old.point)) }
@@ -195,7 +195,7 @@ impl Subgroup {
         self.point.is_joinable(key)
     }
 
-    /// Another event has passed. A count that has no room is want of memory.
+    /// Another event has passed. A count that has no room counts as out of memory.
     pub fn count(&mut self) -> Result<(), NoMemory>
         ensures ok { OnOk result (self.new.point ≡ record self.old.point { stuck = if nat_le self.old.queue.limit (length self.old.queue.packets) && not (is_empty self.old.point.adj.pending) then self.old.point.stuck + 1 else 0 }) }
         ensures err { OnErr result (self.new ≡ self.old) }
@@ -233,8 +233,8 @@ impl Subgroup {
     }
 
     /// Members that stand at one point of the queue leave it together, for a subgroup of their own: with the tables, the flags
-    /// and the packets that they have still to take, and as one whose queue was never full. The pool counts its ids too. Want
-    /// of memory changes nothing.
+    /// and the packets that they have still to take, and as one whose queue was never full. The pool counts its ids
+    /// too. Running out of memory changes nothing.
     pub fn split(
         &mut self,
         pool: &mut Pool<OutAttrs>,
@@ -265,8 +265,8 @@ impl Subgroup {
         self.queue.leave_all(members);
     }
 
-    /// The members of the other move to the end of this one's queue, and the other ends: the pool counts its ids no more. Want
-    /// of memory hands the other back, and changes nothing.
+    /// The members of the other move to the end of this one's queue, and the other ends: the pool counts its ids no
+    /// more. Running out of memory hands the other back, and changes nothing.
     pub fn absorb(&mut self, pool: &mut Pool<OutAttrs>, other: Subgroup) -> Result<(), Subgroup>
         requires apart { (m : ℕ) → IsMember other.queue m → place_of self.old.queue m ≡ None }
         requires counted { IsCounted pool.old other.point.adj }
@@ -294,7 +294,7 @@ impl Subgroup {
         self.join_all(members.as_slice())
     }
 
-    /// Takes in members, whose cursors are at the end. Want of memory changes nothing.
+    /// Takes in members, whose cursors are at the end. Running out of memory changes nothing.
     fn join_all(&mut self, members: &[PeerId]) -> Result<(), NoMemory>
         requires { AreNewcomers self.old.queue members.now }
         ensures ok { OnOk result (self.new ≡ record self.old { queue = with_members self.old.queue members.now }) }

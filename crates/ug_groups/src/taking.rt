@@ -24,7 +24,7 @@ use ug_types::{Name, NoMemory, PeerId, Steps};
 use ug_world::World;
 
 /// Takes an event. For each distinct group key and each path that it touches, and for a key that no subgroup had with all paths,
-/// the outbound rules are run once. After want of memory nothing is said of subgroups and members.
+/// the outbound rules are run once. After running out of memory nothing is said of subgroups and members.
 pub(crate) fn take_event<L: Ledger>(
     alloc: Global,
     world: &mut World,

@@ -66,7 +66,7 @@ impl Hearing {
         Ok(failed)
     }
 
-    /// A refresh that can't be numbered any more, the 2^64th, is want of memory.
+    /// A refresh that can't be numbered any more, the 2^64th, counts as out of memory.
     fn begin(&mut self, alloc: Global) -> Result<Vec<Key>, NoMemory>
         ensures taken { IfOk result (λ failed. (entries : List (_)) (from : _) (to : _) (past : List Table) (tables : List Table) (ms : List Message) →
             IsCourse entries from to past tables → IsHeard entries from to past tables self.old.standings self.old.refreshing ms →

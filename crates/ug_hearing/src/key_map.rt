@@ -54,7 +54,7 @@ impl<V: Drop> KeyMap<V> {
         self.get(key).is_some()
     }
 
-    /// Gives the key this value. After want of memory all is as before.
+    /// Gives the key this value. After running out of memory all is as before.
     pub fn put(&mut self, key: Key, value: V) -> Result<(), NoMemory>
         ensures ok { OnOk result ((q : routes.Key) → value_for self.new q ≡ (if same_key key q then Some value else value_for self.old q)) }
         ensures err { OnErr result (self.new ≡ self.old) }

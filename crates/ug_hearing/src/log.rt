@@ -28,8 +28,8 @@ impl Log {
         }
     }
 
-    /// From a version on the key has this value. The version is behind those of all changes so far. After want of memory
-    /// the key's changes are lost.
+    /// From a version on the key has this value. The version is behind those of all changes so far. After running out
+    /// of memory the key's changes are lost.
     pub fn note(
         &mut self,
         alloc: Global,

@@ -125,7 +125,7 @@ impl<T: Eq + Hash + Drop> Pool<T> {
         }
     }
 
-    /// A new id for a value that is equal to no live one. Want of memory, and of ids, changes nothing.
+    /// A new id for a value that is equal to no live one. Running out of memory, or of ids, changes nothing.
     fn add(&mut self, value: T) -> Result<AttrId, NoMemory>
         requires { IsNew T.eq self.old value }
         ensures vacant { IfOk result (λ id. held self.old id ≡ None) }

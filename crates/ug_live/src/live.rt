@@ -123,7 +123,7 @@ impl<T> Live<T> {
         &mut entry.1
     }
 
-    /// One more, under the next number. Want of memory, and of numbers, hands it back and changes nothing.
+    /// One more, under the next number. Running out of memory, or of numbers, hands it back and changes nothing.
     pub fn push(&mut self, value: T) -> Result<u32, T>
         ensures number { IfOk result (λ g. g ≡ length self.old) }
         ensures ok { OnOk result (self.new ≡ self.old ++ Some value ∷ []) }

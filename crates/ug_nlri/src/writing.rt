@@ -18,7 +18,7 @@ pub fn size(key: &Key) -> usize
     key.weight()
 }
 
-/// Adds the route at the end, with its identifier where that isn't 0. Want of memory leaves the list as it was.
+/// Adds the route at the end, with its identifier where that isn't 0. Running out of memory leaves the list as it was.
 #[tactic(auto, unfolding(ug_message::specs::Spelling::route))]
 pub fn write(out: &mut ByteList, key: &Key) -> Result<(), NoMemory>
     ensures ok { OnOk result (out.new.items ≡ out.old.items ++ route (not (key.now.id == 0)) key.now) }

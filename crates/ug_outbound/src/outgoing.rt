@@ -22,7 +22,7 @@ use ug_types::{
 };
 
 /// What goes out of a path to the peers of a key; None exactly where nothing does. A prefix list that isn't there
-/// permits nothing, and a route map that isn't there gives none. One step is counted, also where memory is wanting.
+/// permits nothing, and a route map that isn't there gives none. One step is counted, also where memory runs out.
 pub fn outbound<L: Ledger>(
     alloc: Global,
     key: &GroupKey,

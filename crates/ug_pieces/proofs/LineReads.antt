@@ -28,7 +28,7 @@ module _ {S : Type 0} (P : List (List ℕ) → Type 0) (Qs : List (List ℕ) →
   no_line [] is = omega arith
   no_line (b ∷ read) is = absurd cc
 
-  -- memory was wanting before anything was read
+  -- memory ran out before anything was read
   unread :
       (r' : List ℕ) (n n' k' m' : ℕ)
       → HasRead left now (λ read. (read ≡ []) × HasTakenLines P k m r r' n n' k' m' read)

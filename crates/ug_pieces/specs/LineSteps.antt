@@ -28,7 +28,7 @@ HasStoppedWithin stops.TooMany takes stopped kept most rest before bytes =
     (most < before + length (lines_from rest bytes)) × takes (take (most - before) (kept_of kept (lines_from rest bytes)))
 HasStoppedWithin (stops.Stopped stop) takes stopped kept most rest before bytes = TakesSome most before (λ front. stopped front stop) (kept_of kept (ended_from rest bytes))
 
--- Why a line was not taken: there were so many lines, or memory was wanting and nothing changed, or what takes it stopped.
+-- Why a line was not taken: there were so many lines, or memory ran out and nothing changed, or what takes it stopped.
 abbrev pub HasStoppedAt : {S : Type 0} → LineStop S → Type 0 → Type 0 → (S → Type 0) → Type 0
 HasStoppedAt stops.NoMemory full same stopped = same
 HasStoppedAt stops.TooMany full same stopped = full × same

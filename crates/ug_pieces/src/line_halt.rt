@@ -5,7 +5,7 @@
 pub enum LineHalt<S> {
     /// The source could not be read.
     Read,
-    /// Memory was wanting.
+    /// Memory ran out.
     NoMemory,
     /// The source has more bytes than the limit.
     TooLong,

@@ -11,7 +11,7 @@ use ug_types::NoMemory;
 /// Why a line was not taken. `S` is why what takes them may stop.
 #[derive(Clone, Copy, Debug, PartialEq, Eq, Drop)]
 pub enum LineStop<S> {
-    /// Memory was wanting.
+    /// Memory ran out.
     NoMemory,
     /// There are more lines than the limit.
     TooMany,

@@ -65,7 +65,7 @@ refusal_in_order entries = refusal_where (not (rises seq_of entries)) entries
 abbrev pub IsPrefixList : List ListEntry → Type 0
 IsPrefixList entries = refusal_in_order entries ≡ None
 
--- a refusal tells its number; want of memory may come at any entries
+-- a refusal tells its number; running out of memory may come at any entries
 abbrev pub IsRefusal : ListRefusal → Option ℕ → Type 0
 IsRefusal (answers.Refused number) refusal = refusal ≡ Some number
 IsRefusal answers.NoMemory refusal = Unit {0}

@@ -98,8 +98,10 @@ abbrev pub goes_on : (ℕ → Option Mapped) → Mapped → Option ℕ → Optio
 goes_on walk m None = Some m
 goes_on walk m (Some least) = walk least
 
--- Over the entries in ascending order, those below `least` left out. A met deny entry gives none. A met permit entry
--- does its sets at once. At the end there is a result where a permit entry was met; this is this project's profile.
+-- The entries are tried by ascending number, from `least` on. One that isn't met is passed over. A met deny entry gives
+-- none, whatever it sets. A met permit entry does its sets at once; then the map ends with the result, goes on at the next
+-- entry, or at the first whose number is at least the given one. At the end there is a result where a permit entry was met,
+-- and none otherwise. This is this project's profile.
 abbrev pub map_walk : (Attributes → MapRule → Bool) → Attributes → ℕ → Option Mapped → List MapRule → Option Mapped
 map_walk met given least mapped [] = mapped
 map_walk met given least mapped (r ∷ rules) =

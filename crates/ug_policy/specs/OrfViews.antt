@@ -11,7 +11,7 @@ use Rattle.ug_policy.specs.OrfChanges.{OrfChange, OrfRequest, is_change}
 abbrev pub orf_seen : OrfMessage → OrfRequest
 orf_seen m = record { now = m.now; entries = m.entries.items }
 
--- Want of memory says nothing of the bytes.
+-- Out of memory says nothing of the bytes.
 abbrev pub IsRefusedBy : {A : Type 0} → OrfRefusal → Result A ℕ → Type 0
 IsRefusedBy refusals.NoMemory read = Unit {0}
 IsRefusedBy (refusals.Refused number) read = read ≡ Err number

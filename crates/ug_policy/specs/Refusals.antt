@@ -76,7 +76,7 @@ is_route_map rules = rises rule_seq rules && list_all is_ahead rules && nat_le (
 abbrev pub IsRouteMap : List MapRule → Type 0
 IsRouteMap rules = is_route_map rules ≡ true
 
--- a refusal tells its number; want of memory may come at any entries
+-- a refusal tells its number; running out of memory may come at any entries
 abbrev pub IsRefusal : MapRefusal → Option ℕ → Type 0
 IsRefusal (answers.Refused number) refusal = refusal ≡ Some number
 IsRefusal answers.NoMemory refusal = Unit {0}

@@ -3,6 +3,6 @@
 pub enum ListRefusal {
     /// 1 two entries have one sequence number, 2 an entry isn't good, 3 there are over 1,024.
     Refused { number: u8 },
-    /// Memory was wanting.
+    /// Memory ran out.
     NoMemory,
 }

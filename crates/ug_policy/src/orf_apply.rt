@@ -13,7 +13,7 @@ use ug_types::NoMemory;
 
 /// Makes the changes in their order. An entry that is added takes the place of the one of its sequence; where there is
 /// none, it comes before the first of a greater sequence, and else at the end. One that is removed takes away the one
-/// of its sequence, where there is one. The sequences of the list rise before and after. Want of memory changes
+/// of its sequence, where there is one. The sequences of the list rise before and after. Running out of memory changes
 /// nothing.
 #[tactic(auto, unfolding(crate::specs::OrfApplying::applied))]
 pub fn apply_orf(entries: &mut EntryList, message: &OrfMessage) -> Result<(), NoMemory>

@@ -15,7 +15,7 @@ pub enum OrfRefusal {
     /// reserved byte isn't 0.
     #[error("no list of a peer's own: {number}")]
     Refused { number: u8 },
-    /// Memory was wanting.
+    /// Memory ran out.
     #[error("memory was wanting")]
     NoMemory,
 }

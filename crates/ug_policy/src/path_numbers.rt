@@ -19,7 +19,7 @@ pub fn drop_private_numbers(numbers: &mut NumberList)
     numbers.retain(|number| !is_private(*number));
 }
 
-/// Puts a number in front. Want of memory leaves the numbers as they were.
+/// Puts a number in front. Running out of memory leaves the numbers as they were.
 pub fn put_in_front(numbers: &mut NumberList, asn: u32) -> Result<(), NoMemory>
     ensures ok { OnOk result (numbers.new.items ≡ asn ∷ numbers.old.items) }
     ensures err { OnErr result (numbers.new.items ≡ numbers.old.items) }

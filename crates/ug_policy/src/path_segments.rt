@@ -10,7 +10,7 @@ use ug_types::{NoMemory, Segment, SegmentList, Sequence};
 
 #[tactic(auto, using(crate::proofs::Edits::into_first, crate::proofs::Edits::first_kept))]
 /// Puts a number in front of a path: into the first segment where that is an AS_SEQUENCE of fewer than 255 numbers,
-/// else as a new AS_SEQUENCE. Want of memory leaves the path as it was.
+/// else as a new AS_SEQUENCE. Running out of memory leaves the path as it was.
 pub fn prepend(alloc: Global, path: &mut SegmentList, asn: u32) -> Result<(), NoMemory>
     ensures ok { OnOk result (map segment_of path.new.items ≡ prepended asn (map segment_of path.old.items)) }
     ensures err { OnErr result (map segment_of path.new.items ≡ map segment_of path.old.items) }

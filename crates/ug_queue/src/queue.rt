@@ -157,7 +157,7 @@ impl<P> Queue<P> {
         self.line.count_at_front()
     }
 
-    /// Adds a packet at the end. Want of memory hands it back and leaves the queue as it was.
+    /// Adds a packet at the end. Running out of memory hands it back and leaves the queue as it was.
     pub fn append(&mut self, packet: P) -> Result<(), P>
         requires room { length self.old.packets < self.old.limit }
         requires members { 0 < length self.old.places }
@@ -168,7 +168,7 @@ impl<P> Queue<P> {
         self.line.append(packet)
     }
 
-    /// Takes a member in, whose cursor is at the end. Want of memory leaves the queue as it was.
+    /// Takes a member in, whose cursor is at the end. Running out of memory leaves the queue as it was.
     pub fn join_at_end(&mut self, member: PeerId) -> Result<(), NoMemory>
         requires { place_of self.old member ≡ None }
         ensures ok { OnOk result (self.new ≡ with_member self.old member (length self.old.packets)) }
@@ -177,7 +177,7 @@ impl<P> Queue<P> {
         self.line.join(member)
     }
 
-    /// Takes in members, whose cursors are at the end. Want of memory leaves the queue as it was.
+    /// Takes in members, whose cursors are at the end. Running out of memory leaves the queue as it was.
     pub fn join_all_at_end(&mut self, members: &[PeerId]) -> Result<(), NoMemory>
         requires { AreNewcomers self.old members.now }
         ensures ok { OnOk result (self.new ≡ with_members self.old members.now) }

@@ -37,7 +37,7 @@ pub fn remove_v6(rows: &mut BTreeMap<V6Key, Row>, key: &Key)
     rows.remove(&V6Key::narrow(key));
 }
 
-/// Gives the key this row. After want of memory the rows are as before.
+/// Gives the key this row. After running out of memory the rows are as before.
 pub fn put_v4(rows: &mut BTreeMap<V4Key, Row>, key: &Key, row: Row) -> Result<(), NoMemory>
     requires { key.now.prefix.family ≡ V4 }
     ensures row { OnOk result (IsChanged key.now (Some row) rows.old.entries rows.new.entries) }
@@ -48,7 +48,7 @@ pub fn put_v4(rows: &mut BTreeMap<V4Key, Row>, key: &Key, row: Row) -> Result<()
     Ok(())
 }
 
-/// Gives the key this row. After want of memory the rows are as before.
+/// Gives the key this row. After running out of memory the rows are as before.
 pub fn put_v6(rows: &mut BTreeMap<V6Key, Row>, key: &Key, row: Row) -> Result<(), NoMemory>
     requires { key.now.prefix.family ≡ V6 }
     ensures row { OnOk result (IsChanged key.now (Some row) rows.old.entries rows.new.entries) }

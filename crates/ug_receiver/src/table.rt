@@ -63,7 +63,7 @@ impl Table {
 
     /// Does what a message says. An UPDATE removes the withdrawn routes, gives each announced one the attributes, and
     /// no key that it names is stale then. The begin of a refresh makes all rows stale, and its end removes those that
-    /// still are. After want of memory some of the changes may be made.
+    /// still are. After running out of memory some of the changes may be made.
     pub fn apply(&mut self, item: &Item) -> Result<(), NoMemory>
         ensures table { OnOk result ((key : route_keys.Key) →
             (reading_of self.new).table key ≡ (applied (reading_of self.old) (message_of item.now)).table key) }
@@ -115,7 +115,7 @@ impl Table {
         }
     }
 
-    /// Gives each of these keys the attributes. After want of memory some have them.
+    /// Gives each of these keys the attributes. After running out of memory some have them.
     fn announce(&mut self, keys: &[Key], attrs: &Attrs) -> Result<(), NoMemory>
         ensures row { OnOk result ((q : route_keys.Key) → row_at self.new.rows q ≡ (if among keys.now q then Some attrs.now else row_at self.old.rows q)) }
         ensures stale { OnOk result ((q : route_keys.Key) → among self.new.stale q ≡ (if among keys.now q then false else among self.old.stale q)) }
@@ -159,7 +159,7 @@ impl Table {
         }
     }
 
-    /// All rows are stale then. A refresh that can't be numbered any more, the 2^64th, is want of memory.
+    /// All rows are stale then. A refresh that can't be numbered any more, the 2^64th, counts as out of memory.
     fn begin_refresh(&mut self) -> Result<(), NoMemory>
         ensures row { OnOk result ((q : route_keys.Key) → row_at self.new.rows q ≡ row_at self.old.rows q) }
         ensures stale { OnOk result ((q : route_keys.Key) → among self.new.stale q ≡ is_some (row_at self.old.rows q)) }

@@ -23,7 +23,7 @@ pub enum Status {
     ReportFault,
     /// A wire could not be made.
     SiteFault,
-    /// Memory was wanting.
+    /// Memory ran out.
     NoMemory,
     /// A limit of the input was passed.
     TooLong,

@@ -1,7 +1,7 @@
 /// Why a report tells nothing.
 #[derive(Clone, Copy, Debug, PartialEq, Eq)]
 pub enum Stop {
-    /// Memory was wanting.
+    /// Memory ran out.
     NoMemory,
     /// There are more lines than the limit, and those within it are clear.
     TooMany,

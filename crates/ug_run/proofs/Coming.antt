@@ -254,7 +254,7 @@ module _ {Opening State Job Said : Type 0} (rules : Rules Opening State Job Said
     tallied_at : (ahead lines : List (Reads Saying)) (stands : StandsAt rules speech root ahead lines (names_in w) seen before.held mid b.tally) → IsTally (last_world w ahead) lines b.tally
     tallied_at ahead lines stands = subst (λ (v : World). IsTally (last_world v ahead) lines b.tally) root_is stands.tallied
 
-    -- Memory was wanting when all this was told of the lines that were taken.
+    -- Memory ran out when all this was told of the lines that were taken.
     starved : (ahead lines : List (Reads Saying)) (stands : StandsAt rules speech root ahead lines (names_in w) seen before.held mid b.tally) → Each IsSound ahead → Each IsSound lines
         → (later : List (Reads Saying)) → first ≡ ahead ++ later → (later ≡ []) ⊎ ((read ≡ []) × (lines ≡ []))
         → (untaken : List (Reads Saying)) → said (lines_read (is_empty rest) read) ≡ lines ++ untaken
@@ -415,7 +415,7 @@ module _ {Opening State Job Said : Type 0} (rules : Rules Opening State Job Said
       report = then_status before.held mid held failed (concat (texts_of w first (said (lines_read (is_empty rest) read)) stands.marks)) (status_text statuses.TooLong) (reported_at first (said (lines_read (is_empty rest) read)) stands) line;
     })
 
-    -- memory was wanting, or the report could not be written, when some of the lines were taken
+    -- memory ran out, or the report could not be written, when some of the lines were taken
     some_sound : (some more : List (Reads Saying)) → said (lines_read (is_empty rest) read) ≡ some ++ more → Each IsSound some
     some_sound some more parts = each-front IsSound some more (subst (λ (ls : List (Reads Saying)). Each IsSound ls) parts (lines-sound grammar (lines_read (is_empty rest) read)))
 
@@ -446,7 +446,7 @@ module _ {Opening State Job Said : Type 0} (rules : Rules Opening State Job Said
           (subst (λ (v : World). IsReportedUntil stops.Report before.held mid (texts_of v first stop.some stop.marks)) root_is stop.reported));
     })
 
-    -- memory was wanting for one of the first events, or before them
+    -- memory ran out for one of the first events, or before them
     not_begun : read ≡ [] → (ahead more : List (Reads Saying)) → first ≡ ahead ++ more → StandsAt rules speech root ahead [] (names_in w) seen before.held mid b.tally
         → AppendsThenStatus mid held failed [] (status_text statuses.NoMemory) → IsRunAt statuses.NoMemory
     not_begun none ahead more parts stands line =

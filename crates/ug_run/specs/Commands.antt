@@ -45,7 +45,7 @@ abbrev pub up_p1 : List (Reads Saying)
 up_p1 = Ok (Says (ComesUp (codes "p1"))) ∷ []
 
 -- Why a configuration stands for no world, by the status: the file is there, and it is refused or too long; of a read that failed and of
--- want of memory nothing is said.
+-- running out of memory nothing is said.
 abbrev pub IsUnconfigured : FileTold → Status → Type 0
 IsUnconfigured file (statuses.Config number field) = (file ≡ Missing → ⊥) × IsConfigured file (Err (record { number = number; field = field.items }))
 IsUnconfigured file statuses.TooLong = (file ≡ Missing → ⊥) × IsTooLong file

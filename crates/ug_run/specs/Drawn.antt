@@ -29,7 +29,7 @@ abbrev pub drawn_events : ℕ → List Happening
 drawn_events number = workload number 6 4000
 
 -- What the report of a run got that came to this world and these counts, by the status: the text, a front of it where the report
--- failed, and the status line alone where memory was wanting. It comes to nothing else.
+-- failed, and the status line alone where memory ran out. It comes to nothing else.
 abbrev pub IsSummed : ℕ → World → ℕ → ℕ → Status → Option (List ℕ) → Option (List ℕ) → Type 0 → Type 0
 IsSummed number last accepted refused statuses.Ok before held failed = (text : List ℕ) × HasText number last accepted refused text × AppendsPiece before held text
 IsSummed number last accepted refused statuses.ReportFault before held failed = failed × (text : List ℕ) × HasText number last accepted refused text × AppendsFront before held text
@@ -55,8 +55,9 @@ module _ {Opening State Job Said : Type 0} (rules : Rules Opening State Job Said
     pub drained : speech.drained (replay rules root history) ≡ true
     pub closed : speech.closed (replay rules root history) ≡ true
 
-  -- The report is that of the workload of this number: its counts, and where each peer stands in its last world. Unless memory was
-  -- wanting the history is that of a run over it; and however it ended no job may follow, unless the board was spent.
+  -- The report is that of the workload of this number: its counts, and where each peer stands in its last world. Unless
+  -- memory ran out the history is that of a run over it; and however it ended no job may follow, unless the board was
+  -- spent.
   pub record IsSelfRun (number : ℕ) (status : Status) (history : List (Entry Job Said)) (spent : Bool) (before held : Option (List ℕ)) (failed : Type 0) : Type 0 where
     pub summed : IsSummed number (last_world drawn_world (lines_of (drawn_events number))) (accepted_count drawn_world (lines_of (drawn_events number)))
         (refused_count drawn_world (lines_of (drawn_events number))) status before held failed

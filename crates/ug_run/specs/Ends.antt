@@ -36,7 +36,7 @@ module _ (names : List (List ℕ)) (losses : List Loss) (accepted refused : ℕ)
   IsConcluded (statuses.Refuted peer session kind message key) = ⊥
   IsConcluded (statuses.Unclear line) = ⊥
 
-  -- the same, unless a loss was passed over for want of memory
+  -- the same, unless a loss was passed over since memory ran out
   abbrev pub CompletesBy : Bool → Status → Type 0
   CompletesBy false status = IsConcluded status
   CompletesBy true status = (status ≡ statuses.NoMemory) × AppendsThenStatus before held failed [] (status_text statuses.NoMemory)

@@ -72,7 +72,7 @@ module _ {Opening State Job Said : Type 0} (rules : Rules Opening State Job Said
 
   -- What was done is what the history says: it is legal from an opening in this world, its events and marks are those of the
   -- lines that were taken, in their order, and each wire holds what its lane was handed. At its end no job may follow, unless
-  -- the board was spent: then one may, for which memory was wanting.
+  -- the board was spent: then one may, for which memory ran out.
   pub record IsDoneBy (completed : Bool) : Type 0 where
     pub root : Opening
     pub begins : speech.first root ≡ w
@@ -142,7 +142,7 @@ module _ {Opening State Job Said : Type 0} (rules : Rules Opening State Job Said
     pub front : said_in grammar (is_empty c.rest) c ≡ c.lines ++ untaken
     pub report : AppendsFront run.before.held run.after.held (concat (texts w c)) ⊎ FailsInClosing untaken
 
-  -- Status 6: memory was wanting. Lines were taken from the front; where it was wanting for one of those ahead of the file,
+  -- Status 6: memory ran out. Lines were taken from the front; where it was wanting for one of those ahead of the file,
   -- nothing was read. The report got what it says of some of them, each whole.
   pub record EndsWithoutMemory : Type 0 where
     pub cut : IsCut

@@ -35,7 +35,7 @@ IsUnread name file names names' is_open left =
     AppendsAll names names' [] ⊎ (AppendsAll names names' (name ∷ []) × (rest : List ℕ) × IsPartOf file [] rest × AgreesWithSite is_open left [] rest)
 
 -- Why nobody was told anything, by the status, and how many wires were made for so many peers: the file of events could not be
--- picked, a wire could not be made, or memory was wanting.
+-- picked, a wire could not be made, or memory ran out.
 abbrev pub IsEarly : (peers wires : ℕ) → (is_open : Bool) → Status → Type 0
 IsEarly peers wires is_open statuses.ReadFault = (is_open ≡ false) × (wires ≡ peers)
 IsEarly peers wires is_open statuses.SiteFault = wires ≤ peers
@@ -78,7 +78,7 @@ module _ {Opening State Job Said : Type 0} (rules : Rules Opening State Job Said
     pub outcome : IsOutcome rules speech w grammar first run course run.status
 
   -- Of what was done, from an opening in this world, no job may follow, unless the board was spent: then one may, for which
-  -- memory was wanting.
+  -- memory ran out.
   pub record IsStoppedFrom (w : World) (spent : Bool) (history : List (Entry Job Said)) : Type 0 where
     pub root : Opening
     pub first : speech.first root ≡ w

@@ -5,7 +5,8 @@ use Rattle.ug_commands.specs.declared.stop.Stop.{Stop}
 use Rattle.ug_commands.specs.declared.stop.Stop.TheVariants as stops
 use Rattle.ug_commands.specs.Listed.{IsConfigured, IsTooLong}
 
--- The file is there and too long, or what it stands for is a refusal; of a read that failed and of want of memory nothing is said.
+-- The file is there and too long, or what it stands for is a refusal; of a read that failed and of running out of
+-- memory nothing is said.
 abbrev pub IsStopOf : FileTold → Stop → Type 0
 IsStopOf file stops.Read = Unit {0}
 IsStopOf file stops.NoMemory = Unit {0}

@@ -37,7 +37,7 @@ use ug_types::{NameList, NoMemory, Sequence, Steps};
 use ug_world::World;
 
 /// How a run ended, the wires that were made for it, in configured order, what was done, step by step, and whether its
-/// board was spent: memory was wanting in the midst of a job, and no further job could be done.
+/// board was spent: memory ran out in the midst of a job, and no further job could be done.
 #[derive(Drop)]
 pub struct Done<W: Wire, S: Speaker> {
     pub status: Status,

@@ -34,7 +34,7 @@ const PEERS: u32 = 6;
 const EVENTS: u32 = 4000;
 
 /// Runs over the workload of a number, all of whose events come before the first line of an empty file, and reports what it
-/// came to. Its wires are its own, and no call of theirs is to fail; so where one did, memory was wanting.
+/// came to. Its wires are its own, and no call of theirs is to fail; so where one did, memory ran out.
 pub(crate) fn selfrun<S: Speaker, R: Threads + Wait + Sync, W: Wire, K: Sink, L: Ledger>(
     rt: &R,
     alloc: Global,
@@ -132,7 +132,7 @@ fn empty_site(alloc: Global) -> Result<MemSite, NoMemory>
     )
 }
 
-/// Ends a run that came to this status: where it is `Ok` with the summary, and else for want of memory.
+/// Ends a run that came to this status: where it is `Ok` with the summary, and else out of memory.
 fn end_drawn<K: Sink>(
     alloc: Global,
     number: u64,

@@ -59,8 +59,9 @@ use ug_types::{Name, NoMemory, Sequence, Steps};
 ///
 /// `ReadFault`, `ReportFault` and `SiteFault` come only where that count of faults rose, `Config` exactly where the
 /// configuration is refused, `TooLong` only past a limit of a file, `Lost` only where a wire failed, and `Malformed` exactly
-/// where the stream's first fault is that one; want of memory can end a run at any point. `Refuted` comes exactly where that
-/// session is the first that isn't right, and `Unclear` where that line of a report is the first that tells nothing clear.
+/// where the stream's first fault is that one; running out of memory can end a run at any point. `Refuted` comes
+/// exactly where that session is the first that isn't right, and `Unclear` where that line of a report is the first
+/// that tells nothing clear.
 pub fn serve<S: Speaker, R: Threads + Wait + Sync, E: Site, K: Sink, L: Ledger>(
     rt: &R,
     alloc: Global,

@@ -34,7 +34,7 @@ pub fn names_of(alloc: Global, world: &World) -> Result<NameList, NoMemory>
 pub enum Unmade {
     /// The site could not make one.
     Failed,
-    /// Memory was wanting.
+    /// Memory ran out.
     NoMemory,
 }
 

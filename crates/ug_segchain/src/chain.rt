@@ -47,7 +47,7 @@ impl<T> SegChain<T> {
         }
     }
 
-    /// Makes room for `n` further items. Want of memory leaves the items as they were.
+    /// Makes room for `n` further items. Running out of memory leaves the items as they were.
     pub fn reserve(&mut self, n: usize) -> Result<(), NoMemory>
         ensures items { self.new.items ≡ self.old.items }
         ensures room { OnOk result (n ≤ self.new.spare) }

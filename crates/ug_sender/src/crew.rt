@@ -37,7 +37,7 @@ impl<W: Wire, M: Machine> Model for Crew<W, M> {
 }
 
 impl<W: Wire, M: Machine> Crew<W, M> {
-    /// A crew of these lanes, each of which works here. Want of memory hands them back.
+    /// A crew of these lanes, each of which works here. Running out of memory hands them back.
     pub fn new(
         alloc: Global,
         lanes: Sequence<Lane<W, M>>,

@@ -76,7 +76,7 @@ impl<W: Wire, M: Machine> Model for Lane<W, M> {
 }
 
 impl<W: Wire, M: Machine> Lane<W, M> {
-    /// A lane over a wire without sessions, with a pass without entries. Want of memory hands both back.
+    /// A lane over a wire without sessions, with a pass without entries. Running out of memory hands both back.
     pub fn new(
         alloc: Global,
         wire: W,

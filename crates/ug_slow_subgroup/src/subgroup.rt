@@ -27,7 +27,7 @@ use ug_world::World;
 /// whether End-of-RIB is still due, whether nothing was formatted yet, the phase of its refresh, and through how many
 /// events in a row its queue was full with keys pending.
 ///
-/// After want of memory a part of a change may be made.
+/// After running out of memory a part of a change may be made.
 #[derive(Drop)]
 pub struct Subgroup {
     alloc: Global,
@@ -269,7 +269,7 @@ impl Subgroup {
         self.stuck = 0;
     }
 
-    /// Another event has passed, and its queue is full or not. A count that has no room is want of memory.
+    /// Another event has passed, and its queue is full or not. A count that has no room counts as out of memory.
     pub fn count(&mut self, full: bool) -> Result<(), NoMemory>
         ensures { OnOk result (self.new ≡ record self.old { stuck = if full && is_pending self.old then self.old.stuck + 1 else 0 }) }
     {

@@ -21,7 +21,8 @@ pub enum Answer {
     Refused { number: u8, inner: Option<u8> },
 }
 
-/// Reads a line, without its newline, and takes its event where the world accepts it. Want of memory changes nothing.
+/// Reads a line, without its newline, and takes its event where the world accepts it. Running out of memory changes
+/// nothing.
 pub fn take_line(alloc: Global, world: &mut World, line: &[u8]) -> Result<Answer, NoMemory>
     requires version { world.old.version < 4294967295 }
     ensures world { OnOk result (world.new ≡ world_after world.old (outcome world.old (line_of line.now))) }

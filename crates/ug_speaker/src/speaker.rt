@@ -17,7 +17,7 @@ use ug_world::World;
 pub trait Speaker: Machine {
     ghost speech: { Speech Self.Opening Self.State Self.Job Self.Said };
 
-    /// A machine that begins with this world. Want of memory hands the world back.
+    /// A machine that begins with this world. Running out of memory hands the world back.
     fn begin_with(alloc: Global, world: World) -> Result<Self, World>
         requires opening { IsOpening world }
         ensures first { IfOk result (λ machine. speech.first (Self.opening machine) ≡ world) }

@@ -11,7 +11,7 @@ use crate::address::write_address;
 use crate::lists::{write_clusters, write_communities, write_path};
 use ug_types::{Addr, Aggregator, AttrParts, Attrs, NoMemory};
 
-/// Adds the attributes, each behind a space. After want of memory a part of them may be there.
+/// Adds the attributes, each behind a space. After running out of memory a part of them may be there.
 #[tactic(auto, unfolding(crate::specs::Texts::attributes_text))]
 pub fn write_attributes(out: &mut String, attrs: &Attrs) -> Result<(), NoMemory>
     ensures { OnOk result (string_bytes out.new ≡ string_bytes out.old ++ attributes_text attrs.now) }

@@ -8,7 +8,7 @@ use crate::address::write_prefix;
 use crate::attributes::write_attributes;
 use ug_types::{Attrs, Key, NoMemory};
 
-/// Adds the row of a route, with its newline. After want of memory a part of it may be there.
+/// Adds the row of a route, with its newline. After running out of memory a part of it may be there.
 pub fn write_row(out: &mut String, key: &Key, attrs: &Attrs) -> Result<(), NoMemory>
     ensures { OnOk result (string_bytes out.new ≡ string_bytes out.old ++ row_text key.now attrs.now) }
 {

@@ -27,7 +27,7 @@ impl<'a> RowWriter<'a> {
         }
     }
 
-    /// Adds the row of a route, with its newline. After want of memory a part of it may be there.
+    /// Adds the row of a route, with its newline. After running out of memory a part of it may be there.
     pub fn write_row(
         &mut self,
         out: &mut String,

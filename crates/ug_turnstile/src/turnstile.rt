@@ -50,7 +50,7 @@ impl<S: Logged> Model for Turnstile<S> {
 }
 
 impl<S: Logged> Turnstile<S> {
-    /// A turnstile round the state, and its passes, numbered from 0. Want of memory hands the state back.
+    /// A turnstile round the state, and its passes, numbered from 0. Running out of memory hands the state back.
     pub fn new(alloc: Global, state: S, n: u32) -> Result<(Turnstile<S>, PassList<S>), S>
         requires some { 1 ≤ n }
         requires fresh { S.entries state ≡ [] }

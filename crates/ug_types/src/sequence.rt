@@ -64,7 +64,7 @@ impl<T> Sequence<T> {
         self.items
     }
 
-    /// Adds an item at the end. Want of memory hands it back and leaves the list as it was.
+    /// Adds an item at the end. Running out of memory hands it back and leaves the list as it was.
     pub fn push(&mut self, item: T) -> Result<(), T>
         ensures ok { OnOk result (self.new.items ≡ self.old.items ++ item ∷ []) }
         ensures err { OnErr result (self.new.items ≡ self.old.items) }
@@ -119,7 +119,7 @@ impl<T> Sequence<T> {
         self.items.remove(i)
     }
 
-    /// Puts an item at place `i`. Want of memory hands it back and leaves the list as it was.
+    /// Puts an item at place `i`. Running out of memory hands it back and leaves the list as it was.
     pub fn insert(&mut self, i: usize, item: T) -> Result<(), T>
         requires { i ≤ length self.old.items }
         ensures ok { OnOk result (self.new.items ≡ insert self.old.items i item) }
@@ -152,7 +152,7 @@ impl<T> Sequence<T> {
         self.items.as_slice()
     }
 
-    /// Makes room for `n` further items. Want of memory changes nothing.
+    /// Makes room for `n` further items. Running out of memory changes nothing.
     pub fn reserve(&mut self, n: usize) -> Result<(), NoMemory>
         ensures items { self.new.items ≡ self.old.items }
         ensures room { OnOk result (n ≤ self.new.spare) }
@@ -172,7 +172,7 @@ impl<T> Sequence<T> {
         &mut self.items[i]
     }
 
-    /// Adds the items of a slice at the end. Want of memory leaves the list as it was.
+    /// Adds the items of a slice at the end. Running out of memory leaves the list as it was.
     pub fn extend_from_slice(&mut self, piece: &[T]) -> Result<(), NoMemory>
     where
         T: Copy,

@@ -13,12 +13,12 @@ fault_of f = walking.fault f.cause f.place
 abbrev pub parts_of : Parts → reading.Parts
 parts_of p = record { withdrawn = p.withdrawn.now; attributes = p.attributes.now; announced = p.announced.now }
 
--- Want of memory says nothing of the bytes.
+-- Out of memory says nothing of the bytes.
 abbrev pub Fails : {Y : Type 0} → MessageFault → Result Y walking.Fault → Type 0
 Fails faults.NoMemory read = Unit {0}
 Fails (faults.Refused f) read = read ≡ Err (fault_of f)
 
--- What a function returned, seen by view, is what reading gives, unless memory was wanting.
+-- What a function returned, seen by view, is what reading gives, unless memory ran out.
 abbrev pub Gives : {X Y : Type 0} → (X → Y) → Result X MessageFault → Result Y walking.Fault → Type 0
 Gives view (Ok x) read = read ≡ Ok (view x)
 Gives view (Err e) read = Fails e read

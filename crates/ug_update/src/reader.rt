@@ -75,7 +75,7 @@ impl Reader {
         }
     }
 
-    /// Adds the next piece of the stream. Behind a fault it adds nothing. Want of memory changes nothing.
+    /// Adds the next piece of the stream. Behind a fault it adds nothing. Running out of memory changes nothing.
     pub fn feed(&mut self, piece: &[u8]) -> Result<(), NoMemory>
         requires { self.old.stopped ≡ false → self.old.taken + length self.old.left + length piece.now < 2 ^ 64 }
         ensures ok { OnOk result (self.new ≡ fed self.old piece.now) }
@@ -92,8 +92,8 @@ impl Reader {
         self.left.push(piece)
     }
 
-    /// What comes next: a message, nothing before more bytes come, or a fault, which is answered ever after. Want of
-    /// memory changes nothing.
+    /// What comes next: a message, nothing before more bytes come, or a fault, which is answered ever after. Running
+    /// out of memory changes nothing.
     pub fn next(&mut self) -> Result<Next, NoMemory>
         ensures answer { IfOk result (λ next. answer_of next ≡ answer_at self.old.taken (front self.old)) }
         ensures state { OnOk result (self.new ≡ state_after self.old (front self.old)) }

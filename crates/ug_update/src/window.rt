@@ -47,7 +47,7 @@ impl Window {
         left
     }
 
-    /// Adds a piece at the end. Want of memory leaves the bytes as they were.
+    /// Adds a piece at the end. Running out of memory leaves the bytes as they were.
     pub fn push(&mut self, piece: &[u8]) -> Result<(), NoMemory>
         ensures ok { OnOk result (self.new ≡ self.old ++ piece.now) }
         ensures err { OnErr result (self.new ≡ self.old) }

@@ -49,7 +49,7 @@ impl Judge {
         judge
     }
 
-    /// The session's next message comes. 2^64 - 1 messages are want of memory; after want of memory nothing
+    /// The session's next message comes. 2^64 - 1 messages count as out of memory; after that nothing
     /// is known.
     pub fn message(&mut self, alloc: Global, session: &Session, item: &Item) -> Result<(), NoMemory>
         ensures { OnOk result ((past : List Table) (tables : List Table) (ms : List Message) → IsSession session.now past tables →

@@ -123,7 +123,7 @@ impl LocRib {
         }
     }
 
-    /// Gives a prefix these paths, in place of those before. Want of memory changes nothing.
+    /// Gives a prefix these paths, in place of those before. Running out of memory changes nothing.
     pub fn set(&mut self, prefix: Prefix, best: Best) -> Result<(), NoMemory>
         requires room { is_overfull (insert_entry prefix_cmp self.old prefix best) ≡ false }
         ensures ok { OnOk result (self.new ≡ insert_entry prefix_cmp self.old prefix best) }

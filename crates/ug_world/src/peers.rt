@@ -89,7 +89,7 @@ impl Peers {
         }
     }
 
-    /// The filter that waits is in force at it. Want of memory changes nothing.
+    /// The filter that waits is in force at it. Running out of memory changes nothing.
     pub fn refilter(&mut self, alloc: Global, name: &Name) -> Result<(), NoMemory>
         ensures ok { OnOk result (self.new ≡ map (changed_peer name.now refiltered) self.old) }
         ensures err { OnErr result (self.new ≡ self.old) }
@@ -101,7 +101,7 @@ impl Peers {
         Ok(())
     }
 
-    /// Its filter is changed by a message. Want of memory changes nothing.
+    /// Its filter is changed by a message. Running out of memory changes nothing.
     pub fn apply_message(
         &mut self,
         alloc: Global,

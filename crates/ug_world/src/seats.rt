@@ -35,7 +35,7 @@ pub fn set_policy(seat: &mut PeerState, policy: Option<Name>)
     seat.peer.policy = policy;
 }
 
-/// The filter that waits is in force. Want of memory changes nothing.
+/// The filter that waits is in force. Running out of memory changes nothing.
 pub fn refilter(alloc: Global, seat: &mut PeerState) -> Result<(), NoMemory>
     ensures ok { OnOk result (seat.new ≡ refiltered seat.old) }
     ensures err { OnErr result (seat.new ≡ seat.old) }
@@ -45,8 +45,8 @@ pub fn refilter(alloc: Global, seat: &mut PeerState) -> Result<(), NoMemory>
     Ok(())
 }
 
-/// The filter that waits is changed by a message, and put in force where the message says so. Want of memory changes
-/// nothing.
+/// The filter that waits is changed by a message, and put in force where the message says so. Running out of memory
+/// changes nothing.
 pub fn apply_message(
     alloc: Global,
     seat: &mut PeerState,

@@ -21,7 +21,7 @@ use ug_policy::{EntryList, ListRefusal, OrfMessage, PrefixList};
 use ug_types::{Learned, Name, NoMemory, Path, Prefix};
 
 impl World {
-    /// The world after an event that it accepts. Want of memory changes nothing.
+    /// The world after an event that it accepts. Running out of memory changes nothing.
     pub fn take(&mut self, alloc: Global, event: &Event) -> Result<(), NoMemory>
         requires accepted { verdict self.old (event_of event.now) ≡ None }
         requires kept { IsEvent (event_of event.now) }

@@ -94,7 +94,7 @@ fn ipv6_address(bits: u128) -> Addr
 }
 
 /// Adds MP_REACH_NLRI up to its routes, which have so many bytes, and answers where the next hop stands in the list.
-/// Want of memory leaves the list as it was.
+/// Running out of memory leaves the list as it was.
 #[tactic(auto, using(ug_message::proofs::Heads::length_head), unfolding(ug_message::specs::Heads::reach_head))]
 pub fn write_reach(out: &mut ByteList, next_hop: &Addr, routes: usize) -> Result<usize, NoMemory>
     requires { 21 + routes ≤ 65535 }

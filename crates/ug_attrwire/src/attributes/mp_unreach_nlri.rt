@@ -64,7 +64,7 @@ fn unreach_in(all: &[u8], place: usize, bytes: &[u8]) -> Result<Placed, Attribut
     })
 }
 
-/// Adds MP_UNREACH_NLRI up to its routes, which have so many bytes. Want of memory leaves the list as it was.
+/// Adds MP_UNREACH_NLRI up to its routes, which have so many bytes. Running out of memory leaves the list as it was.
 #[tactic(auto, using(ug_message::proofs::Heads::length_head), unfolding(ug_message::specs::Heads::unreach_head))]
 pub fn write_unreach(out: &mut ByteList, routes: usize) -> Result<(), NoMemory>
     requires { 3 + routes ≤ 65535 }
