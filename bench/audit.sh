@@ -8,20 +8,11 @@
 # other numbers than these.
 set -e
 source "$(dirname "$0")/measure.sh"
+source bench/fabric.sh
 runs=${RUNS:-3}
 peers=${PEERS:-32}
 syncs=${SYNCS:-10000}
 longest=${LONGEST:-1073741824}
-
-# config PEERS: that many external peers of one group.
-config() {
-    awk -v n="$1" 'BEGIN {
-        printf "[local]\nas = 65001\nrouter_id = \"10.255.0.1\"\ncoalesce = 4096\n"
-        for (i = 1; i <= n; i++) {
-            printf "\n[[peer]]\nname = \"p%d\"\nas = %d\nrouter_id = \"10.200.%d.2\"\n", i, 65100 + i, i
-            printf "address = \"10.200.%d.2\"\nlocal_address = \"10.200.%d.1\"\nsubnet = \"10.200.%d.0/24\"\n", i, i, i
-        } }'
-}
 
 # events PREFIXES PEERS SYNCS: the sessions, and then the routes with so many `sync` lines among them.
 events() {
@@ -78,7 +69,7 @@ long() {
     echo "a session of $((count * 23)) bytes, $count messages: $seconds s, peak $kib KiB"
 }
 
-config "$peers" > "$work/config"
+config "$peers" 1 4096 > "$work/config"
 for marks in 0 "$syncs"; do
     times=()
     for n in ${PREFIXES:-50000 200000}; do

@@ -4,15 +4,16 @@
 # whether a line took less than a tenth of a second. Of RUNS runs (3) the shortest counts. PREFIXES and PEERS are other numbers.
 set -e
 source "$(dirname "$0")/measure.sh"
+source bench/fabric.sh
 runs=${RUNS:-3}
 prefixes=${PREFIXES:-200000}
 peers=${PEERS:-64}
 lines=${LINES:-100}
 
-awk -v n="$peers" 'BEGIN {
-    printf "[local]\nas = 65001\nrouter_id = \"10.255.0.1\"\ncoalesce = 4096\n\n[[prefix_list]]\nname = \"unused\"\n"
-    for (i = 1; i <= n; i++)
-        printf "\n[[peer]]\nname = \"p%d\"\nas = %d\nrouter_id = \"10.200.%d.2\"\naddress = \"10.200.%d.2\"\nlocal_address = \"10.200.%d.1\"\nsubnet = \"10.200.%d.0/24\"\n", i, 65100 + i, i, i, i, i }' > "$work/config"
+{
+    config "$peers" 1 4096
+    printf '\n[[prefix_list]]\nname = "unused"\n'
+} > "$work/config"
 
 # events LINES: the sessions, the routes, a sync, and so many lines of the list.
 events() {
