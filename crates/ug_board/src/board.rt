@@ -7,14 +7,16 @@ ghost use Rattle.ug_board.specs.Rules.{buffer_size, lane_said, LeavesHanded};
 ghost use Rattle.ug_board.specs.History.{IsLegal, MayGoOn, fresh_board, state_of, job_entry, lane_entries, spent_said};
 
 use crate::behind::{due_behind, job_behind, lane_behind, may_lose_behind};
-use crate::entry::{BoardEntry, HistoryList};
+use crate::entry::BoardEntry;
+use crate::history::{History, HistoryList};
+use crate::kept::Done;
 use crate::machine::Machine;
 use crate::steps::{LaneSaid, LaneStep};
 use std::alloc::Global;
 use std::marker::Model;
 use std::sync::ledger::Ledger;
 use ug_turnstile::Logged;
-use ug_types::{NoMemory, PeerId, Sequence, Steps};
+use ug_types::{NoMemory, PeerId, Steps};
 
 /// A machine and the history of its steps. Contracts see the opening, the history and whether the board is spent.
 /// The history is legal. A board is spent only where its history leaves a job that may be done; else its machine stands
@@ -25,6 +27,7 @@ pub struct Board<M: Machine> {
     machine: Box<M>,
     history: HistoryList<M>,
     spent: bool,
+    alloc: Global,
 }
 
 impl<M: Machine> Model for Board<M> {
@@ -46,7 +49,7 @@ impl<M: Machine> Board<M> {
         ensures ok { IfOk result (λ board. board ≡ fresh_board (M.opening machine)) }
         ensures returned { IfErr result (λ back. back ≡ machine) }
     {
-        let mut history: HistoryList<M> = Sequence::new(alloc);
+        let mut history: HistoryList<M> = History::new(alloc);
         let Ok(()) = history.reserve(machine.due() as usize) else {
             return Err(machine);
         };
@@ -55,6 +58,7 @@ impl<M: Machine> Board<M> {
                 machine,
                 history,
                 spent: false,
+                alloc,
             }),
             Err(refused) => Err(refused.value),
         }
@@ -86,8 +90,9 @@ impl<M: Machine> Board<M> {
         }
         let said = job_behind(&mut self.machine, &job, steps)?;
         let kept = M::copy_said(&said)?;
+        let done = enclose(self.alloc, job, kept)?;
         make_room(&mut self.history, due_behind(&self.machine))?;
-        record(&mut self.history, BoardEntry::of_job(pass, job, kept));
+        self.history.add_job(pass, done);
         self.spent = false;
         Ok(said)
     }
@@ -129,14 +134,10 @@ impl<M: Machine> Board<M> {
         }
         let said = lane_behind(&mut self.machine, LaneStep::Next { peer }, buf);
         match said {
-            LaneSaid::Begun { session } => record(
-                &mut self.history,
-                BoardEntry::of_begun(pass, peer, session),
-            ),
-            LaneSaid::Hand { session, made, len } => record(
-                &mut self.history,
-                BoardEntry::of_hand(pass, peer, session, made, len),
-            ),
+            LaneSaid::Begun { session } => self.history.add_begun(pass, peer, session),
+            LaneSaid::Hand { session, made, len } => {
+                self.history.add_hand(pass, peer, session, made, len)
+            }
             LaneSaid::Idle | LaneSaid::Stop | LaneSaid::Noted => {}
         }
         said
@@ -154,7 +155,7 @@ impl<M: Machine> Board<M> {
     {
         if !self.spent && may_lose_behind(&self.machine, peer, session) {
             let _said = lane_behind(&mut self.machine, LaneStep::Lost { peer, session }, buf);
-            record(&mut self.history, BoardEntry::of_lost(pass, peer, session));
+            self.history.add_lost(pass, peer, session);
         }
         LaneSaid::Noted
     }
@@ -206,8 +207,18 @@ impl<M: Machine> Logged for Board<M> {
     }
 }
 
-/// Makes room for one entry and for those that are due after it. Running out of memory changes nothing.
-fn make_room<J, R>(history: &mut Sequence<BoardEntry<J, R>>, due: u64) -> Result<(), NoMemory>
+/// Puts a job and what was said to it behind a pointer.
+fn enclose<J: Drop, R: Drop>(alloc: Global, job: J, said: R) -> Result<Box<Done<J, R>>, NoMemory>
+    ensures { IfOk result (λ done. done.value ≡ record { job = job; said = said }) }
+{
+    match Box::new(alloc, Done { job, said }) {
+        Ok(done) => Ok(done),
+        Err(_refused) => Err(NoMemory),
+    }
+}
+
+/// Makes room for one entry and for those that are due after it. Running out of memory changes no entry.
+fn make_room<J, R>(history: &mut History<J, R>, due: u64) -> Result<(), NoMemory>
     ensures items { history.new.items ≡ history.old.items }
     ensures room { OnOk result (due + 1 ≤ history.new.spare) }
 {
@@ -215,15 +226,4 @@ fn make_room<J, R>(history: &mut Sequence<BoardEntry<J, R>>, due: u64) -> Result
         return Err(NoMemory);
     };
     history.reserve(room as usize)
-}
-
-/// Adds an entry, for which there is room.
-fn record<J: Drop, R: Drop>(history: &mut Sequence<BoardEntry<J, R>>, entry: BoardEntry<J, R>)
-    requires { 1 ≤ history.old.spare }
-    ensures items { history.new.items ≡ history.old.items ++ entry ∷ [] }
-    ensures spare { history.old.spare ≤ history.new.spare + 1 }
-{
-    let Ok(()) = history.push(entry) else {
-        return;
-    };
 }

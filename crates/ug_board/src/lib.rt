@@ -4,10 +4,13 @@
 mod behind;
 mod board;
 mod entry;
+mod history;
+mod kept;
 mod machine;
 mod steps;
 
 pub use board::Board;
-pub use entry::{BoardEntry, HistoryList};
+pub use entry::BoardEntry;
+pub use history::{History, HistoryList};
 pub use machine::Machine;
 pub use steps::{BoardSaid, BoardStep, LaneSaid, LaneStep};

@@ -148,7 +148,8 @@ fn tell_numbers(alloc: Global, lines: &mut Vec<Told>, done: &Ended) -> Result<()
 /// A line with the numbers of the packets that were handed out in a session.
 fn numbers_of(alloc: Global, done: &Ended, peer: PeerId, session: u32) -> Result<String, Wrong> {
     let mut text = format!(in alloc; "made {}.{session}", peer.saturating_add(1))?;
-    for entry in done.history.as_slice() {
+    for i in 0..done.history.len() {
+        let entry = done.history.at(i);
         let BoardStep::Lane(LaneStep::Next { peer: to }) = entry.step() else {
             continue;
         };

@@ -1,5 +1,5 @@
 -- The losses of a history, peer by peer.
-use Rattle.std.proofs.Common.{◌≡◌, ℕ, zero, suc, ◌+◌, Bool, true, false, List, [], ◌∷◌, ◌++◌, map, refl, sym, ◌∙◌, ap, append_assoc, arith}
+use Rattle.std.proofs.Common.{◌≡◌, ℕ, zero, suc, ◌+◌, Bool, true, false, List, [], ◌∷◌, ◌++◌, map, refl, sym, ◌∙◌, ap, append_assoc, arith, drop, slice_get, Some}
 use Rattle.std.specs.Prelude.{◌==◌, if◌then◌else◌}
 use Rattle.std.specs.List.{flat_map}
 use Rattle.std.proofs.lemmas.Bool.{eqb-true}
@@ -72,3 +72,11 @@ from_told history p (suc count) =
 
 pub all_told : {J R : Type 0} (history : List (Entry J R)) (count : ℕ) → by_peers (losses_told history) 0 count ≡ losses_from 0 (all_losses 0 count history)
 all_told history count = from_told history 0 count
+
+-- the loss of the entry in a place, and those of the entries behind it
+pub next_told : {J R : Type 0} (history : List (Entry J R)) (i : ℕ) (entry : Entry J R) → slice_get history i ≡ Some entry → losses_told (drop i history) ≡ loss_in entry.step ++ losses_told (drop (i + 1) history)
+next_told [] i entry there = absurd cc
+next_told {J} {R} (first ∷ history) zero entry there = let same : first ≡ entry = cc in ap (λ (e : Entry J R). loss_in e.step ++ losses_told history) same
+next_told {J} {R} (first ∷ history) (suc i) entry there =
+    let further : suc (i + 1) ≡ suc i + 1 = omega arith in
+    next_told history i entry there ∙ ap (λ n. loss_in entry.step ++ losses_told (drop n (first ∷ history))) further

@@ -24,7 +24,7 @@ use std::alloc::Global;
 use std::sync::Wait;
 use std::sync::ledger::Ledger;
 use std::thread::Threads;
-use ug_board::{Board, HistoryList};
+use ug_board::{Board, History, HistoryList};
 use ug_commands::{end, pick};
 use ug_edge::{Sink, Site, Source, Wire};
 use ug_event_loop::{Builder, Grammar, Reading, read_beside};
@@ -57,7 +57,7 @@ impl<W: Wire, S: Speaker> Done<W, S> {
         Done {
             status,
             wires,
-            history: Sequence::new(alloc),
+            history: History::new(alloc),
             spent: false,
         }
     }
@@ -291,14 +291,7 @@ fn run_begun<S: Speaker, R: Threads + Wait + Sync, E: Site, K: Sink, L: Ledger>(
         tally,
         unnoted,
     };
-    let status = finish(
-        alloc,
-        names.as_slice(),
-        peers,
-        outcome,
-        history.as_slice(),
-        report,
-    );
+    let status = finish(alloc, names.as_slice(), peers, outcome, &history, report);
     Done {
         status,
         wires,

@@ -12,7 +12,7 @@ ghost use Rattle.ug_run.specs.Ends.{last_text, IsFirst, IsConcluded, CompletesBy
 
 use crate::losses::losses_of;
 use std::alloc::Global;
-use ug_board::BoardEntry;
+use ug_board::History;
 use ug_commands::end;
 use ug_edge::{Failed, Sink};
 use ug_event_loop::{End, Tally};
@@ -35,10 +35,10 @@ pub(crate) fn finish<J: Drop, R: Drop, K: Sink>(
     names: &[Name],
     peers: u32,
     outcome: Outcome,
-    history: &[BoardEntry<J, R>],
+    history: &History<J, R>,
     report: &mut K,
 ) -> Status
-    ensures finished { IsFinished names.now (losses_from 0 (all_losses 0 peers history.now)) outcome.tally.accepted outcome.tally.refused
+    ensures finished { IsFinished names.now (losses_from 0 (all_losses 0 peers history.now.items)) outcome.tally.accepted outcome.tally.refused
         (K.held report.old) (K.held report.new) (Rose (K.faults report.old) (K.faults report.new)) outcome.end outcome.unnoted result }
     ensures faults { K.faults report.old ≤ K.faults report.new }
 {
@@ -57,10 +57,10 @@ fn complete<J: Drop, R: Drop, K: Sink>(
     names: &[Name],
     peers: u32,
     outcome: Outcome,
-    history: &[BoardEntry<J, R>],
+    history: &History<J, R>,
     report: &mut K,
 ) -> Status
-    ensures completes { CompletesBy names.now (losses_from 0 (all_losses 0 peers history.now)) outcome.tally.accepted outcome.tally.refused
+    ensures completes { CompletesBy names.now (losses_from 0 (all_losses 0 peers history.now.items)) outcome.tally.accepted outcome.tally.refused
         (K.held report.old) (K.held report.new) (Rose (K.faults report.old) (K.faults report.new)) outcome.unnoted result }
     ensures faults { K.faults report.old ≤ K.faults report.new }
 {

@@ -1,12 +1,13 @@
 //! The losses of a history, in the order of the report: by peer, and then by session.
 
 ghost use Rattle.std.specs.Prelude.{◌≡◌, ◌+◌, ◌++◌, IfOk, OnOk};
+ghost use Rattle.ug_board.specs.Seen.{seen_step};
 ghost use Rattle.ug_report.specs.Report.{losses_from};
 ghost use Rattle.ug_run_rules.specs.Crew.{all_losses};
 ghost use Rattle.ug_run.specs.Losses.{loss_in, losses_told, losses_to};
 
 use std::alloc::Global;
-use ug_board::{BoardEntry, BoardStep, LaneStep};
+use ug_board::{BoardEntry, BoardStep, History, LaneStep};
 use ug_report::Loss;
 use ug_types::{NoMemory, PeerId};
 
@@ -16,9 +17,9 @@ use ug_types::{NoMemory, PeerId};
 pub(crate) fn losses_of<J: Drop, R: Drop>(
     alloc: Global,
     peers: u32,
-    history: &[BoardEntry<J, R>],
+    history: &History<J, R>,
 ) -> Result<Vec<Loss>, NoMemory>
-    ensures { IfOk result (λ losses. losses.items ≡ losses_from 0 (all_losses 0 peers history.now)) }
+    ensures { IfOk result (λ losses. losses.items ≡ losses_from 0 (all_losses 0 peers history.now.items)) }
 {
     let told = losses_told(alloc, history)?;
     let mut losses = Vec::new(alloc);
@@ -31,13 +32,14 @@ pub(crate) fn losses_of<J: Drop, R: Drop>(
 /// The losses of a history, as they come in it.
 fn losses_told<J: Drop, R: Drop>(
     alloc: Global,
-    history: &[BoardEntry<J, R>],
+    history: &History<J, R>,
 ) -> Result<Vec<Loss>, NoMemory>
-    ensures { IfOk result (λ losses. losses.items ≡ losses_told history.now) }
+    ensures { IfOk result (λ losses. losses.items ≡ losses_told history.now.items) }
 {
     let mut losses = Vec::new(alloc);
-    for entry in history {
-        add_loss(&mut losses, entry)?;
+    for i in 0..history.len() {
+        let entry = history.at(i);
+        add_loss(&mut losses, &entry)?;
     }
     Ok(losses)
 }
@@ -45,9 +47,9 @@ fn losses_told<J: Drop, R: Drop>(
 /// Adds the loss of an entry, where it is one.
 fn add_loss<J: Drop, R: Drop>(
     losses: &mut Vec<Loss>,
-    entry: &BoardEntry<J, R>,
+    entry: &BoardEntry<&J, &R>,
 ) -> Result<(), NoMemory>
-    ensures { OnOk result (losses.new.items ≡ losses.old.items ++ loss_in entry.now.step) }
+    ensures { OnOk result (losses.new.items ≡ losses.old.items ++ loss_in (seen_step entry.now.step)) }
 {
     if let BoardStep::Lane(LaneStep::Lost { peer, session }) = entry.step() {
         losses.push(Loss { peer, session })?;

@@ -82,7 +82,7 @@ returns-clause-done g c = λ w events before opens is names_is peers_is alike fi
       faults = g.K.Sink.faults c.finish-status.new.report;
     })
     (subst (λ fs. HasPicked fs events (g.E.Source.left c.args.site.now)) (sym files_is) picked) refl (ap (λ p. p.is_open) c.read_lines-lanes.ensures.picks ∙ stays) (sym held_is) (map g.E.Wire.Wire.made_for c.close-history.result.wires.items)
-    c.args.start.peers peers_is c.as_slice.result.now (c.as_slice.ensures ∙ c.into_parts-pass.ensures.names) c.tally-tally.result c.tally-tally.ensures c.as_slice-2.result.now c.as_slice-2.ensures
+    c.args.start.peers peers_is c.as_slice.result.now (c.as_slice.ensures ∙ c.into_parts-pass.ensures.names) c.tally-tally.result c.tally-tally.ensures c.close-history.result.history.items refl
     _ (λ rose. subst (λ (n : ℕ). Rose n (g.K.Sink.faults c.finish-status.new.report)) (sym faults_is) (Rose-later _ _ _ ended.writes c.finish-status.ensures.faults rose)) c.finish-status.result c.finish-status.ensures.finished
     c.close-history.result.wires.items c.close-history.ensures.wires c.close-history.result.spent c.close-history.ensures.spent c.close-history.ensures.open
 

@@ -1,5 +1,8 @@
 use Rattle.std.proofs.Common.{rules, ◌≡◌, true, false, refl, sym, ◌∙◌}
+use Rattle.ug_board.specs.declared.steps.BoardStep.TheVariants.{Lane as LaneTakes}
+use Rattle.ug_board.specs.declared.steps.BoardSaid.TheVariants.{Lane as LaneGot}
 use Rattle.ug_board.specs.declared.steps.LaneStep.TheVariants.{Lost}
+use Rattle.ug_board.specs.declared.steps.LaneSaid.TheVariants.{Noted}
 use Rattle.ug_board.specs.Rules.{counts}
 use Rattle.ug_board.proofs.Histories.{IsLegal-grown, IsInStep-lane}
 use Rattle.ug_board.proofs.board.Board.lost.Goals as goal
@@ -10,9 +13,9 @@ returns-then-may_lose_behind-clause-legal g c =
     let in_step = c.self.invariant.1 unspent in
     let may : counts g.M.Machine.rules (Lost c.args.peer c.args.session) (g.M.Machine.state c.self.inside.machine.value) ≡ true =
     sym c.may_lose_behind.ensures ∙ c.if-may_lose_behind.true in
-    IsLegal-grown g.M.Machine.rules _ _ _ _ c.of_lost.result (g.M.Machine.state c.self.inside.machine.value)
+    IsLegal-grown g.M.Machine.rules _ _ _ _ (record { pass = c.args.pass; step = LaneTakes (Lost c.args.peer c.args.session); said = LaneGot Noted }) (g.M.Machine.state c.self.inside.machine.value)
     c.lane_behind-said.ensures.opening in_step.stands c.self.invariant.0
-    (rw c.of_lost.ensures (may, refl)) c.record.ensures.items
+    (may, refl) c.add_lost.ensures.items
 
 pub invariant_of-self : goal.invariant_of-self
 invariant_of-self g c =
@@ -22,8 +25,8 @@ invariant_of-self g c =
     let may : counts g.M.Machine.rules (Lost c.args.peer c.args.session) (g.M.Machine.state c.self.inside.machine.value) ≡ true =
     sym c.may_lose_behind.ensures ∙ c.if-may_lose_behind.true in (
       returns-then-may_lose_behind-clause-legal g c,
-      λ same. IsInStep-lane g.M.Machine.rules laws.lawful _ _ _ _ c.of_lost.result _ _ _ _ _ _ (Lost c.args.peer c.args.session)
-          c.lane_behind-said.ensures.opening in_step (rw c.of_lost.ensures refl) may c.lane_behind-said.ensures.state
-          c.record.ensures.items c.record.ensures.spare c.lane_behind-said.ensures.jobs,
+      λ same. IsInStep-lane g.M.Machine.rules laws.lawful _ _ _ _ (record { pass = c.args.pass; step = LaneTakes (Lost c.args.peer c.args.session); said = LaneGot Noted }) _ _ _ _ _ _ (Lost c.args.peer c.args.session)
+          c.lane_behind-said.ensures.opening in_step refl may c.lane_behind-said.ensures.state
+          c.add_lost.ensures.items c.add_lost.ensures.spare c.lane_behind-said.ensures.jobs,
       λ spent. let same = unspent in absurd cc,
     )
