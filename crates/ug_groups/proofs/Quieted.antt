@@ -1,6 +1,6 @@
 -- What is due at each peer, one after another.
-use Rattle.std.proofs.Common.{◌≡◌, ℕ, zero, suc, ◌+◌, ◌*◌, ◌-◌, ◌<◌, ◌≤◌, Bool, true, List, [], ◌∷◌, length, map, drop, slice_get, Option, Some, None, refl, sym, ap, ◌∙◌, arith}
-use Rattle.ug_queue.specs.Queues.{rest_of}
+use Rattle.std.proofs.Common.{◌≡◌, ℕ, zero, suc, ◌+◌, ◌*◌, ◌-◌, ◌<◌, ◌≤◌, Bool, true, false, List, [], ◌∷◌, length, map, drop, slice_get, Option, Some, None, refl, sym, ap, ◌∙◌, arith}
+use Rattle.ug_queue.specs.Queues.{rest_of, place_of, from_place}
 use Rattle.std.specs.Prelude.{◌&&◌, ◌==◌, not, nat_lt, nat_le}
 use Rattle.std.specs.Option.{option_map}
 use Rattle.std.proofs.lemmas.Bool.Decides.{nat_tests}
@@ -14,7 +14,7 @@ use Rattle.ug_group_rules.specs.Packets.{Packet}
 use Rattle.ug_group_rules.specs.Machine as machine
 use Rattle.ug_group_rules.specs.Machine.{Seat, is_seat_quiet, is_member_quiet, are_quiet}
 use Rattle.ug_group_rules.specs.Rules.{rest_due, member_due, due}
-use Rattle.ug_groups.specs.Rows.{Row, Rows, row_at}
+use Rattle.ug_groups.specs.Rows.{Row, Rows, row_at, any_at, some_row, has_packets}
 use Rattle.ug_groups.specs.declared.member.Member.{Member}
 use Rattle.ug_groups.specs.Members.{rest_in, seat_in, member_of, members_from, sub_at}
 use Rattle.ug_groups.specs.Kept.{AreRows}
@@ -23,6 +23,7 @@ use Rattle.ug_groups.proofs.Seats.{second-of, sits-sub}
 use Rattle.ug_groups.proofs.Queued.{apart-test}
 use Rattle.ug_groups.proofs.MemberViews.{sub-is}
 use Rattle.ug_groups.proofs.RowTests.{rest-most}
+use Rattle.ug_groups.proofs.WorkDue.{some_row_is}
 
 -- the member at a place, and those behind it
 drop-at : {T : Type 0} (xs : List T) (p : ℕ) (x : T) → slice_get xs p ≡ Some x → drop p xs ≡ x ∷ drop (p + 1) xs
@@ -111,6 +112,24 @@ left-few w rows members p limit kept each is = by (sub_at p members) refl
         let same = (kept.2.tabled g row.0 row.1).limit in
         let here : length (rest_in p (row_at g rows)) ≡ length (rest_of row.0.queue p) = ap (λ (o : Option Row). length (rest_in p o)) row.1 in
         omega (arith, most, bound, same, here, is)
+
+-- where no queue holds a packet, nobody has one to take
+pub nothing-left : (rows : Rows) (p : ℕ) (o : Option ℕ) → some_row has_packets rows ≡ false → 0 ≡ rest_due (option_map (seat_in rows p) o)
+nothing-left rows p None none = refl
+nothing-left rows p (Some g) none = by (row_at g rows) refl
+  where
+    no_packet : (packets : List Packet) (place : Option ℕ) → length packets ≡ 0 → 0 ≡ length (from_place packets place)
+    no_packet packets None e = refl
+    no_packet [] (Some place) e = sym (ap (λ (l : List Packet). length l) (none-behind [] place (omega arith)))
+    no_packet (x ∷ packets) (Some place) e = absurd (omega (arith, e))
+
+    empty : (r : Row) → row_at g rows ≡ Some r → (b : Bool) → has_packets r ≡ b → length r.queue.packets ≡ 0
+    empty r at true e = let no : true ≡ false = sym (some_row_is has_packets rows g (ap (any_at has_packets) at ∙ e)) ∙ none in absurd cc
+    empty r at false e = grind (arith, nat_tests)
+
+    by : (o : Option Row) → row_at g rows ≡ o → 0 ≡ length (rest_in p (row_at g rows))
+    by None at = ap (λ (o : Option Row). length (rest_in p o)) (sym at)
+    by (Some r) at = no_packet r.queue.packets (place_of r.queue p) (empty r at (has_packets r) refl) ∙ ap (λ (o : Option Row). length (rest_in p o)) (sym at)
 
 pub is-inside : (w : World) (rows : Rows) (members : List Member) (p : ℕ) → WereKept w rows members → p < length members → p < length w.peers
 is-inside w rows members p kept less = let le = kept.2.within in omega arith

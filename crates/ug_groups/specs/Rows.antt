@@ -145,6 +145,10 @@ any_row test g (Some r ∷ rows) = test g r || any_row test (g + 1) rows
 abbrev pub some_row : (Row → Bool) → Rows → Bool
 some_row test rows = any_row (λ g r. test r) 0 rows
 
+-- its queue holds a packet
+abbrev pub has_packets : Row → Bool
+has_packets r = nat_lt 0 (length r.queue.packets)
+
 -- two of them may merge
 abbrev pub some_merge : Rows → Bool
 some_merge rows = any_row (λ g r. any_row (λ h s. not (g == h) && may_merge_rows r s) 0 rows) 0 rows

@@ -13,7 +13,7 @@ ghost use Rattle.ug_groups.specs.Standings.{IsFit, desiring};
 ghost use Rattle.ug_groups.specs.Sent.{session_of};
 ghost use Rattle.ug_groups.specs.Subgroups.{IsHanded, StandTogether};
 ghost use Rattle.ug_groups.specs.Entries.{IsKept};
-ghost use Rattle.ug_groups.specs.Rows.{Row, Rows, row_at, any_at, HasRow, Sits, subs_of, keys_in, with_sub, with_queue, with_row, without_row, with_next, each_row, of_key, empty_row, joined_row, left_row, formatted_row, rekeyed_row, tabled_row, rest_row, part_row, absorbing_row, counted_row, may_format_row, may_merge_rows, must_part_row, some_row, some_merge, IsRow};
+ghost use Rattle.ug_groups.specs.Rows.{Row, Rows, row_at, any_at, HasRow, Sits, subs_of, keys_in, with_sub, with_queue, with_row, without_row, with_next, each_row, of_key, empty_row, joined_row, left_row, formatted_row, rekeyed_row, tabled_row, rest_row, part_row, absorbing_row, counted_row, may_format_row, may_merge_rows, must_part_row, some_row, has_packets, some_merge, IsRow};
 
 use crate::classes::place_of_key;
 use crate::entry::Entry;
@@ -405,5 +405,12 @@ impl Subgroups {
         ensures { result ≡ some_row (λ r. owes r.sub) self.now }
     {
         scans::place_that_owes(self.live.entries()).is_some()
+    }
+
+    /// Whether one of their queues holds a packet.
+    pub fn some_have_packets(&self) -> bool
+        ensures { result ≡ some_row has_packets self.now }
+    {
+        scans::place_with_packets(self.live.entries()).is_some()
     }
 }

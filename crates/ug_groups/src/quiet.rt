@@ -2,7 +2,7 @@
 
 ghost use Rattle.std.specs.Prelude.{◌≡◌, ◌+◌, ◌*◌, ◌-◌, ◌^◌, ◌<◌, ◌≤◌, nat_lt, not, ◌&&◌, ◌==◌, length};
 ghost use Rattle.ug_group_rules.specs.Machine.{owes, are_quiet};
-ghost use Rattle.ug_groups.specs.Rows.{must_part_row, some_row, some_merge};
+ghost use Rattle.ug_groups.specs.Rows.{must_part_row, some_row, has_packets, some_merge};
 ghost use Rattle.ug_group_rules.specs.Rules.{due, rest_due};
 ghost use Rattle.std.specs.Option.{option_map};
 ghost use Rattle.ug_groups.specs.Members.{seat_in, members_from, sub_at};
@@ -27,6 +27,18 @@ fn left(subgroups: &Subgroups, members: &[Member], peer: PeerId) -> usize
     }
 }
 
+/// The same, where `held` says whether any queue holds a packet: no member is looked up where none does.
+fn left_of(held: bool, subgroups: &Subgroups, members: &[Member], peer: PeerId) -> usize
+    requires seated { AreSeated subgroups.now members.now }
+    requires held { held ≡ some_row has_packets subgroups.now }
+    ensures { result ≡ rest_due (option_map (seat_in subgroups.now peer) (sub_at peer members.now)) }
+{
+    if held {
+        return left(subgroups, members, peer);
+    }
+    0
+}
+
 /// How many steps of lanes are due at most.
 pub fn due_of(world: &World, subgroups: &Subgroups, members: &[Member]) -> u64
     requires { WereKept world.now subgroups.now members.now }
@@ -34,10 +46,11 @@ pub fn due_of(world: &World, subgroups: &Subgroups, members: &[Member]) -> u64
 {
     subgroups.know_rows();
     let limit = world.local().queue_limit;
+    let held = subgroups.some_have_packets();
     let mut due: u64 = 0;
     for place in 0..members.len() {
         let peer = place as PeerId;
-        let left = left(subgroups, members, peer);
+        let left = left_of(held, subgroups, members, peer);
         due += due_at(&members[place], world.session(peer), left, limit);
     }
     due

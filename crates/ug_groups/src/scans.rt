@@ -2,7 +2,7 @@
 
 ghost use Rattle.std.specs.Prelude.{◌≡◌, ◌==◌, ◌&&◌, not, position, is_some, IfSome, ◌<◌, length};
 ghost use Rattle.ug_group_rules.specs.Machine.{owes, is_joinable};
-ghost use Rattle.ug_groups.specs.Rows.{may_format_row, must_part_row};
+ghost use Rattle.ug_groups.specs.Rows.{has_packets, may_format_row, must_part_row};
 ghost use Rattle.ug_groups.specs.Entries.{bare, may_merge_entries};
 ghost use Rattle.ug_groups.specs.Scans.{number_at};
 
@@ -41,6 +41,13 @@ pub fn place_that_owes(entries: &[(u32, Entry)]) -> Option<usize>
     ensures { result ≡ position (λ r. owes (bare r.1).sub) entries.now }
 {
     entries.iter().position(|e| states::owes(&e.1))
+}
+
+/// The first whose queue holds a packet.
+pub fn place_with_packets(entries: &[(u32, Entry)]) -> Option<usize>
+    ensures { result ≡ position (λ r. has_packets (bare r.1)) entries.now }
+{
+    entries.iter().position(|e| states::has_packets(&e.1))
 }
 
 /// The first that a session of this key that starts may share.

@@ -2,7 +2,7 @@
 
 ghost use Rattle.std.specs.Prelude.{◌≡◌, ◌==◌, ◌&&◌, nat_le};
 ghost use Rattle.ug_group_rules.specs.Machine.{owes, is_level, is_pending, is_joinable};
-ghost use Rattle.ug_groups.specs.Rows.{is_full_row, is_parted_row, may_format_row, must_part_row};
+ghost use Rattle.ug_groups.specs.Rows.{has_packets, is_full_row, is_parted_row, may_format_row, must_part_row};
 ghost use Rattle.ug_groups.specs.Entries.{bare, may_merge_entries};
 
 use crate::entry::Entry;
@@ -13,6 +13,13 @@ pub fn is_full(e: &Entry) -> bool
     ensures { result ≡ is_full_row (bare e.now) }
 {
     e.subgroup.is_full()
+}
+
+/// Whether its queue holds a packet.
+pub fn has_packets(e: &Entry) -> bool
+    ensures { result ≡ has_packets (bare e.now) }
+{
+    0 < e.subgroup.len()
 }
 
 /// Whether a packet is owed.

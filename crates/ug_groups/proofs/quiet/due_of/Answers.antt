@@ -10,7 +10,7 @@ due_at-due-requires-clause-few c =
 
 pub due_at-due-requires-clause-short : goal.due_at-due-requires-clause-short
 due_at-due-requires-clause-short c =
-    subst (λ (n : ℕ). n ≤ c.local.result.now.queue_limit) (sym c.left-left.ensures)
+    subst (λ (n : ℕ). n ≤ c.local.result.now.queue_limit) (sym c.left_of-left.ensures)
     (left-few c.args.world.now c.args.subgroups.now c.args.members.now c.loop-place.place c.local.result.now.queue_limit c.requires c.know_rows.ensures (ap (λ l. l.queue_limit) c.local.ensures))
 
 pub loop-place-preserved : goal.loop-place-preserved
@@ -19,7 +19,7 @@ loop-place-preserved c =
     let m = c.index-members-place.result in
     let at = get_is c.args.members.now p m (omega arith) c.index-members-place.is in
     let sessions = had (slice_get c.args.world.now.peers p) c.session.result c.session.ensures in
-    let step = due-step c.args.world.now.peers c.args.subgroups.now c.args.members.now p m c.session.result c.left-left.result at sessions c.left-left.ensures c.due_at-due.result c.due_at-due.ensures.due in
+    let step = due-step c.args.world.now.peers c.args.subgroups.now c.args.members.now p m c.session.result c.left_of-left.result at sessions c.left_of-left.ensures c.due_at-due.result c.due_at-due.ensures.due in
     let was = c.loop-place.invariant.due in
     let most = c.loop-place.invariant.bounded in
     let here = c.due_at-due.ensures.bounded in
