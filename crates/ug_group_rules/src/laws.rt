@@ -11,10 +11,10 @@ ghost use Rattle.ug_world.specs.World.{World};
 ghost use Rattle.ug_world.specs.declared.peer_state.PeerState as peers;
 ghost use Rattle.ug_world.specs.Touches.{is_about};
 ghost use Rattle.ug_message.specs.Texts.{written};
-ghost use Rattle.ug_speaker.specs.Speech.{TakesEvent, capabilities_of, is_request};
+ghost use Rattle.ug_speaker.specs.Speech.{capabilities_of, is_request};
 ghost use Rattle.ug_speaker.specs.Told.{events_in, worlds_of, world_after, told, is_lost, begun, is_live, world_at};
 ghost use Rattle.ug_speaker.specs.Right.{IsToldRight, IsToldAll, IsToldAgain};
-ghost use Rattle.ug_speaker.specs.Owes.{IsSpeaker, IsCourse, IsPeer, TellsMarks};
+ghost use Rattle.ug_speaker.specs.Owes.{IsSpeaker, IsCourse, IsPeer, IsDrainedSince, TellsMarks};
 ghost use Rattle.ug_group_rules.specs.Machine as machine;
 ghost use Rattle.ug_group_rules.specs.Machine.{Job, Said, Take, legal, seat_at, subgroup_at, owes, is_full, is_turn, may_merge, must_part, is_drained, has_unlost};
 ghost use Rattle.ug_group_rules.specs.Rules.{group_rules, group_speech, lane_reply, purpose};
@@ -49,14 +49,8 @@ pub fn group_courses()
         → has_unlost n (slice_get (replay group_rules opening history).members p) ≡ (nat_le 1 n && (nat_le n (begun group_rules group_speech p opening history) && not (is_lost group_rules group_speech p n opening history))) }
     ensures marks { (opening : World) (history : List (Entry Job Said)) (pass : ℕ) (job : Job) → IsCourse group_rules group_speech opening history → legal job (replay group_rules opening history) ≡ true
         → TellsMarks group_rules group_speech (purpose job) (group_rules.reply job (replay group_rules opening history)) opening (history ++ job_entry group_rules pass job (replay group_rules opening history) ∷ []) }
-    ensures told_again { (opening : World) (before later : List (Entry Job Said)) (pass : ℕ) (job : Job) (e : Happening) (p : ℕ) (asker s : peers.PeerState) → purpose job ≡ TakesEvent e → is_request e ≡ true
-        → IsPeer group_rules group_speech p asker opening before → is_about e asker ≡ true → is_live group_rules group_speech p asker opening before ≡ true → legal job (replay group_rules opening before) ≡ true
-        → IsCourse group_rules group_speech opening (before ++ job_entry group_rules pass job (replay group_rules opening before) ∷ later)
-        → IsPeer group_rules group_speech p s opening (before ++ job_entry group_rules pass job (replay group_rules opening before) ∷ later) → s.sessions ≡ asker.sessions
-        → is_drained (replay group_rules opening (before ++ job_entry group_rules pass job (replay group_rules opening before) ∷ later)) ≡ true
-        → is_live group_rules group_speech p s opening (before ++ job_entry group_rules pass job (replay group_rules opening before) ∷ later) ≡ true
-        → IsToldAgain p s.peer (world_at group_rules group_speech opening (before ++ job_entry group_rules pass job (replay group_rules opening before) ∷ later)) (length (told group_rules group_speech p asker.sessions opening before))
-        (told group_rules group_speech p s.sessions opening (before ++ job_entry group_rules pass job (replay group_rules opening before) ∷ later)) }
+    ensures told_again { (opening : World) (before whole : List (Entry Job Said)) (p : ℕ) (asker s : peers.PeerState) → IsDrainedSince group_rules group_speech opening before whole p asker s
+        → IsToldAgain p s.peer (world_at group_rules group_speech opening whole) (length (told group_rules group_speech p asker.sessions opening before)) (told group_rules group_speech p s.sessions opening whole) }
 {}
 
 /// In each course the members of all subgroups are the live peers (`live`), and a subgroup stands for each of its members

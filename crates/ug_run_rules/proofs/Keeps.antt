@@ -260,7 +260,7 @@ module _ {Opening State Job Said : Type 0} (rules : Rules Opening State Job Said
         let same_world : world_j ≡ world_at_line first lines j = ap (λ (w : World). last_world w (take j lines)) (speaks.steps.first_world opening) in
         let asked = asked-at rules speech speaks opening lines marks complete wires history closed [] e has.all (last_world (world_at rules speech opening []) (take i lines)) m both.first has.among in
         let at = synced-at rules speech speaks opening lines marks complete wires history closed (h ++ both.first.did) has'.all world_j m' both.second has'.among in
-        let again = asked-told rules speech speaks opening lines marks complete wires history closed h both.first.did both.second.more both.second.did e m m' world_j asked at peers sessions in
+        let again = asked-told rules speech speaks opening lines marks complete wires history closed h both.first.did both.second.more both.second.did m m' world_j asked at peers sessions in
         let content' : content_at contents m'.peer m'.session ≡ Some c = subst (λ k. content_at contents k m'.session ≡ Some c) (sym peers) (subst (λ k. content_at contents m.peer k ≡ Some c) (sym sessions) content) in
         let all = taken front both.second.later world_j m' c (both.second.parts ∙ sym (append_assoc ((h ++ both.first.did) ++ both.second.more) both.second.did both.second.later)) at content' enough in
         let same_place : at.place ≡ m.peer = ap (λ (n : Mark). n.peer) (sym at.mark) ∙ peers in

@@ -21,7 +21,7 @@ use Rattle.ug_world.specs.Touches.{is_about}
 use Rattle.ug_speaker.specs.Speech.{TakesEvent, Speech, is_request}
 use Rattle.ug_speaker.specs.Told.{handed_in, deeds_to, told, is_lost, is_live, mark_of, marks_of_asker, world_after, world_at}
 use Rattle.ug_speaker.specs.Right.{IsAmong, IsToldAgain}
-use Rattle.ug_speaker.specs.Owes.{IsCourse, IsSpeaker}
+use Rattle.ug_speaker.specs.Owes.{IsCourse, IsSpeaker, IsAskingAgain, IsDrainedSince}
 use Rattle.ug_speaker.specs.Story.{IsDone, DoesEvent}
 use Rattle.ug_run_rules.specs.Contents.{WireTold}
 use Rattle.ug_run_rules.specs.Crew.{IsClosed}
@@ -65,17 +65,11 @@ module _ {Opening State Job Said : Type 0} (rules : Rules Opening State Job Said
     (opening : Opening) (lines : List (Reads Saying)) (marks : List (List Mark)) (complete : Bool) (wires : List WireTold) (history : List (Entry Job Said))
     (closed : IsClosed rules speech opening lines marks complete wires history) where
   -- What is so of a request behind this front, and of a mark that it made.
-  pub record IsAskedAt (front did : List (Entry Job Said)) (e : Happening) (m : Mark) : Type 0 where
+  pub record IsAskedAt (front did : List (Entry Job Said)) (m : Mark) : Type 0 where
     pub place : ℕ
     pub asker : PeerState
-    pub job : Job
-    pub is : speech.purpose job ≡ TakesEvent e
-    pub legal : rules.legal job (replay rules opening front) ≡ true
-    pub entry : did ≡ job_entry rules 0 job (replay rules opening front) ∷ []
-    pub there : slice_get (world_at rules speech opening front).peers place ≡ Some asker
-    pub requests : is_request e ≡ true
-    pub about : is_about e asker ≡ true
-    pub live : is_live rules speech place asker opening front ≡ true
+    pub asks : IsAskingAgain rules speech opening front place asker
+    pub entry : did ≡ job_entry rules 0 asks.job (replay rules opening front) ∷ []
     pub peer : m.peer ≡ place
     pub session : m.session ≡ asker.sessions
     pub handed : m.handed ≡ length (told rules speech place asker.sessions opening front)
@@ -137,71 +131,66 @@ module _ {Opening State Job Said : Type 0} (rules : Rules Opening State Job Said
     mark_is : m ≡ mark_of rules speech place request-mark.state opening (h ++ did)
     mark_is = subst (λ k. m ≡ mark_of rules speech k request-mark.state opening (h ++ did)) same_place request-mark.mark
 
-    asked_here : IsAskedAt h did e m
+    asked_here : IsAskedAt h did m
     asked_here = record {
       place = place;
       asker = asker;
-      job = done.job;
-      is = done.is;
-      legal = done.legal;
+      asks = record {
+        job = done.job;
+        event = e;
+        takes = done.is;
+        request = request_is.0;
+        there = asker_found.1;
+        about = sym (about-alike e asker request-mark.state same_name_is) ∙ request_is.1;
+        live = live_here;
+        legal = done.legal;
+      };
       entry = done.entry;
-      there = asker_found.1;
-      requests = request_is.0;
-      about = sym (about-alike e asker request-mark.state same_name_is) ∙ request_is.1;
-      live = live_here;
       peer = ap (λ (n : Mark). n.peer) mark_is;
       session = ap (λ (n : Mark). n.session) mark_is ∙ still.0;
       handed = ap (λ (n : Mark). n.handed) mark_is ∙ ap length told_did;
     }
 
-  asked_by : (v : Option ℕ) (h did later : List (Entry Job Said)) (e : Happening) (ms : List Mark) (m : Mark) → history ≡ h ++ (did ++ later) → DoesEvent rules speech v e opening h ms did → IsAmong m ms → IsAskedAt h did e m
+  asked_by : (v : Option ℕ) (h did later : List (Entry Job Said)) (e : Happening) (ms : List Mark) (m : Mark) → history ≡ h ++ (did ++ later) → DoesEvent rules speech v e opening h ms did → IsAmong m ms → IsAskedAt h did m
   asked_by None h did later e ms m parts done among = asked_here h did later e ms m parts done among
   asked_by (Some number) h did later e ms m parts nothing among = absurd (subst (λ (l : List Mark). IsAmong m l) nothing.0 among)
 
   pub asked-at : (start : List (Entry Job Said)) (e : Happening) (ms : List Mark) (w : World) (m : Mark) (at : IsLine rules speech speaks opening lines marks complete wires history closed start (Ok (Says e)) ms w) → IsAmong m ms
-      → IsAskedAt (start ++ at.more) at.did e m
+      → IsAskedAt (start ++ at.more) at.did m
   asked-at start e ms w m at among = asked_by (verdict (world_at rules speech opening (start ++ at.more)) e) (start ++ at.more) at.did at.later e ms m at.parts at.does among
 
   -- ---- and a later `sync`
 
-  module _ (h did more did' : List (Entry Job Said)) (e : Happening) (m m' : Mark) (w : World) (asked : IsAskedAt h did e m)
+  module _ (h did more did' : List (Entry Job Said)) (m m' : Mark) (w : World) (asked : IsAskedAt h did m)
       (synced : IsSyncedAt rules speech speaks opening lines marks complete wires history closed (((h ++ did) ++ more) ++ did') w m') (peers : m'.peer ≡ m.peer) (sessions : m'.session ≡ m.session) where
     abbrev whole : List (Entry Job Said)
-    whole = h ++ job_entry rules 0 asked.job (replay rules opening h) ∷ (more ++ did')
+    whole = ((h ++ did) ++ more) ++ did'
 
-    whole_is : ((h ++ did) ++ more) ++ did' ≡ whole
+    whole_is : whole ≡ h ++ job_entry rules 0 asked.asks.job (replay rules opening h) ∷ (more ++ did')
     whole_is =
         ap (λ (es : List (Entry Job Said)). ((h ++ es) ++ more) ++ did') asked.entry
-        ∙ (append_assoc (h ++ job_entry rules 0 asked.job (replay rules opening h) ∷ []) more did' ∙ append_assoc h (job_entry rules 0 asked.job (replay rules opening h) ∷ []) (more ++ did'))
+        ∙ (append_assoc (h ++ job_entry rules 0 asked.asks.job (replay rules opening h) ∷ []) more did' ∙ append_assoc h (job_entry rules 0 asked.asks.job (replay rules opening h) ∷ []) (more ++ did'))
 
     same_peer : synced.place ≡ asked.place
     same_peer = ap (λ (n : Mark). n.peer) (sym synced.mark) ∙ (peers ∙ asked.peer)
 
-    same_session : synced.state.sessions ≡ asked.asker.sessions
-    same_session = ap (λ (n : Mark). n.session) (sym synced.mark) ∙ (sessions ∙ asked.session)
+    since : IsDrainedSince rules speech opening h whole asked.place asked.asker synced.state
+    since = record {
+      asks = asked.asks;
+      pass = 0;
+      later = more ++ did';
+      goes_on = whole_is;
+      course = synced.course;
+      there = subst (λ p. slice_get (world_at rules speech opening whole).peers p ≡ Some synced.state) same_peer synced.there;
+      same_session = ap (λ (n : Mark). n.session) (sym synced.mark) ∙ (sessions ∙ asked.session);
+      live = subst (λ p. is_live rules speech p synced.state opening whole ≡ true) same_peer synced.live;
+      drained = synced.drained;
+    }
 
-    -- what is so behind the `sync`, for the history as the request leads to it
-    abbrev IsAt : ℕ → List (Entry Job Said) → Type 0
-    IsAt p front =
-        (slice_get (world_at rules speech opening front).peers p ≡ Some synced.state) × (is_live rules speech p synced.state opening front ≡ true) × (speech.drained (replay rules opening front) ≡ true)
-        × IsCourse rules speech opening front
-
-    at_whole : IsAt asked.place whole
-    at_whole =
-        subst (λ (front : List (Entry Job Said)). IsAt asked.place front) whole_is
-        (subst (λ p. IsAt p (((h ++ did) ++ more) ++ did')) same_peer (synced.there, synced.live, synced.drained, synced.course))
-
-    again_whole : IsToldAgain asked.place synced.state.peer (world_at rules speech opening whole) (length (told rules speech asked.place asked.asker.sessions opening h)) (told rules speech asked.place synced.state.sessions opening whole)
-    again_whole =
-        speaks.histories.told_again opening h (more ++ did') 0 asked.job e asked.place asked.asker synced.state asked.is asked.requests asked.there asked.about asked.live asked.legal at_whole.3 at_whole.0 same_session at_whole.2
-        at_whole.1
-
-    pub asked-told : IsToldAgain m.peer synced.state.peer w m.handed (told rules speech synced.place synced.state.sessions opening (((h ++ did) ++ more) ++ did'))
+    pub asked-told : IsToldAgain m.peer synced.state.peer w m.handed (told rules speech synced.place synced.state.sessions opening whole)
     asked-told =
-        subst (λ n. IsToldAgain m.peer synced.state.peer w n (told rules speech synced.place synced.state.sessions opening (((h ++ did) ++ more) ++ did'))) (sym asked.handed)
-        (subst (λ (p : ℕ). IsToldAgain p synced.state.peer w (length (told rules speech asked.place asked.asker.sessions opening h)) (told rules speech synced.place synced.state.sessions opening (((h ++ did) ++ more) ++ did'))) (sym asked.peer)
-        (subst (λ (p : ℕ). IsToldAgain asked.place synced.state.peer w (length (told rules speech asked.place asked.asker.sessions opening h)) (told rules speech p synced.state.sessions opening (((h ++ did) ++ more) ++ did'))) (sym same_peer)
-        (subst (λ (v : World). IsToldAgain asked.place synced.state.peer v (length (told rules speech asked.place asked.asker.sessions opening h)) (told rules speech asked.place synced.state.sessions opening (((h ++ did) ++ more) ++ did'))) synced.world
-        (subst
-        (λ (front : List (Entry Job Said)). IsToldAgain asked.place synced.state.peer (world_at rules speech opening front) (length (told rules speech asked.place asked.asker.sessions opening h)) (told rules speech asked.place synced.state.sessions opening front))
-        (sym whole_is) again_whole))))
+        subst (λ n. IsToldAgain m.peer synced.state.peer w n (told rules speech synced.place synced.state.sessions opening whole)) (sym asked.handed)
+        (subst (λ (p : ℕ). IsToldAgain p synced.state.peer w (length (told rules speech asked.place asked.asker.sessions opening h)) (told rules speech synced.place synced.state.sessions opening whole)) (sym asked.peer)
+        (subst (λ (p : ℕ). IsToldAgain asked.place synced.state.peer w (length (told rules speech asked.place asked.asker.sessions opening h)) (told rules speech p synced.state.sessions opening whole)) (sym same_peer)
+        (subst (λ (v : World). IsToldAgain asked.place synced.state.peer v (length (told rules speech asked.place asked.asker.sessions opening h)) (told rules speech asked.place synced.state.sessions opening whole)) synced.world
+        (speaks.histories.told_again opening h whole asked.place asked.asker synced.state since))))

@@ -93,6 +93,30 @@ module _ {Opening State Job Said : Type 0} (rules : Rules Opening State Job Said
   abbrev pub IsPeer : ℕ → PeerState → Opening → List (Entry Job Said) → Type 0
   IsPeer p s opening history = slice_get (world_at rules speech opening history).peers p ≡ Some s
 
+  -- Behind this history a live peer asks for all routes again, by a job that may be done.
+  pub record IsAskingAgain (opening : Opening) (before : List (Entry Job Said)) (p : ℕ) (asker : PeerState) : Type 0 where
+    pub job : Job
+    pub event : Happening
+    pub takes : speech.purpose job ≡ TakesEvent event
+    pub request : is_request event ≡ true
+    pub there : IsPeer p asker opening before
+    pub about : is_about event asker ≡ true
+    pub live : is_live rules speech p asker opening before ≡ true
+    pub legal : rules.legal job (replay rules opening before) ≡ true
+
+  -- A live peer has asked for all routes again behind the history `before`, which then went on to `whole`: there it is live
+  -- in the session in which it asked, and everything is told.
+  pub record IsDrainedSince (opening : Opening) (before whole : List (Entry Job Said)) (p : ℕ) (asker s : PeerState) : Type 0 where
+    pub asks : IsAskingAgain opening before p asker
+    pub pass : ℕ
+    pub later : List (Entry Job Said)
+    pub goes_on : whole ≡ before ++ job_entry rules pass asks.job (replay rules opening before) ∷ later
+    pub course : IsCourse opening whole
+    pub there : IsPeer p s opening whole
+    pub same_session : s.sessions ≡ asker.sessions
+    pub live : is_live rules speech p s opening whole ≡ true
+    pub drained : speech.drained (replay rules opening whole) ≡ true
+
   -- What the marks of a job's reply tell.
   abbrev pub TellsMarks : Purpose → Said → Opening → List (Entry Job Said) → Type 0
   TellsMarks (TakesEvent e) said opening history = speech.marks said ≡ marks_of_asker rules speech e opening history
@@ -130,18 +154,8 @@ module _ {Opening State Job Said : Type 0} (rules : Rules Opening State Job Said
         → rules.legal job (replay rules opening history) ≡ true
         → TellsMarks (speech.purpose job) (rules.reply job (replay rules opening history)) opening (history ++ job_entry rules pass job (replay rules opening history) ∷ [])
     -- After a request of a live peer, when everything is told in that session, every route was announced again.
-    pub told_again : (opening : Opening) (before later : List (Entry Job Said)) (pass : ℕ) (job : Job) (e : Happening) (p : ℕ) (asker s : PeerState)
-        → speech.purpose job ≡ TakesEvent e → is_request e ≡ true
-        → IsPeer p asker opening before → is_about e asker ≡ true → is_live rules speech p asker opening before ≡ true
-        → rules.legal job (replay rules opening before) ≡ true
-        → IsCourse opening (before ++ job_entry rules pass job (replay rules opening before) ∷ later)
-        → IsPeer p s opening (before ++ job_entry rules pass job (replay rules opening before) ∷ later)
-        → s.sessions ≡ asker.sessions
-        → speech.drained (replay rules opening (before ++ job_entry rules pass job (replay rules opening before) ∷ later)) ≡ true
-        → is_live rules speech p s opening (before ++ job_entry rules pass job (replay rules opening before) ∷ later) ≡ true
-        → IsToldAgain p s.peer (world_at rules speech opening (before ++ job_entry rules pass job (replay rules opening before) ∷ later))
-        (length (told rules speech p asker.sessions opening before))
-        (told rules speech p s.sessions opening (before ++ job_entry rules pass job (replay rules opening before) ∷ later))
+    pub told_again : (opening : Opening) (before whole : List (Entry Job Said)) (p : ℕ) (asker s : PeerState) → IsDrainedSince opening before whole p asker s
+        → IsToldAgain p s.peer (world_at rules speech opening whole) (length (told rules speech p asker.sessions opening before)) (told rules speech p s.sessions opening whole)
 
   -- What a speaker owes.
   pub record IsSpeaker : Type 0 where

@@ -28,4 +28,4 @@ pub returns-clause-marks : goal.returns-clause-marks
 returns-clause-marks c = λ opening h pass job course legal. marks-told opening h pass job course legal
 
 pub returns-clause-told_again : goal.returns-clause-told_again
-returns-clause-told_again c = λ opening before later pass job e p asker s takes asks is about live legal course is' same drained live'. told-again opening before later pass job e p asker s takes asks is about course is' same drained live'
+returns-clause-told_again c = λ opening before whole p asker s since. told-again opening before whole p asker s since
