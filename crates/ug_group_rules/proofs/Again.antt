@@ -1,6 +1,6 @@
 -- What a peer that asked for all routes was announced since, and how that goes on with its subgroup.
 use Rattle.std.proofs.Common.{◌≡◌, ℕ, ◌≤◌, ◌⊎◌, inl, inr, Bool, true, false, List, [], ◌∷◌, ◌++◌, length, drop, None, refl, sym, ◌∙◌, ap, subst, arith, length-append}
-use Rattle.std.specs.Prelude.{◌&&◌, ◌||◌, not, is_some, if◌then◌else◌}
+use Rattle.std.specs.Prelude.{◌||◌, not, is_some, if◌then◌else◌}
 use Rattle.std.specs.List.{list_any}
 use Rattle.std.proofs.lemmas.List.{append-nil, drop-append-le}
 use Rattle.std.proofs.lemmas.List.Folds.{list_any-append}
@@ -13,17 +13,18 @@ use Rattle.ug_rewrite.specs.NextHops.{told_to}
 use Rattle.ug_pack.specs.Ready.{key_order}
 use Rattle.ug_adjout_rules.specs.Tables.{has}
 use Rattle.ug_adjout_rules.specs.Formatting.{Due}
-use Rattle.ug_adjout_rules.specs.Formatting.Due.{Nothing, Withdraws, Announces}
+use Rattle.ug_adjout_rules.specs.Formatting.Due.{Withdraws}
 use Rattle.ug_speaker.specs.Right.{announces, is_begin}
 use Rattle.ug_speaker.proofs.Bools.{both, true_or, or_true, or_so}
 use Rattle.ug_group_rules.specs.declared.phase.Phase.{Phase}
 use Rattle.ug_group_rules.specs.declared.phase.Phase.TheVariants.{Quiet, Owed, Open}
 use Rattle.ug_group_rules.specs.Packets.{Says, Withdrawn, Announced, EndOfRib, RefreshBegins, RefreshEnds, all_forced, with_told, routes_due, message_to}
-use Rattle.ug_group_rules.specs.Machine.{Subgroup, is_owed, with_routes, next_packet, formatted, asked}
+use Rattle.ug_group_rules.specs.Machine.{Subgroup, is_owed, says_next, after_saying, formatted, asked}
 use Rattle.ug_group_rules.proofs.StreamsInWorlds.{IsAs}
 use Rattle.ug_group_rules.proofs.Tables.{row_at, is_forced, IsOut, told-formatted, told-forced, forced-all}
 use Rattle.ug_group_rules.proofs.WantedTables.{table_in, has-among}
-use Rattle.ug_group_rules.proofs.MemberStreams.{some-mapped, and-unless}
+use Rattle.ug_group_rules.proofs.NextPackets.{so-next}
+use Rattle.ug_group_rules.proofs.MemberStreams.{some-mapped}
 use Rattle.ug_group_rules.proofs.Formats.{IsDueOf}
 
 -- a refresh has still to announce the key, where it is desired
@@ -108,16 +109,16 @@ module _ (ends : PeerEnds) (x y : Subgroup) (change : IsAs (table_in ends x.out.
 -- ---- the next packet
 
 module _ (ends : PeerEnds) (x : Subgroup) (exact : IsOut x.out) where
-  abbrev Goes : Says × Subgroup → Type 0
-  Goes r = GoesTo x (record r.1 { fresh = false; stuck = 0 }) (message_to ends r.0 ∷ [])
+  abbrev Goes : Says → Type 0
+  Goes says = GoesTo x (record (after_saying says x) { fresh = false; stuck = 0 }) (message_to ends says ∷ [])
 
-  begins : Goes (RefreshBegins, record x { out = all_forced x.out; phase = Open })
+  begins : Goes RefreshBegins
   begins = record {
     announced = λ q there. inl (forced-all x.out q ∙ true_or (is_some (row_at x.out.formatted q)) (is_some (row_at x.out.desired q)) there);
     begun = λ owed. inr refl;
   }
 
-  goes_end : Goes (EndOfRib, record x { ending = false })
+  goes_end : Goes EndOfRib
   goes_end = record { announced = λ q there. by q there (is_coming x q) refl; begun = λ owed. inl owed }
     where
       by : (q : Key) → is_some (row_at x.out.formatted q) ≡ true → (b : Bool) → is_coming x q ≡ b
@@ -125,7 +126,7 @@ module _ (ends : PeerEnds) (x : Subgroup) (exact : IsOut x.out) where
       by q there true e = inl e
       by q there false e = inr (inr (there, e))
 
-  goes_ends : is_owed x.phase ≡ false → Goes (RefreshEnds, record x { phase = Quiet })
+  goes_ends : is_owed x.phase ≡ false → Goes RefreshEnds
   goes_ends not_owed = record { announced = λ q there. by q there (is_forced x.out q) refl; begun = λ owed. absurd cc }
     where
       by : (q : Key) → is_some (row_at x.out.formatted q) ≡ true → (b : Bool) → is_forced x.out q ≡ b
@@ -152,7 +153,7 @@ module _ (ends : PeerEnds) (x : Subgroup) (exact : IsOut x.out) where
         by true e = inl (other_coming e)
         by false e = inr (inr (not_told, e))
 
-  goes_gone : (keys : List Key) → IsDueOf x.out (Withdraws keys) → Goes (Withdrawn keys, record x { out = with_told keys x.out })
+  goes_gone : (keys : List Key) → IsDueOf x.out (Withdraws keys) → Goes (Withdrawn keys)
   goes_gone keys is = record { announced = λ q there. by q there (has key_order keys q) refl; begun = λ owed. inl owed }
     where
       by : (q : Key) → is_some (row_at (with_told keys x.out).formatted q) ≡ true → (b : Bool) → has key_order keys q ≡ b
@@ -164,7 +165,7 @@ module _ (ends : PeerEnds) (x : Subgroup) (exact : IsOut x.out) where
           absurd cc
       by q there false e = other_key keys (message_to ends (Withdrawn keys) ∷ []) q e there
 
-  goes_new : (o : OutAttrs) (keys : List Key) → Goes (Announced o keys, record x { out = with_told keys x.out })
+  goes_new : (o : OutAttrs) (keys : List Key) → Goes (Announced o keys)
   goes_new o keys = record { announced = λ q there. by q there (has key_order keys q) refl; begun = λ owed. inl owed }
     where
       by : (q : Key) → is_some (row_at (with_told keys x.out).formatted q) ≡ true → (b : Bool) → has key_order keys q ≡ b
@@ -173,21 +174,15 @@ module _ (ends : PeerEnds) (x : Subgroup) (exact : IsOut x.out) where
       by q there true e = inr (inl (true_or (among keys q) false (sym (has-among keys q) ∙ e)))
       by q there false e = other_key keys (message_to ends (Announced o keys) ∷ []) q e there
 
-  goes_by : (d : Due Key OutAttrs) → IsDueOf x.out d → (is_owed x.phase && not x.ending) ≡ false → Goes (with_routes x d)
-  goes_by (Withdraws keys) is no_mark = goes_gone keys is
-  goes_by (Announces o keys) is no_mark = goes_new o keys
-  goes_by Nothing is no_mark = by x.ending refl
-    where
-      by : (b : Bool) → x.ending ≡ b → Goes (if b then (EndOfRib, record x { ending = false }) else (RefreshEnds, record x { phase = Quiet }))
-      by true e = goes_end
-      by false e = goes_ends (and-unless (is_owed x.phase) x.ending no_mark e)
-
-  pub goes-formatted : IsDueOf x.out (routes_due x.key x.out) → GoesTo x (formatted x) (message_to ends (next_packet x).0 ∷ [])
-  goes-formatted is = by (is_owed x.phase && not x.ending) refl
-    where
-      by : (b : Bool) → (is_owed x.phase && not x.ending) ≡ b → Goes (if b then (RefreshBegins, record x { out = all_forced x.out; phase = Open }) else with_routes x (routes_due x.key x.out))
-      by true e = begins
-      by false e = goes_by (routes_due x.key x.out) is e
+  pub goes-formatted : IsDueOf x.out (routes_due x.key x.out) → GoesTo x (formatted x) (message_to ends (says_next x) ∷ [])
+  goes-formatted is =
+      so-next x Goes (record {
+        begins = λ owed not_due. begins;
+        withdraws = λ keys due. goes_gone keys (subst (λ (d : Due Key OutAttrs). IsDueOf x.out d) due is);
+        announces = λ o keys due. goes_new o keys;
+        end_of_rib = λ none due. goes_end;
+        ends = λ none not_owed not_due. goes_ends not_owed;
+      })
 
 -- ---- the request
 

@@ -14,7 +14,7 @@ use Rattle.ug_world.specs.declared.peer_state.PeerState.{PeerState}
 use Rattle.ug_world.specs.World.{World, key_in}
 use Rattle.ug_speaker.specs.Told.{handed_in}
 use Rattle.ug_group_rules.specs.Packets.{Packet, message_to}
-use Rattle.ug_group_rules.specs.Machine.{Subgroup, Seat, Member, System, owes, queued, may_merge, reseated, next_packet, formatted, given, with_packet, moved, merge, unstuck, parted, slow_of}
+use Rattle.ug_group_rules.specs.Machine.{Subgroup, Seat, Member, System, owes, queued, may_merge, reseated, says_next, formatted, given, with_packet, moved, merge, unstuck, parted, slow_of}
 use Rattle.ug_group_rules.proofs.Again.{IsAgain, GoesTo, again-goes, goes-as, goes-formatted}
 use Rattle.ug_group_rules.proofs.Seated.{told_by, stream_of, IsSat, IsPlaced, IsSystem, IsFine, placed-of}
 use Rattle.ug_group_rules.proofs.Formatting.{next-at, due-here}
@@ -112,7 +112,7 @@ module _ (front : List World) (state : System) (deeds_at : ℕ → List (Deed Me
 
   module _ (fine : IsFine state.world) (g : ℕ) (x : Subgroup) (there : slice_get state.subgroups g ≡ Some (Some x)) (owing : owes x ≡ true) where
     abbrev packet : Packet
-    packet = record { made = state.made; says = (next_packet x).0 }
+    packet = record { made = state.made; says = says_next x }
 
     abbrev next : System
     next = with_packet g x state

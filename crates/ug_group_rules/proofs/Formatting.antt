@@ -21,7 +21,7 @@ use Rattle.ug_world.specs.Worlds.{is_up_in, in_session}
 use Rattle.ug_world.specs.Private.{private_table}
 use Rattle.ug_adjout_rules.specs.Tables.{has}
 use Rattle.ug_adjout_rules.specs.Formatting.{Due}
-use Rattle.ug_adjout_rules.specs.Formatting.Due.{Nothing, Withdraws, Announces}
+use Rattle.ug_adjout_rules.specs.Formatting.Due.{Withdraws, Announces}
 use Rattle.ug_pack.specs.Rooms.{room, room_beside}
 use Rattle.ug_pack.specs.Ready.{key_order}
 use Rattle.ug_message.specs.Fitting.{fits}
@@ -31,15 +31,15 @@ use Rattle.ug_speaker.specs.Counts.{is_lost_at}
 use Rattle.ug_speaker.proofs.Bools.{both_so, both}
 use Rattle.ug_speaker.proofs.Each.{each-append}
 use Rattle.ug_message.proofs.Fitting.{marks-fit, end-fits}
-use Rattle.ug_group_rules.specs.Packets.{Rows, Packet, Says, EndOfRib, RefreshBegins, RefreshEnds, same_out, all_forced, routes_due, message_to}
-use Rattle.ug_group_rules.specs.declared.phase.Phase.TheVariants.{Quiet, Open}
-use Rattle.ug_group_rules.specs.Machine.{Subgroup, Seat, Member, System, owes, is_owed, with_routes, reseated, next_packet, formatted, given, with_packet}
+use Rattle.ug_group_rules.specs.Packets.{Rows, Packet, Says, Withdrawn, Announced, same_out, routes_due, message_to}
+use Rattle.ug_group_rules.specs.Machine.{Subgroup, Seat, Member, System, owes, reseated, says_next, formatted, given, with_packet}
 use Rattle.ug_group_rules.proofs.Fitting.{CanBeSent, IsKeyTo, withdrawn-fit, announced-fit}
 use Rattle.ug_group_rules.proofs.Formats.{IsDueOf, HasRoom, each-has, some-has, due-is, due-room}
 use Rattle.ug_group_rules.proofs.Streams.{IsStream}
 use Rattle.ug_group_rules.proofs.Tables.{row_at, is_forced}
 use Rattle.ug_group_rules.proofs.WantedTables.{table_in}
 use Rattle.ug_group_rules.proofs.MemberStreams.{IsKept, format-goes, desired-private}
+use Rattle.ug_group_rules.proofs.NextPackets.{so-next}
 use Rattle.ug_group_rules.proofs.Seated.{counts_of, told_by, stream_of, AreFitting, IsSat, IsPlacedAt, IsSystem, IsFine, kept-formatted, key-formatted, rows-formatted, at-same}
 
 -- what is live is up, in its session
@@ -65,7 +65,7 @@ module _ (front : List World) (state : System) (deeds_at : ℕ → List (Deed Me
   worlds = front ++ state.world ∷ []
 
   abbrev packet : Packet
-  packet = record { made = state.made; says = (next_packet x).0 }
+  packet = record { made = state.made; says = says_next x }
 
   abbrev next : System
   next = with_packet g x state
@@ -145,19 +145,16 @@ module _ (front : List World) (state : System) (deeds_at : ℕ → List (Deed Me
 
       -- the packet fits
 
-      abbrev Fits : Says × Subgroup → Type 0
-      Fits r = fits (capabilities_of s.peer) (message_to (ends_of s.peer) r.0) ≡ true
+      abbrev Fits : Says → Type 0
+      Fits says = fits (capabilities_of s.peer) (message_to (ends_of s.peer) says) ≡ true
 
-      routes_fit : (d : Due Key OutAttrs) → IsDueOf x.out d → HasRoom x.key x.out d → Fits (with_routes x d)
-      routes_fit Nothing is space = by x.ending
-        where
-          by : (b : Bool) → Fits (if b then (EndOfRib, record x { ending = false }) else (RefreshEnds, record x { phase = Quiet }))
-          by true = end-fits (capabilities_of s.peer)
-          by false = (marks-fit (capabilities_of s.peer)).1
-      routes_fit (Withdraws keys) is space =
+      gone_fits : (keys : List Key) → IsDueOf x.out (Withdraws keys) → HasRoom x.key x.out (Withdraws keys) → Fits (Withdrawn keys)
+      gone_fits keys is space =
           withdrawn-fit (capabilities_of s.peer) keys is.0 (each-has (IsKeyTo (capabilities_of s.peer)) keys (λ q at. pending_sent q (space.0 q at)))
           (subst (λ (k : GroupKey). sum_by weight_of keys ≤ room k.family (limit_of k)) key_x space.1)
-      routes_fit (Announces o keys) is space =
+
+      new_fits : (o : OutAttrs) (keys : List Key) → IsDueOf x.out (Announces o keys) → HasRoom x.key x.out (Announces o keys) → Fits (Announced o keys)
+      new_fits o keys is space =
           let first = some-has keys is.0 in
           let row = is.1 first.0 first.1 in
           announced-fit (capabilities_of s.peer) keys is.0 (each-has (IsKeyTo (capabilities_of s.peer)) keys (λ q at. (told_to (ends_of s.peer) o, desired_sent q o (is.1 q at))))
@@ -165,25 +162,34 @@ module _ (front : List World) (state : System) (deeds_at : ℕ → List (Deed Me
           (subst (λ (k : GroupKey). 21 ≤ room_beside k.family (limit_of k) o.attrs) key_x (beside first.0 o row))
           (subst (λ (k : GroupKey). sum_by weight_of keys ≤ room_beside k.family (limit_of k) o.attrs) key_x space)
 
-      fits_next : Fits (next_packet x)
-      fits_next = by (is_owed x.phase && not x.ending)
-        where
-          by : (b : Bool) → Fits (if b then (RefreshBegins, record x { out = all_forced x.out; phase = Open }) else with_routes x (routes_due x.key x.out))
-          by true = (marks-fit (capabilities_of s.peer)).0
-          by false = routes_fit (routes_due x.key x.out) due-here (due-room x.key x.out light (fine.wide x.key) beside)
+      abbrev IsDueHere : Due Key OutAttrs → Type 0
+      IsDueHere d = IsDueOf x.out d × HasRoom x.key x.out d
+
+      due_fits : IsDueHere (routes_due x.key x.out)
+      due_fits = (due-here, due-room x.key x.out light (fine.wide x.key) beside)
+
+      fits_next : Fits (says_next x)
+      fits_next =
+          so-next x Fits (record {
+            begins = λ owed not_due. (marks-fit (capabilities_of s.peer)).0;
+            withdraws = λ keys due. let is = subst (λ (d : Due Key OutAttrs). IsDueHere d) due due_fits in gone_fits keys is.0 is.1;
+            announces = λ o keys due. let is = subst (λ (d : Due Key OutAttrs). IsDueHere d) due due_fits in new_fits o keys is.0 is.1;
+            end_of_rib = λ none due. end-fits (capabilities_of s.peer);
+            ends = λ none not_owed not_due. (marks-fit (capabilities_of s.peer)).1;
+          })
 
       fitting_next : AreFitting s (t.rest ++ packet ∷ [])
       fitting_next = each-append (λ (k : Packet). fits (capabilities_of s.peer) (message_to (ends_of s.peer) k.says) ≡ true) t.rest (packet ∷ []) sat.fitting (fits_next, tt)
 
       stream_next : IsStream p s.sessions s.peer worlds (table_in (ends_of s.peer) (formatted x).out.formatted) (is_forced (formatted x).out) (formatted x).ending (formatted x).phase
-          (stream_of s (deeds_at p) t.rest ++ message_to (ends_of s.peer) (next_packet x).0 ∷ [])
+          (stream_of s (deeds_at p) t.rest ++ message_to (ends_of s.peer) (says_next x) ∷ [])
       stream_next =
           format-goes p front state.world s is up in_its_session x kept_x key_x (stream_of s (deeds_at p) t.rest) stream_x light (fine.wide x.key) beside owing
 
-      longer : stream_of s (deeds_at p) (t.rest ++ packet ∷ []) ≡ stream_of s (deeds_at p) t.rest ++ message_to (ends_of s.peer) (next_packet x).0 ∷ []
+      longer : stream_of s (deeds_at p) (t.rest ++ packet ∷ []) ≡ stream_of s (deeds_at p) t.rest ++ message_to (ends_of s.peer) (says_next x) ∷ []
       longer =
           ap (λ (ms : List Message). handed_in s.sessions (sessions_of (deeds_at p)) ++ ms) (map-append (λ (k : Packet). message_to (ends_of s.peer) k.says) t.rest (packet ∷ []))
-          ∙ sym (append_assoc (handed_in s.sessions (sessions_of (deeds_at p))) (told_by s t.rest) (message_to (ends_of s.peer) (next_packet x).0 ∷ []))
+          ∙ sym (append_assoc (handed_in s.sessions (sessions_of (deeds_at p))) (told_by s t.rest) (message_to (ends_of s.peer) (says_next x) ∷ []))
 
       tellable_next : (q : Key) (a : Attributes) → table_in (ends_of s.peer) (formatted x).out.formatted q ≡ Some a → CanBeSent (capabilities_of s.peer) q a
       tellable_next q a e =

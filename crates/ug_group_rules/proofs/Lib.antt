@@ -7,6 +7,7 @@ pub mod Tables
 pub mod WantedTables
 mod Fitting
 mod Formats
+mod NextPackets
 mod MemberStreams
 mod Again
 mod StreamsInWorlds

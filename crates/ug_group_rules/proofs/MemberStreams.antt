@@ -21,20 +21,21 @@ use Rattle.ug_world.specs.Private.{private_table}
 use Rattle.ug_world.specs.Worlds.{in_session, past}
 use Rattle.ug_adjout_rules.specs.Tables.{has}
 use Rattle.ug_adjout_rules.specs.Formatting.{Due}
-use Rattle.ug_adjout_rules.specs.Formatting.Due.{Nothing, Withdraws, Announces}
+use Rattle.ug_adjout_rules.specs.Formatting.Due.{Withdraws, Announces}
 use Rattle.ug_pack.specs.Rooms.{room, room_beside}
 use Rattle.ug_pack.specs.Ready.{key_order}
 use Rattle.ug_speaker.specs.Right.{IsAmong}
-use Rattle.ug_speaker.proofs.Bools.{both_so, both, not_so}
+use Rattle.ug_speaker.proofs.Bools.{both}
 use Rattle.ug_speaker.proofs.Pasts.{IsLast, last-table}
 use Rattle.ug_group_rules.specs.declared.phase.Phase.{Phase}
 use Rattle.ug_group_rules.specs.declared.phase.Phase.TheVariants.{Quiet, Owed, Open}
-use Rattle.ug_group_rules.specs.Packets.{Rows, Says, Withdrawn, Announced, EndOfRib, RefreshBegins, RefreshEnds, same_out, wanted_rows, all_forced, with_told, routes_due, message_to}
-use Rattle.ug_group_rules.specs.Machine.{Subgroup, is_quiet, is_owed, is_pending, owes, with_routes, next_packet}
+use Rattle.ug_group_rules.specs.Packets.{Rows, Says, Withdrawn, Announced, EndOfRib, RefreshBegins, RefreshEnds, same_out, wanted_rows, all_forced, with_told, message_to}
+use Rattle.ug_group_rules.specs.Machine.{Subgroup, is_quiet, is_owed, is_pending, owes, says_next, after_saying}
 use Rattle.ug_group_rules.proofs.Streams.{IsStream, stream-update, stream-end_of_rib, stream-begins, stream-ends}
 use Rattle.ug_group_rules.proofs.Tables.{row_at, is_forced, IsOut, told-formatted, told-forced, forced-all}
 use Rattle.ug_group_rules.proofs.WantedTables.{table_in, has-among, private-rows}
 use Rattle.ug_group_rules.proofs.Formats.{same-row, IsDueOf, due-is}
+use Rattle.ug_group_rules.proofs.NextPackets.{so-next}
 
 -- What is so of each subgroup: its pending list is exact, it desires what its key wants, nothing was formatted where it is
 -- fresh, so that End-of-RIB is due, and it is in a refresh only where its key has enhanced refresh.
@@ -61,11 +62,6 @@ open_is Open e f = refl
 pub some-mapped : {A B : Type 0} (f : A → B) (o : Option A) → is_some (option_map f o) ≡ is_some o
 some-mapped f None = refl
 some-mapped f (Some x) = refl
-
-pub and-unless : (a b : Bool) → (a && not b) ≡ false → b ≡ false → a ≡ false
-and-unless true true e f = absurd cc
-and-unless true false e f = absurd cc
-and-unless false b e f = refl
 
 pub right-none : (b : Bool) → (b || false) ≡ b
 right-none true = refl
@@ -117,10 +113,12 @@ module _ (p : ℕ) (front : List World) (w : World) (s : PeerState) (is : slice_
   -- ---- the packet
 
   module _ (ms : List Message) (stream : IsStream p s.sessions s.peer worlds (table_in ends x.out.formatted) (is_forced x.out) x.ending x.phase ms) where
-    abbrev Goes : Says × Subgroup → Type 0
-    Goes r = IsStream p s.sessions s.peer worlds (table_in ends r.1.out.formatted) (is_forced r.1.out) r.1.ending r.1.phase (ms ++ message_to ends r.0 ∷ [])
+    abbrev Goes : Says → Type 0
+    Goes says =
+        let y = after_saying says x in
+        IsStream p s.sessions s.peer worlds (table_in ends y.out.formatted) (is_forced y.out) y.ending y.phase (ms ++ message_to ends says ∷ [])
 
-    begins : is_owed x.phase ≡ true → x.ending ≡ false → Goes (RefreshBegins, record x { out = all_forced x.out; phase = Open })
+    begins : is_owed x.phase ≡ true → x.ending ≡ false → Goes RefreshBegins
     begins owed not_due =
         subst (λ (b : Bool). IsStream p s.sessions s.peer worlds (table_in ends x.out.formatted) (is_forced (all_forced x.out)) b Open (ms ++ message_to ends RefreshBegins ∷ [])) (sym not_due)
         (stream-begins p s.sessions s.peer worlds (table_in ends x.out.formatted) (is_forced x.out) (is_forced (all_forced x.out)) x.phase ms
@@ -149,7 +147,7 @@ module _ (p : ℕ) (front : List World) (w : World) (s : PeerState) (is : slice_
     gone_next : (keys : List Key) (q : Key) → has key_order keys q ≡ true → row_at x.out.desired q ≡ None → table_in ends (with_told keys x.out).formatted q ≡ None
     gone_next keys q there none = told_table keys q there ∙ ap (option_map (told_to ends)) none
 
-    goes_gone : (keys : List Key) → IsDueOf x.out (Withdraws keys) → Goes (Withdrawn keys, record x { out = with_told keys x.out })
+    goes_gone : (keys : List Key) → IsDueOf x.out (Withdraws keys) → Goes (Withdrawn keys)
     goes_gone keys due_now =
         stream-update p s.sessions s.peer worlds (table_in ends x.out.formatted) (table_in ends (with_told keys x.out).formatted) (is_forced x.out) (is_forced (with_told keys x.out)) x.ending x.phase ms
         (record { withdrawn = keys; attrs = None; announced = [] }) stream
@@ -160,7 +158,7 @@ module _ (p : ℕ) (front : List World) (w : World) (s : PeerState) (is : slice_
         (λ q other. let out_of : has key_order keys q ≡ false = has-among keys q ∙ other in (other_table keys q out_of, other_forced keys q out_of))
         (says_gone keys due_now.0)
 
-    goes_new : (o : OutAttrs) (keys : List Key) → IsDueOf x.out (Announces o keys) → Goes (Announced o keys, record x { out = with_told keys x.out })
+    goes_new : (o : OutAttrs) (keys : List Key) → IsDueOf x.out (Announces o keys) → Goes (Announced o keys)
     goes_new o keys due_now =
         stream-update p s.sessions s.peer worlds (table_in ends x.out.formatted) (table_in ends (with_told keys x.out).formatted) (is_forced x.out) (is_forced (with_told keys x.out)) x.ending x.phase ms
         (record { withdrawn = []; attrs = Some (told_to ends o); announced = keys }) stream
@@ -184,14 +182,14 @@ module _ (p : ℕ) (front : List World) (w : World) (s : PeerState) (is : slice_
         by true e rest there = elim there [ inl here ↦ inl here | inr later ↦ inr (rest later) ]
         by false e rest there = elim there [ inl here ↦ absurd (let so : test u ≡ true = subst (λ (z : World). test z ≡ true) here passes in cc) | inr later ↦ rest later ]
 
-    goes_end : x.out.pending ≡ [] → x.ending ≡ true → Goes (EndOfRib, record x { ending = false })
+    goes_end : x.out.pending ≡ [] → x.ending ≡ true → Goes EndOfRib
     goes_end none due_now =
         stream-end_of_rib p s.sessions s.peer worlds (table_in ends x.out.formatted) (is_forced x.out) x.phase ms w
         (subst (λ (b : Bool). IsStream p s.sessions s.peer worlds (table_in ends x.out.formatted) (is_forced x.out) b x.phase ms) due_now stream)
         (among_tested (in_session p s.sessions) w worlds session (among_last w front))
         (λ q. ap (option_map (told_to ends)) (level-rows none q) ∙ desired-private q)
 
-    goes_ends : x.out.pending ≡ [] → x.ending ≡ false → x.phase ≡ Open → Goes (RefreshEnds, record x { phase = Quiet })
+    goes_ends : x.out.pending ≡ [] → x.ending ≡ false → x.phase ≡ Open → Goes RefreshEnds
     goes_ends none not_due opened =
         subst (λ (b : Bool). IsStream p s.sessions s.peer worlds (table_in ends x.out.formatted) (is_forced x.out) b Quiet (ms ++ message_to ends RefreshEnds ∷ [])) (sym not_due)
         (stream-ends p s.sessions s.peer worlds (table_in ends x.out.formatted) (is_forced x.out) ms
@@ -209,19 +207,14 @@ module _ (p : ℕ) (front : List World) (w : World) (s : PeerState) (is : slice_
         not_so' true e = absurd cc
         not_so' false e = refl
 
-    goes_by : (d : Due Key OutAttrs) → IsDueOf x.out d → owes x ≡ true → (is_owed x.phase && not x.ending) ≡ false → Goes (with_routes x d)
-    goes_by (Withdraws keys) due_now owing no_mark = goes_gone keys due_now
-    goes_by (Announces o keys) due_now owing no_mark = goes_new o keys due_now
-    goes_by Nothing none owing no_mark = by x.ending refl
-      where
-        by : (b : Bool) → x.ending ≡ b → Goes (if b then (EndOfRib, record x { ending = false }) else (RefreshEnds, record x { phase = Quiet }))
-        by true e = goes_end none e
-        by false e = goes_ends none e (owing_open none owing (and-unless (is_owed x.phase) x.ending no_mark e) e)
-
     pub format-goes : (light : (q : Key) → has key_order x.out.pending q ≡ true → weight_of q ≤ 21) → 21 ≤ room x.key.family (limit_of x.key)
-        → ((q : Key) (o : OutAttrs) → row_at x.out.desired q ≡ Some o → 21 ≤ room_beside x.key.family (limit_of x.key) o.attrs) → owes x ≡ true → Goes (next_packet x)
-    format-goes light wide beside owing = by (is_owed x.phase && not x.ending) refl
-      where
-        by : (b : Bool) → (is_owed x.phase && not x.ending) ≡ b → Goes (if b then (RefreshBegins, record x { out = all_forced x.out; phase = Open }) else with_routes x (routes_due x.key x.out))
-        by true e = let parts = both_so (is_owed x.phase) (not x.ending) e in begins parts.0 (not_so x.ending parts.1)
-        by false e = goes_by (routes_due x.key x.out) (due-is x.key x.out light wide beside) owing e
+        → ((q : Key) (o : OutAttrs) → row_at x.out.desired q ≡ Some o → 21 ≤ room_beside x.key.family (limit_of x.key) o.attrs) → owes x ≡ true → Goes (says_next x)
+    format-goes light wide beside owing =
+        let is = due-is x.key x.out light wide beside in
+        so-next x Goes (record {
+          begins = λ owed not_due. begins owed not_due;
+          withdraws = λ keys due. goes_gone keys (subst (λ (d : Due Key OutAttrs). IsDueOf x.out d) due is);
+          announces = λ o keys due. goes_new o keys (subst (λ (d : Due Key OutAttrs). IsDueOf x.out d) due is);
+          end_of_rib = λ none due. goes_end (subst (λ (d : Due Key OutAttrs). IsDueOf x.out d) none is) due;
+          ends = λ none not_owed not_due. let empty = subst (λ (d : Due Key OutAttrs). IsDueOf x.out d) none is in goes_ends empty not_due (owing_open empty owing not_owed not_due);
+        })

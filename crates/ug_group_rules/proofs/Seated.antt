@@ -16,8 +16,6 @@ use Rattle.ug_world.specs.declared.peer_state.PeerState.{PeerState}
 use Rattle.ug_world.specs.World.{World, key_in}
 use Rattle.ug_world.specs.Private.{private_table}
 use Rattle.ug_adjout_rules.specs.Tables.{has}
-use Rattle.ug_adjout_rules.specs.Formatting.{Due}
-use Rattle.ug_adjout_rules.specs.Formatting.Due.{Nothing, Withdraws, Announces}
 use Rattle.ug_pack.specs.Rooms.{room, room_beside}
 use Rattle.ug_pack.specs.Ready.{key_order}
 use Rattle.ug_message.specs.Fitting.{fits}
@@ -26,18 +24,18 @@ use Rattle.ug_speaker.specs.Told.{handed_in}
 use Rattle.ug_speaker.specs.Right.{IsToldRight}
 use Rattle.ug_speaker.specs.Places.{change_at}
 use Rattle.ug_speaker.specs.Counts.{Counts, is_lost_at}
-use Rattle.ug_speaker.proofs.Bools.{both_so}
 use Rattle.ug_speaker.proofs.Places.{changed-here, changed-there}
 use Rattle.ug_speaker.proofs.Counts.{IsCounted}
 use Rattle.ug_group_rules.specs.declared.phase.Phase.{Phase}
 use Rattle.ug_group_rules.specs.declared.phase.Phase.TheVariants.{Quiet, Open}
-use Rattle.ug_group_rules.specs.Packets.{Packet, Says, EndOfRib, RefreshBegins, RefreshEnds, wanted_rows, all_forced, with_told, routes_due, message_to}
-use Rattle.ug_group_rules.specs.Machine.{Subgroup, Seat, Member, System, is_owed, with_routes, next_packet, formatted}
+use Rattle.ug_group_rules.specs.Packets.{Packet, Says, Withdrawn, Announced, EndOfRib, RefreshBegins, RefreshEnds, wanted_rows, with_told, message_to}
+use Rattle.ug_group_rules.specs.Machine.{Subgroup, Seat, Member, System, is_owed, says_next, after_saying, formatted}
 use Rattle.ug_group_rules.proofs.Fitting.{CanBeSent}
 use Rattle.ug_group_rules.proofs.Streams.{IsStream}
 use Rattle.ug_group_rules.proofs.Tables.{row_at, is_forced, IsOut, told-desired, told-exact, told-formatted, forced-exact}
 use Rattle.ug_group_rules.proofs.WantedTables.{table_in}
 use Rattle.ug_group_rules.proofs.MemberStreams.{IsKept}
+use Rattle.ug_group_rules.proofs.NextPackets.{so-next}
 
 -- what is counted of a member's sessions
 abbrev pub counts_of : Member → Counts
@@ -113,8 +111,8 @@ pub record IsFine (w : World) : Type 0 where
 
 -- ---- a formatted subgroup is kept
 
-abbrev IsNextKept : World → Says × Subgroup → Type 0
-IsNextKept w r = IsOut r.1.out × (r.1.out.desired ≡ wanted_rows r.1.key w) × ((r.1.phase ≡ Quiet) ⊎ (r.1.key.enhanced_refresh ≡ true))
+abbrev IsNextKept : World → Subgroup → Type 0
+IsNextKept w y = IsOut y.out × (y.out.desired ≡ wanted_rows y.key w) × ((y.phase ≡ Quiet) ⊎ (y.key.enhanced_refresh ≡ true))
 
 owed_other : (phase : Phase) → is_owed phase ≡ true → phase ≡ Quiet → ⊥
 owed_other phase e quiet = let none : is_owed phase ≡ false = ap is_owed quiet in absurd cc
@@ -123,48 +121,33 @@ module _ (w : World) (x : Subgroup) (kept : IsKept w x) where
   marked_open : is_owed x.phase ≡ true → (Open ≡ Quiet) ⊎ (x.key.enhanced_refresh ≡ true)
   marked_open owed = elim kept.marked [ inl quiet ↦ absurd (owed_other x.phase owed quiet) | inr marked ↦ inr marked ]
 
-  routes_kept : (d : Due Key OutAttrs) → IsNextKept w (with_routes x d)
-  routes_kept (Withdraws keys) = (told-exact keys x.out kept.exact, told-desired keys x.out ∙ kept.desired, kept.marked)
-  routes_kept (Announces o keys) = (told-exact keys x.out kept.exact, told-desired keys x.out ∙ kept.desired, kept.marked)
-  routes_kept Nothing = by x.ending
-    where
-      by : (b : Bool) → IsNextKept w (if b then (EndOfRib, record x { ending = false }) else (RefreshEnds, record x { phase = Quiet }))
-      by true = (kept.exact, kept.desired, kept.marked)
-      by false = (kept.exact, kept.desired, inl refl)
-
-  next_kept : IsNextKept w (next_packet x)
-  next_kept = by (is_owed x.phase && not x.ending) refl
-    where
-      by : (b : Bool) → (is_owed x.phase && not x.ending) ≡ b → IsNextKept w (if b then (RefreshBegins, record x { out = all_forced x.out; phase = Open }) else with_routes x (routes_due x.key x.out))
-      by true e = (forced-exact x.out kept.exact, kept.desired, marked_open (both_so (is_owed x.phase) (not x.ending) e).0)
-      by false e = routes_kept (routes_due x.key x.out)
+  next_kept : IsNextKept w (after_saying (says_next x) x)
+  next_kept =
+      so-next x (λ says. IsNextKept w (after_saying says x)) (record {
+        begins = λ owed not_due. (forced-exact x.out kept.exact, kept.desired, marked_open owed);
+        withdraws = λ keys due. (told-exact keys x.out kept.exact, told-desired keys x.out ∙ kept.desired, kept.marked);
+        announces = λ o keys due. (told-exact keys x.out kept.exact, told-desired keys x.out ∙ kept.desired, kept.marked);
+        end_of_rib = λ none due. (kept.exact, kept.desired, kept.marked);
+        ends = λ none not_owed not_due. (kept.exact, kept.desired, inl refl);
+      })
 
   pub kept-formatted : IsKept w (formatted x)
   kept-formatted = let next = next_kept in record { exact = next.0; desired = next.1; nothing = λ e. absurd cc; closed = λ e f. absurd cc; due = λ e. absurd cc; marked = next.2 }
 
   -- its key stays
-  abbrev HasKey : Says × Subgroup → Type 0
-  HasKey r = r.1.key ≡ x.key
-
-  routes_key : (d : Due Key OutAttrs) → HasKey (with_routes x d)
-  routes_key (Withdraws keys) = refl
-  routes_key (Announces o keys) = refl
-  routes_key Nothing = by x.ending
-    where
-      by : (b : Bool) → HasKey (if b then (EndOfRib, record x { ending = false }) else (RefreshEnds, record x { phase = Quiet }))
-      by true = refl
-      by false = refl
+  key_after : (says : Says) → (after_saying says x).key ≡ x.key
+  key_after RefreshBegins = refl
+  key_after (Withdrawn keys) = refl
+  key_after (Announced o keys) = refl
+  key_after EndOfRib = refl
+  key_after RefreshEnds = refl
 
   pub key-formatted : (formatted x).key ≡ x.key
-  key-formatted = by (is_owed x.phase && not x.ending)
-    where
-      by : (b : Bool) → HasKey (if b then (RefreshBegins, record x { out = all_forced x.out; phase = Open }) else with_routes x (routes_due x.key x.out))
-      by true = refl
-      by false = routes_key (routes_due x.key x.out)
+  key-formatted = key_after (says_next x)
 
   -- a row of what is formatted then was formatted before, or is desired
-  abbrev FromRows : Says × Subgroup → Type 0
-  FromRows r = (q : Key) → (row_at r.1.out.formatted q ≡ row_at x.out.formatted q) ⊎ (row_at r.1.out.formatted q ≡ row_at x.out.desired q)
+  abbrev FromRows : Subgroup → Type 0
+  FromRows y = (q : Key) → (row_at y.out.formatted q ≡ row_at x.out.formatted q) ⊎ (row_at y.out.formatted q ≡ row_at x.out.desired q)
 
   from_told : (keys : List Key) (q : Key) → (row_at (with_told keys x.out).formatted q ≡ row_at x.out.formatted q) ⊎ (row_at (with_told keys x.out).formatted q ≡ row_at x.out.desired q)
   from_told keys q = by (has key_order keys q) (told-formatted keys x.out q kept.exact.formatted_rows)
@@ -174,21 +157,15 @@ module _ (w : World) (x : Subgroup) (kept : IsKept w x) where
       by true e = inr e
       by false e = inl e
 
-  from_routes : (d : Due Key OutAttrs) → FromRows (with_routes x d)
-  from_routes (Withdraws keys) = λ q. from_told keys q
-  from_routes (Announces o keys) = λ q. from_told keys q
-  from_routes Nothing = by x.ending
-    where
-      by : (b : Bool) → FromRows (if b then (EndOfRib, record x { ending = false }) else (RefreshEnds, record x { phase = Quiet }))
-      by true = λ q. inl refl
-      by false = λ q. inl refl
+  rows_after : (says : Says) → FromRows (after_saying says x)
+  rows_after RefreshBegins = λ q. inl refl
+  rows_after (Withdrawn keys) = λ q. from_told keys q
+  rows_after (Announced o keys) = λ q. from_told keys q
+  rows_after EndOfRib = λ q. inl refl
+  rows_after RefreshEnds = λ q. inl refl
 
-  pub rows-formatted : FromRows (next_packet x)
-  rows-formatted = by (is_owed x.phase && not x.ending)
-    where
-      by : (b : Bool) → FromRows (if b then (RefreshBegins, record x { out = all_forced x.out; phase = Open }) else with_routes x (routes_due x.key x.out))
-      by true = λ q. inl refl
-      by false = from_routes (routes_due x.key x.out)
+  pub rows-formatted : FromRows (after_saying (says_next x) x)
+  rows-formatted = rows_after (says_next x)
 
 -- ---- at a place of a list that changes
 

@@ -20,7 +20,7 @@ use Rattle.ug_speaker.specs.Places.{change_at}
 use Rattle.ug_speaker.specs.Counts.{sessions_at}
 use Rattle.ug_speaker.proofs.Bools.{both_so, not_so}
 use Rattle.ug_speaker.proofs.Places.{changed-here, changed-there}
-use Rattle.ug_group_rules.specs.Machine.{Subgroup, Seat, Member, System, stands_first, stands_behind, queued, is_so, is_full, is_parted, must_part, is_pending, subgroup_at, reseated, unstuck, next_packet, formatted, given, format_of, moved, merge, parted, slow_of, seat_at, leave, start, Job, Said, Take, Format, Merge, Slow, Sync, Close, Upshot, Begins, Hands, Rests, upshot, rest_behind, after_upshot, after_next, with_loss, after_loss}
+use Rattle.ug_group_rules.specs.Machine.{Subgroup, Seat, Member, System, stands_first, stands_behind, queued, is_so, is_full, is_parted, must_part, is_pending, subgroup_at, reseated, unstuck, says_next, formatted, given, format_of, moved, merge, parted, slow_of, seat_at, leave, start, Job, Said, Take, Format, Merge, Slow, Sync, Close, Upshot, Begins, Hands, Rests, upshot, rest_behind, after_upshot, after_next, with_loss, after_loss}
 use Rattle.ug_group_rules.specs.Rules.{group_rules, group_speech}
 use Rattle.ug_group_rules.proofs.Seated.{IsSystem}
 use Rattle.ug_group_rules.proofs.Parting.{changed-length}
@@ -37,9 +37,9 @@ module _ (g : ℕ) (s : System) (held : AreHeld s) where
   held_formatted None = held
   held_formatted (Some x) = λ k y there.
       let found = there-changed formatted g k s.subgroups y there in
-      sits-as (given g (record { made = s.made; says = (next_packet x).0 })) k k s.members (λ t here. by t (t.sub == g) ∙ here) (held k found.0 found.1)
+      sits-as (given g (record { made = s.made; says = says_next x })) k k s.members (λ t here. by t (t.sub == g) ∙ here) (held k found.0 found.1)
     where
-      by : (t : Seat) (b : Bool) → (if b then record t { rest = t.rest ++ record { made = s.made; says = (next_packet x).0 } ∷ [] } else t).sub ≡ t.sub
+      by : (t : Seat) (b : Bool) → (if b then record t { rest = t.rest ++ record { made = s.made; says = says_next x } ∷ [] } else t).sub ≡ t.sub
       by t true = refl
       by t false = refl
 

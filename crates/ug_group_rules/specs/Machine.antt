@@ -205,26 +205,36 @@ subgroup_at g s = there (slice_get s.subgroups g)
 
 -- ---- Format: one packet is appended to a queue
 
--- what the packet says, and the subgroup after it
-abbrev pub with_routes : Subgroup → Due Key OutAttrs → Says × Subgroup
-with_routes x (Withdraws keys) = (Withdrawn keys, record x { out = with_told keys x.out })
-with_routes x (Announces o keys) = (Announced o keys, record x { out = with_told keys x.out })
-with_routes x Nothing = if x.ending then (EndOfRib, record x { ending = false }) else (RefreshEnds, record x { phase = Quiet })
+-- What it says, by whether a refresh has to begin, by the routes that are due, and by whether End-of-RIB is.
+abbrev pub says_by : Bool → Due Key OutAttrs → Bool → Says
+says_by true due ending = RefreshBegins
+says_by false (Withdraws keys) ending = Withdrawn keys
+says_by false (Announces o keys) ending = Announced o keys
+says_by false Nothing true = EndOfRib
+says_by false Nothing false = RefreshEnds
 
--- By the first that applies: the begin of a refresh, which forces all keys, and which waits for End-of-RIB; withdrawals;
--- the first pending key with those of equal attributes; End-of-RIB; the end of a refresh.
-abbrev pub next_packet : Subgroup → Says × Subgroup
-next_packet x = if is_owed x.phase && not x.ending then (RefreshBegins, record x { out = all_forced x.out; phase = Open }) else with_routes x (routes_due x.key x.out)
+-- By the first that applies: the begin of a refresh, which waits for End-of-RIB; withdrawals; the first pending key with
+-- those of equal attributes; End-of-RIB; the end of a refresh.
+abbrev pub says_next : Subgroup → Says
+says_next x = says_by (is_owed x.phase && not x.ending) (routes_due x.key x.out) x.ending
+
+-- The subgroup after a packet that says this: the begin of a refresh forces all keys.
+abbrev pub after_saying : Says → Subgroup → Subgroup
+after_saying RefreshBegins x = record x { out = all_forced x.out; phase = Open }
+after_saying (Withdrawn keys) x = record x { out = with_told keys x.out }
+after_saying (Announced o keys) x = record x { out = with_told keys x.out }
+after_saying EndOfRib x = record x { ending = false }
+after_saying RefreshEnds x = record x { phase = Quiet }
 
 abbrev pub formatted : Subgroup → Subgroup
-formatted x = record (next_packet x).1 { fresh = false; stuck = 0 }
+formatted x = record (after_saying (says_next x) x) { fresh = false; stuck = 0 }
 
 -- each member of the subgroup has the packet to take
 abbrev pub given : ℕ → Packet → Seat → Seat
 given g packet t = if t.sub == g then record t { rest = t.rest ++ packet ∷ [] } else t
 
 abbrev pub with_packet : ℕ → Subgroup → System → System
-with_packet g x s = with_seats (given g (record { made = s.made; says = (next_packet x).0 })) (with_subgroup g formatted (record s { made = s.made + 1 }))
+with_packet g x s = with_seats (given g (record { made = s.made; says = says_next x })) (with_subgroup g formatted (record s { made = s.made + 1 }))
 
 abbrev pub format_of : ℕ → Option Subgroup → System → System
 format_of g None s = s
@@ -258,14 +268,27 @@ pub data Turn : Type 0 where
   Rekeys : Turn
   Stays : Turn
 
--- The peer is `s` in the world before, and `s'` in the world after.
+-- the session that it had before goes on
+abbrev pub goes_on : PeerState → PeerState → Bool
+goes_on s s' = s.up && (s.sessions == s'.sessions)
+
+-- it asks for all routes by this event
+abbrev pub asks_by : Happening → PeerState → Bool
+asks_by e s = is_request e && is_about e s
+
+-- its key is the one that it had before
+abbrev pub keeps_key : World → World → PeerState → PeerState → Bool
+keeps_key old new s s' = same_group (key_in old s) (key_in new s')
+
+-- The first of these that applies to a peer that is `s` in the world before and `s'` in the world after. Where its session
+-- goes on it has a seat, unless that session is lost.
 abbrev pub turn_of : Happening → World → World → PeerState → PeerState → Option Seat → Turn
 turn_of e old new s s' seat =
     if not s'.up then Leaves
-    else if not (s.up && (s.sessions == s'.sessions)) then Starts
+    else if not (goes_on s s') then Starts
     else if is_none seat then Leaves
-    else if is_request e && is_about e s' then Asks
-    else if not (same_group (key_in old s) (key_in new s')) then Rekeys
+    else if asks_by e s' then Asks
+    else if not (keeps_key old new s s') then Rekeys
     else Stays
 
 -- The first fresh subgroup of the key in which End-of-RIB is due: a session that starts may share it, since no packet of

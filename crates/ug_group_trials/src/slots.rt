@@ -3,7 +3,7 @@
 ghost use Rattle.std.specs.Prelude.{◌≡◌, ◌+◌, ◌^◌, ◌<◌, None, length, slice_get, OnOk, IfOk};
 ghost use Rattle.std.specs.Option.{option_map};
 ghost use Rattle.ug_speaker.specs.Places.{change_at};
-ghost use Rattle.ug_group_rules.specs.Machine.{there, formatted, next_packet, unstuck, rekeyed, asked, first_joinable};
+ghost use Rattle.ug_group_rules.specs.Machine.{there, formatted, says_next, unstuck, rekeyed, asked, first_joinable};
 ghost use Rattle.ug_group_rules.specs.Machine as machine;
 
 use ug_outbound::GroupKey;
@@ -25,7 +25,7 @@ pub fn subgroup_at(subgroups: &[Option<Subgroup>], sub: usize) -> Option<&Subgro
 /// Its next packet is formatted, which says what is answered.
 #[tactic(auto, using(crate::proofs::Placed::set_is, crate::proofs::Placed::end_is, crate::proofs::Placed::there_is, crate::proofs::Placed::past_is))]
 pub fn format_at(subgroups: &mut [Option<Subgroup>], sub: usize) -> Result<Option<Says>, NoMemory>
-    ensures says { IfOk result (λ says. says ≡ option_map (λ (x : machine.Subgroup). (next_packet x).0) (there (slice_get subgroups.old sub))) }
+    ensures says { IfOk result (λ says. says ≡ option_map (λ (x : machine.Subgroup). says_next x) (there (slice_get subgroups.old sub))) }
     ensures subgroups { OnOk result (subgroups.new ≡ change_at (option_map formatted) sub subgroups.old) }
 {
     if sub >= subgroups.len() {

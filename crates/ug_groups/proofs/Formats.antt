@@ -20,7 +20,7 @@ use Rattle.ug_adjout_rules.specs.Formatting.Due.{Nothing, Withdraws, Announces}
 use Rattle.ug_adjout.specs.Stored.{projected_with, of_row}
 use Rattle.ug_group_rules.specs.declared.phase.Phase.TheVariants.{Quiet, Owed, Open}
 use Rattle.ug_group_rules.specs.Packets.{Rows, Out, Says, EndOfRib, RefreshBegins, RefreshEnds, same_out, all_forced, with_told, routes_due}
-use Rattle.ug_group_rules.specs.Machine.{Subgroup, is_owed, next_packet, with_routes, formatted, asked, owes, is_level}
+use Rattle.ug_group_rules.specs.Machine.{Subgroup, is_owed, says_by, says_next, after_saying, formatted, asked, owes, is_level}
 use Rattle.ug_groups.specs.declared.routed.Routed.{Routed}
 use Rattle.ug_groups.specs.Values.{value_in, valued, out_in, IsLiveId, AreLive, valued_by}
 use Rattle.ug_groups.specs.Holders.{IsCounted, IsMoved, IsUsed, IsExchanged}
@@ -99,37 +99,32 @@ module _ (pool : Pooled OutAttrs) (k : Standing) (family : Family) (kept : IsKep
   abbrev x : Subgroup
   x = seen pool k
 
-  abbrev Next : Type 0
-  Next = Says × Subgroup
+  -- the subgroup, where its next packet says this
+  abbrev after : Says → Subgroup
+  after says = record (after_saying says x) { fresh = false; stuck = 0 }
 
-  abbrev begins : Next
-  begins = (RefreshBegins, record x { out = all_forced x.out; phase = Open })
+  next_by : (b : Bool) → (is_owed k.phase && not k.ending) ≡ b → says_next x ≡ says_by b (routes_due k.key x.out) k.ending
+  next_by b e = ap (λ (begun : Bool). says_by begun (routes_due k.key x.out) k.ending) e
 
-  abbrev goes_on : Next
-  goes_on = with_routes x (routes_due k.key x.out)
-
-  next_begins : (is_owed k.phase && not k.ending) ≡ true → next_packet x ≡ begins
-  next_begins e = ap (λ b. if b then begins else goes_on) e
-
-  next_routes : (is_owed k.phase && not k.ending) ≡ false → next_packet x ≡ goes_on
-  next_routes e = ap (λ b. if b then begins else goes_on) e
-
-  pub begun_says : (is_owed k.phase && not k.ending) ≡ true → (next_packet x).0 ≡ RefreshBegins
-  begun_says e = ap (λ (n : Next). n.0) (next_begins e)
+  pub begun_says : (is_owed k.phase && not k.ending) ≡ true → says_next x ≡ RefreshBegins
+  begun_says e = next_by true e
 
   pub begun_seen : IsOneId same_out pool → (is_owed k.phase && not k.ending) ≡ true → seen pool (begun k) ≡ formatted x
   begun_seen one e =
       ap (λ (out : Out). record { key = k.key; out = out; ending = k.ending; fresh = false; phase = Open; stuck = 0 })
       (forced_same pool one k.adj kept.exact.formatted_rows kept.exact.desired_rows (formatted_live pool k.adj counted) (desired_live pool k.adj counted))
-      ∙ ap (λ (n : Next). record n.1 { fresh = false; stuck = 0 }) (sym (next_begins e))
+      ∙ ap (λ (says : Says). after says) (sym (begun_says e))
 
   module _ (made : ℕ) (o : FamilyRib) (not_owed : (is_owed k.phase && not k.ending) ≡ false) where
-    routed_next : (r : Routed) (d : Due Key OutAttrs) → IsRouted k.key made o d (Some r) → with_routes x d ≡ (r.packet.says, record x { out = with_told r.keys.items x.out })
-    routed_next r Nothing is = absurd is
-    routed_next r (Withdraws keys) is =
-        ap (λ (says : Says). (says, record x { out = with_told keys x.out })) (sym is.says_is) ∙ ap (λ ks. (r.packet.says, record x { out = with_told ks x.out })) (sym is.keys_are)
-    routed_next r (Announces out keys) is =
-        ap (λ (says : Says). (says, record x { out = with_told keys x.out })) (sym is.says_is) ∙ ap (λ ks. (r.packet.says, record x { out = with_told ks x.out })) (sym is.keys_are)
+    routed_says : (r : Routed) (d : Due Key OutAttrs) → IsRouted k.key made o d (Some r) → says_by false d k.ending ≡ r.packet.says
+    routed_says r Nothing is = absurd is
+    routed_says r (Withdraws keys) is = sym is.says_is
+    routed_says r (Announces out keys) is = sym is.says_is
+
+    routed_after : (r : Routed) (d : Due Key OutAttrs) → IsRouted k.key made o d (Some r) → after (says_by false d k.ending) ≡ record x { out = with_told r.keys.items x.out; fresh = false; stuck = 0 }
+    routed_after r Nothing is = absurd is
+    routed_after r (Withdraws keys) is = ap (λ ks. record x { out = with_told ks x.out; fresh = false; stuck = 0 }) (sym is.keys_are)
+    routed_after r (Announces out keys) is = ap (λ ks. record x { out = with_told ks x.out; fresh = false; stuck = 0 }) (sym is.keys_are)
 
     routed_made : (r : Routed) (d : Due Key OutAttrs) → IsRouted k.key made o d (Some r) → r.packet.made ≡ made
     routed_made r Nothing is = absurd is
@@ -147,10 +142,10 @@ module _ (pool : Pooled OutAttrs) (k : Standing) (family : Family) (kept : IsKep
     routed_told r (Announces out keys) is = is.told
 
     module _ (r : Routed) (is : IsRouted k.key made o (routes_due k.key x.out) (Some r)) where
-      pub told_said : said r.packet ≡ record { made = made; says = (next_packet x).0 }
+      pub told_said : said r.packet ≡ record { made = made; says = says_next x }
       told_said =
           ap (λ (m : ℕ). record { made = m; says = r.packet.says }) (routed_made r (routes_due k.key x.out) is)
-          ∙ ap (λ (n : Next). record { made = made; says = n.0 }) (sym (next_routes not_owed ∙ routed_next r (routes_due k.key x.out) is))
+          ∙ ap (λ (says : Says). record { made = made; says = says }) (sym (next_by false not_owed ∙ routed_says r (routes_due k.key x.out) is))
 
       pub told_sent : IsSent (session_of k.key) r.packet
       told_sent = routed_sent r (routes_due k.key x.out) is
@@ -165,7 +160,7 @@ module _ (pool : Pooled OutAttrs) (k : Standing) (family : Family) (kept : IsKep
           ap (λ (out : Out). record { key = k.key; out = out; ending = k.ending; fresh = false; phase = k.phase; stuck = 0 })
           (out_moved pool later k.adj now now exact.formatted_rows exact.desired_rows (counted_moved pool later k.adj now counted moved) moved
           ∙ told_same pool one r.keys.items k.adj kept.exact.formatted_rows kept.exact.desired_rows (formatted_live pool k.adj counted) (desired_live pool k.adj counted))
-          ∙ ap (λ (n : Next). record n.1 { fresh = false; stuck = 0 }) (sym (next_routes not_owed ∙ routed_next r (routes_due k.key x.out) is))
+          ∙ sym (ap (λ (says : Says). after says) (next_by false not_owed) ∙ routed_after r (routes_due k.key x.out) is)
 
     none_due : (d : Due Key OutAttrs) → IsRouted k.key made o d None → d ≡ Nothing
     none_due Nothing is = refl
@@ -173,22 +168,22 @@ module _ (pool : Pooled OutAttrs) (k : Standing) (family : Family) (kept : IsKep
     none_due (Announces out keys) is = absurd is
 
     module _ (is : IsRouted k.key made o (routes_due k.key x.out) None) where
-      next_ends : next_packet x ≡ with_routes x Nothing
-      next_ends = next_routes not_owed ∙ ap (with_routes x) (none_due (routes_due k.key x.out) is)
+      next_ends : says_next x ≡ says_by false Nothing k.ending
+      next_ends = next_by false not_owed ∙ ap (λ (d : Due Key OutAttrs). says_by false d k.ending) (none_due (routes_due k.key x.out) is)
 
-      pub ended_says : (next_packet x).0 ≡ (if k.ending then EndOfRib else RefreshEnds)
-      ended_says = ap (λ (n : Next). n.0) next_ends ∙ by k.ending
+      pub ended_says : says_next x ≡ (if k.ending then EndOfRib else RefreshEnds)
+      ended_says = next_ends ∙ by k.ending
         where
-          by : (b : Bool) → (◌≡◌ {A = Says} (let n : Next = if b then (EndOfRib, record x { ending = false }) else (RefreshEnds, record x { phase = Quiet }) in n.0) (if b then EndOfRib else RefreshEnds))
+          by : (b : Bool) → says_by false Nothing b ≡ (if b then EndOfRib else RefreshEnds)
           by true = refl
           by false = refl
 
       pub ended_seen : seen pool (ended k) ≡ formatted x
-      ended_seen = by k.ending refl ∙ ap (λ (n : Next). record n.1 { fresh = false; stuck = 0 }) (sym next_ends)
+      ended_seen = by k.ending refl ∙ ap (λ (says : Says). after says) (sym next_ends)
         where
           by : (b : Bool) → k.ending ≡ b
               → seen pool (if b then record { key = k.key; adj = k.adj; ending = false; fresh = false; phase = k.phase; stuck = 0 } else record { key = k.key; adj = k.adj; ending = k.ending; fresh = false; phase = Quiet; stuck = 0 })
-              ≡ (let n : Next = if b then (EndOfRib, record x { ending = false }) else (RefreshEnds, record x { phase = Quiet }) in record n.1 { fresh = false; stuck = 0 })
+              ≡ after (says_by false Nothing b)
           by true e = refl
           by false e = refl
 

@@ -1,9 +1,8 @@
 -- A packet is formatted: what is asked of it, the view, and what is kept.
 use Rattle.std.proofs.Common.{◌≡◌, ℕ, ◌+◌, ◌<◌, ◌≤◌, Bool, true, false, List, [], ◌∷◌, ◌++◌, length, slice_get, Option, Some, None, refl, sym, ap, subst, ◌∙◌, arith, length-append}
-use Rattle.std.specs.Prelude.{nat_le, ◌==◌, ◌&&◌, not, if◌then◌else◌}
+use Rattle.std.specs.Prelude.{nat_le, ◌==◌, not, if◌then◌else◌}
 use Rattle.std.specs.Option.{option_map}
 use Rattle.std.proofs.lemmas.Bool.{eqb-true, eq-eqb}
-use Rattle.ug_group_rules.specs.declared.phase.Phase.TheVariants.{Quiet, Open}
 use Rattle.std.proofs.lemmas.Bool.Decides.{nat_tests}
 use Rattle.ug_types.specs.declared.key.Key.{Key}
 use Rattle.ug_types.specs.declared.route.OutAttrs.{OutAttrs}
@@ -14,14 +13,11 @@ use Rattle.ug_world.specs.Private.{wanted}
 use Rattle.ug_world.specs.Sendable as world
 use Rattle.ug_adjout_rules.specs.Tables.{value_at}
 use Rattle.ug_adjout_rules.specs.Pending.{with_all_formatted, with_formatted}
-use Rattle.ug_adjout_rules.specs.Formatting.{Due}
-use Rattle.ug_adjout_rules.specs.Formatting.Due.{Nothing, Withdraws, Announces}
 use Rattle.ug_pack.specs.Ready.{key_order, IsSendable}
 use Rattle.ug_queue.proofs.Rests.{rests}
-use Rattle.ug_group_rules.specs.Packets as packets
-use Rattle.ug_group_rules.specs.Packets.{Packet, Says, Out, same_out, wanted_rows, routes_due}
+use Rattle.ug_group_rules.specs.Packets.{Packet, Says, Withdrawn, Announced, EndOfRib, RefreshBegins, RefreshEnds, Out, same_out, wanted_rows}
 use Rattle.ug_group_rules.specs.Machine as machine
-use Rattle.ug_group_rules.specs.Machine.{System, Subgroup, Seat, owes, is_owed, next_packet, with_routes, formatted, given, reseated, with_seats, with_subgroup, subgroup_at, format_of}
+use Rattle.ug_group_rules.specs.Machine.{System, Subgroup, Seat, owes, says_next, after_saying, formatted, given, reseated, with_seats, with_subgroup, subgroup_at, format_of}
 use Rattle.ug_group_rules.specs.Rules.{rest_due}
 use Rattle.ug_groups.specs.Standings.{IsFit}
 use Rattle.ug_groups.specs.Rows.{Row, Rows, row_at, any_at, HasRow, sub_of, with_row, formatted_row, is_full_row, may_format_row}
@@ -40,46 +36,22 @@ told-desired : (out : Out) (keys : List Key) → (with_all_formatted key_order s
 told-desired out [] = refl
 told-desired out (key ∷ keys) = told-desired (with_formatted key_order same_out out key) keys
 
-abbrev ended : Bool → Subgroup → Says × Subgroup
-ended b x = if b then (packets.EndOfRib, record x { ending = false }) else (packets.RefreshEnds, record x { phase = Quiet })
+key-after : (x : Subgroup) (says : Says) → (after_saying says x).key ≡ x.key
+key-after x RefreshBegins = refl
+key-after x (Withdrawn keys) = refl
+key-after x (Announced o keys) = refl
+key-after x EndOfRib = refl
+key-after x RefreshEnds = refl
 
-abbrev next_by : Bool → Subgroup → Says × Subgroup
-next_by b x = if b then (packets.RefreshBegins, record x { out = packets.all_forced x.out; phase = Open }) else with_routes x (routes_due x.key x.out)
-
-ended-key : (b : Bool) (x : Subgroup) → (ended b x).1.key ≡ x.key
-ended-key true x = refl
-ended-key false x = refl
-
-routes-key : (x : Subgroup) (d : Due Key OutAttrs) → (with_routes x d).1.key ≡ x.key
-routes-key x (Withdraws keys) = refl
-routes-key x (Announces o keys) = refl
-routes-key x Nothing = ended-key x.ending x
-
-key-by : (b : Bool) (x : Subgroup) → (next_by b x).1.key ≡ x.key
-key-by true x = refl
-key-by false x = routes-key x (routes_due x.key x.out)
-
-next-key : (x : Subgroup) → (next_packet x).1.key ≡ x.key
-next-key x = key-by (is_owed x.phase && not x.ending) x
-
-ended-desired : (b : Bool) (x : Subgroup) → (ended b x).1.out.desired ≡ x.out.desired
-ended-desired true x = refl
-ended-desired false x = refl
-
-routes-desired : (x : Subgroup) (d : Due Key OutAttrs) → (with_routes x d).1.out.desired ≡ x.out.desired
-routes-desired x (Withdraws keys) = told-desired x.out keys
-routes-desired x (Announces o keys) = told-desired x.out keys
-routes-desired x Nothing = ended-desired x.ending x
-
-desired-by : (b : Bool) (x : Subgroup) → (next_by b x).1.out.desired ≡ x.out.desired
-desired-by true x = refl
-desired-by false x = routes-desired x (routes_due x.key x.out)
-
-next-desired : (x : Subgroup) → (next_packet x).1.out.desired ≡ x.out.desired
-next-desired x = desired-by (is_owed x.phase && not x.ending) x
+desired-after : (x : Subgroup) (says : Says) → (after_saying says x).out.desired ≡ x.out.desired
+desired-after x RefreshBegins = refl
+desired-after x (Withdrawn keys) = told-desired x.out keys
+desired-after x (Announced o keys) = told-desired x.out keys
+desired-after x EndOfRib = refl
+desired-after x RefreshEnds = refl
 
 formatted-alike : (made : ℕ) (r : Row) → IsAlike r (formatted_row made r)
-formatted-alike made r = record { key = next-key r.sub; desired = next-desired r.sub; limit = refl }
+formatted-alike made r = record { key = key-after r.sub (says_next r.sub); desired = desired-after r.sub (says_next r.sub); limit = refl }
 
 -- ---- what is asked
 
@@ -125,7 +97,7 @@ module _ (w : World) (made g : ℕ) (rows : Rows) (members : List Member) (kept 
   s = system w false made rows members
 
   abbrev packet : Packet
-  packet = record { made = made; says = (next_packet r.sub).0 }
+  packet = record { made = made; says = says_next r.sub }
 
   abbrev new : Rows
   new = with_row g (formatted_row made) rows

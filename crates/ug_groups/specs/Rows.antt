@@ -13,7 +13,7 @@ use Rattle.ug_queue.specs.Queues.{Queued, empty_queue, with_packet, with_member,
 use Rattle.ug_queue.specs.Rests.{IsInside}
 use Rattle.ug_group_rules.specs.declared.phase.Phase.TheVariants.{Quiet}
 use Rattle.ug_group_rules.specs.Packets.{Packet, same_group, same_out}
-use Rattle.ug_group_rules.specs.Machine.{Subgroup, there, next_packet, formatted, owes, is_pending, is_level, unstuck}
+use Rattle.ug_group_rules.specs.Machine.{Subgroup, there, says_next, formatted, owes, is_pending, is_level, unstuck}
 use Rattle.ug_group_rules.specs.Evaluations.{keys_from}
 use Rattle.ug_groups.specs.Subgroups.{part_of}
 
@@ -93,7 +93,7 @@ left_row m r = with_queue (λ q. shed (without_member q m)) r
 
 -- a packet is formatted, under that number
 abbrev pub formatted_row : ℕ → Row → Row
-formatted_row made r = record { sub = formatted r.sub; queue = with_packet r.queue (record { made = made; says = (next_packet r.sub).0 }) }
+formatted_row made r = record { sub = formatted r.sub; queue = with_packet r.queue (record { made = made; says = says_next r.sub }) }
 
 abbrev pub rekeyed_row : GroupKey → Row → Row
 rekeyed_row key r = with_sub (λ x. record x { key = key }) r

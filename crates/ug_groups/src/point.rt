@@ -10,7 +10,7 @@ ghost use Rattle.ug_adjout_rules.specs.Formatting.Due.{Nothing};
 ghost use Rattle.ug_pack.specs.Ready.{key_order, IsKeyOf};
 ghost use Rattle.ug_group_rules.specs.declared.phase.Phase.TheVariants.{Quiet};
 ghost use Rattle.ug_group_rules.specs.Packets.{Says, EndOfRib, RefreshBegins, RefreshEnds, routes_due, same_group, same_out};
-ghost use Rattle.ug_group_rules.specs.Machine.{is_owed, is_quiet, is_pending, owes, is_level, next_packet, formatted, asked, is_joinable};
+ghost use Rattle.ug_group_rules.specs.Machine.{is_owed, is_quiet, is_pending, owes, is_level, says_next, formatted, asked, is_joinable};
 ghost use Rattle.ug_groups.specs.Values.{value_in, out_in, valued_by};
 ghost use Rattle.ug_groups.specs.Holders.{holds, rows_of, IsCounted, IsMoved, IsUsed, HasRoom};
 ghost use Rattle.ug_groups.specs.Packets.{said};
@@ -386,7 +386,7 @@ impl Point {
         requires fit { IsFit (seen pool.old self.old) }
         requires counted { IsCounted pool.old self.old.adj }
         requires room { HasRoom (2 ^ 64) pool.old }
-        ensures packet { IfOk result (λ p. said p ≡ record { made = made; says = (next_packet (seen pool.old self.old)).0 }) }
+        ensures packet { IfOk result (λ p. said p ≡ record { made = made; says = says_next (seen pool.old self.old) }) }
         ensures sent { IfOk result (IsSent (session_of self.old.key)) }
         ensures point { OnOk result (seen pool.new self.new ≡ formatted (seen pool.old self.old)) }
         ensures key { self.new.key ≡ self.old.key }

@@ -16,7 +16,7 @@ ghost use Rattle.std.specs.Ordering.{nat_cmp};
 ghost use Rattle.ug_queue.specs.Rests.{IsInside};
 ghost use Rattle.ug_queue.specs.Queues.{empty_queue, with_packet, with_member, with_members, without_member, without_members, past_next, shed, place_of, rest_of, passed, standing, IsMember, seat_all, AreNew, AreNewcomers, AreMembers};
 ghost use Rattle.ug_group_rules.specs.declared.phase.Phase.TheVariants.{Quiet};
-ghost use Rattle.ug_group_rules.specs.Machine.{next_packet, formatted, asked, owes, is_level, is_pending, is_joinable};
+ghost use Rattle.ug_group_rules.specs.Machine.{says_next, formatted, asked, owes, is_level, is_pending, is_joinable};
 ghost use Rattle.ug_groups.specs.Values.{value_in, valued_by};
 ghost use Rattle.ug_groups.specs.Holders.{holds, rows_of, IsCounted, IsMoved, IsUsed, HasRoom};
 ghost use Rattle.ug_groups.specs.Standings.{seen, IsFit, AreShown, AreOwn, desiring};
@@ -80,7 +80,7 @@ impl Subgroup {
         requires uses { HasRoom (2 ^ 64) pool.old }
         ensures point { OnOk result (seen pool.new self.new.point ≡ formatted (seen pool.old self.old.point)) }
         ensures key { self.new.point.key ≡ self.old.point.key }
-        ensures queue { OnOk result (self.new.queue ≡ with_packet self.old.queue (record { made = made; says = (next_packet (seen pool.old self.old.point)).0 })) }
+        ensures queue { OnOk result (self.new.queue ≡ with_packet self.old.queue (record { made = made; says = says_next (seen pool.old self.old.point) })) }
         ensures moved { OnOk result (IsMoved pool.old pool.new self.old.point.adj self.new.point.adj) }
     {
         let packet = self.point.next_packet(pool, made)?;

@@ -1,10 +1,10 @@
 //! A subgroup.
 
-ghost use Rattle.std.specs.Prelude.{◌≡◌, true, ◌+◌, ◌&&◌, IfOk, OnOk, option_copied, if◌then◌else◌};
+ghost use Rattle.std.specs.Prelude.{◌≡◌, true, false, ◌+◌, ◌&&◌, IfOk, OnOk, option_copied, if◌then◌else◌};
 ghost use Rattle.ug_adjout_rules.specs.Formatting.Due.{Nothing};
 ghost use Rattle.ug_group_rules.specs.declared.phase.Phase.TheVariants.{Quiet};
 ghost use Rattle.ug_group_rules.specs.Packets.{same_group, same_out};
-ghost use Rattle.ug_group_rules.specs.Machine.{is_owed, is_quiet, is_pending, owes, is_level, is_joinable, unstuck, with_routes, next_packet, formatted, fresh_subgroup, rekeyed, asked, retabled};
+ghost use Rattle.ug_group_rules.specs.Machine.{is_owed, is_quiet, is_pending, owes, is_level, is_joinable, unstuck, says_by, says_next, after_saying, formatted, fresh_subgroup, rekeyed, asked, retabled};
 ghost use Rattle.ug_adjout_rules.specs.Pending.{nothing_out, with_desired};
 ghost use Rattle.ug_pack.specs.Ready.{key_order};
 ghost use Rattle.ug_slow_subgroup.specs.Views.{due_of};
@@ -155,7 +155,7 @@ impl Subgroup {
     /// keys, and which waits for End-of-RIB; withdrawals; the first pending key with those of equal attributes;
     /// End-of-RIB; the end of a refresh.
     pub fn format(&mut self) -> Result<Says, NoMemory>
-        ensures says { IfOk result (λ says. says ≡ (next_packet self.old).0) }
+        ensures says { IfOk result (λ says. says ≡ says_next self.old) }
         ensures subgroup { OnOk result (self.new ≡ formatted self.old) }
     {
         let says = self.next_packet()?;
@@ -165,8 +165,8 @@ impl Subgroup {
     }
 
     fn next_packet(&mut self) -> Result<Says, NoMemory>
-        ensures says { IfOk result (λ says. says ≡ (next_packet self.old).0) }
-        ensures subgroup { OnOk result (self.new ≡ (next_packet self.old).1) }
+        ensures says { IfOk result (λ says. says ≡ says_next self.old) }
+        ensures subgroup { OnOk result (self.new ≡ after_saying (says_next self.old) self.old) }
     {
         if is_owed(self.phase) && !self.ending {
             self.out.force_all()?;
@@ -179,8 +179,8 @@ impl Subgroup {
 
     /// A packet of these routes; without routes End-of-RIB where it is due, and else the end of a refresh.
     fn with_routes(&mut self, due: Due) -> Result<Says, NoMemory>
-        ensures says { IfOk result (λ says. says ≡ (with_routes self.old (due_of due)).0) }
-        ensures subgroup { OnOk result (self.new ≡ (with_routes self.old (due_of due)).1) }
+        ensures says { IfOk result (λ says. says ≡ says_by false (due_of due) self.old.ending) }
+        ensures subgroup { OnOk result (self.new ≡ after_saying (says_by false (due_of due) self.old.ending) self.old) }
     {
         match due {
             Due::Withdraws(keys) => {
@@ -196,8 +196,8 @@ impl Subgroup {
     }
 
     fn without_routes(&mut self) -> Result<Says, NoMemory>
-        ensures says { IfOk result (λ says. says ≡ (with_routes self.old Nothing).0) }
-        ensures subgroup { OnOk result (self.new ≡ (with_routes self.old Nothing).1) }
+        ensures says { IfOk result (λ says. says ≡ says_by false Nothing self.old.ending) }
+        ensures subgroup { OnOk result (self.new ≡ after_saying (says_by false Nothing self.old.ending) self.old) }
     {
         if self.ending {
             self.ending = false;
