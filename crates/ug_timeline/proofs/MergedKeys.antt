@@ -3,6 +3,7 @@ use Rattle.std.proofs.Common.{◌≡◌, ℕ, zero, suc, ◌<◌, ◌≤◌, Boo
 use Rattle.std.specs.Prelude.{if◌then◌else◌}
 use Rattle.std.specs.Global.{Vec}
 use Rattle.std.proofs.lemmas.List.{append-nil}
+use Rattle.std.proofs.lemmas.Map.{update_all_push}
 use Rattle.std.specs.Map.{lookup, keys_of}
 use Rattle.std.specs.Ordering.{is_eq}
 use Rattle.std.specs.declared.cmp.Ordering.TheVariants.{Less}
@@ -15,7 +16,7 @@ use Rattle.ug_types.specs.Keys.{same_key}
 use Rattle.ug_types.specs.Orders.{key_cmp}
 use Rattle.ug_climb.specs.declared.change.Change.{Change}
 use Rattle.ug_climb.specs.Pasts.{Value, IsToldBy}
-use Rattle.ug_hearing.specs.Keyed.{value_for}
+use Rattle.ug_hearing.specs.Keyed.{value_for, last_for}
 use Rattle.ug_hearing.specs.Courses.{changes_of, items_or_none}
 use Rattle.ug_hearing.proofs.Keys.{same_is, tied}
 use Rattle.ug_hearing.proofs.Among.{same-self, same-sym}
@@ -62,19 +63,23 @@ found_other : {V : Type 0} (done : List (Key × V)) (key q : Key) (v : V) → sa
 found_other [] key q v other = ap (λ (b : Bool). if b then Some v else None) other
 found_other {V} (d ∷ done) key q v other = ap (λ (o : Option V). if same_key q d.0 then Some d.1 else o) (found_other done key q v other)
 
-pub told-on : (ends : PeerEnds) (ups : List (Since Bool)) (done : Entries) (key : Key) (outs : Vec (Since (Option OutAttrs))) (changes : Vec Change) (old new : List (Key × Vec Change)) → value_for done key ≡ None
-    → ((q : Key) → IsToldSo ends ups (value_for done q) (value_for old q)) → ((q : Key) → value_for new q ≡ (if same_key key q then Some changes else value_for old q)) → IsTold ends ups outs.items changes.items
-    → (q : Key) → IsToldSo ends ups (value_for (done ++ (key, outs) ∷ []) q) (value_for new q)
+pub told-on : (ends : PeerEnds) (ups : List (Since Bool)) (done : Entries) (key : Key) (outs : Vec (Since (Option OutAttrs))) (changes : Vec Change) (old new : Key → Option (Vec Change)) → value_for done key ≡ None
+    → ((q : Key) → IsToldSo ends ups (value_for done q) (old q)) → ((q : Key) → new q ≡ (if same_key key q then Some changes else old q)) → IsTold ends ups outs.items changes.items
+    → (q : Key) → IsToldSo ends ups (value_for (done ++ (key, outs) ∷ []) q) (new q)
 told-on ends ups done key outs changes old new fresh told put is q = by (same_key key q) refl
   where
-    by : (b : Bool) → same_key key q ≡ b → IsToldSo ends ups (value_for (done ++ (key, outs) ∷ []) q) (value_for new q)
+    by : (b : Bool) → same_key key q ≡ b → IsToldSo ends ups (value_for (done ++ (key, outs) ∷ []) q) (new q)
     by true same =
         let it = same_is key q same in
         let there = ap (λ (k : Key). value_for (done ++ (key, outs) ∷ []) k) (sym it) ∙ found_there done key outs fresh in
-        subst (λ (o : Option (Vec (Since (Option OutAttrs)))). IsToldSo ends ups o (value_for new q)) (sym there) (changes, put q ∙ ap (λ (b : Bool). if b then Some changes else value_for old q) same, is)
+        subst (λ (o : Option (Vec (Since (Option OutAttrs)))). IsToldSo ends ups o (new q)) (sym there) (changes, put q ∙ ap (λ (b : Bool). if b then Some changes else old q) same, is)
     by false other =
-        subst (λ (o : Option (Vec (Since (Option OutAttrs)))). IsToldSo ends ups o (value_for new q)) (sym (found_other done key q outs (same-sym q key ∙ other)))
-        (subst (λ (o : Option (Vec Change)). IsToldSo ends ups (value_for done q) o) (sym (put q ∙ ap (λ (b : Bool). if b then Some changes else value_for old q) other)) (told q))
+        subst (λ (o : Option (Vec (Since (Option OutAttrs)))). IsToldSo ends ups o (new q)) (sym (found_other done key q outs (same-sym q key ∙ other)))
+        (subst (λ (o : Option (Vec Change)). IsToldSo ends ups (value_for done q) o) (sym (put q ∙ ap (λ (b : Bool). if b then Some changes else old q) other)) (told q))
+
+-- pairs with one more
+pub last-pushed : (pairs : List (Key × Vec Change)) (key : Key) (changes : Vec Change) (q : Key) → last_for (pairs ++ (key, changes) ∷ []) q ≡ (if same_key key q then Some changes else last_for pairs q)
+last-pushed pairs key changes q = sym (update_all_push same_key (λ _. None) (last_for pairs) pairs (key, changes) q refl)
 
 -- ---- keys that ascend
 

@@ -95,15 +95,18 @@ impl Seat {
     fn log_of(&self, alloc: Global, outs_by_key: &KeyMap<Vec<GroupChange>>) -> Result<Log, NoMemory>
         ensures { IfOk result (λ log. (q : routes.Key) → IsTold self.now.ends self.now.ups.items (changes_in outs_by_key.now q) (changes_of log.changes q)) }
     {
-        let mut log = Log::new(alloc);
+        let count = outs_by_key.len();
+        let mut pairs = Vec::with_capacity(alloc, count)?;
         let mut teller = Teller::new(self.ends);
         let ups = self.ups.as_slice();
-        let _keys = outs_by_key.len();
         for (key, outs) in outs_by_key.iter() {
             let changes = merged(alloc, &mut teller, ups, outs.as_slice())?;
-            log.changes.put(*key, changes)?;
+            pairs.push((*key, changes))?;
         }
-        Ok(log)
+        let changes_by_key = KeyMap::of_pairs(alloc, pairs)?;
+        Ok(Log {
+            changes: changes_by_key,
+        })
     }
 }
 

@@ -44,8 +44,8 @@ impl Judge {
 fn climbs_of(alloc: Global, standings: &Standings, course: &Course) -> Result<Vec<Climb>, NoMemory>
     ensures { IfOk result (λ climbs. AreRowClimbs standings.now course.now (map climb_of climbs.items)) }
 {
-    let _keys = standings.rows.len();
-    let mut climbs = Vec::new(alloc);
+    let count = standings.rows.len();
+    let mut climbs = Vec::with_capacity(alloc, count)?;
     for (key, row) in standings.rows.iter() {
         let moves = moves_back(alloc, &standings.moves, row.moved)?;
         climbs.push(Climb { key: *key, moves })?;
@@ -57,7 +57,7 @@ fn climbs_of(alloc: Global, standings: &Standings, course: &Course) -> Result<Ve
 fn moves_back(alloc: Global, all: &[Moved], last: usize) -> Result<Vec<Move>, NoMemory>
     ensures { IfOk result (λ moves. (shifts : List Shift) → IsChain all.now last shifts → IsBack (map shift_of moves.items) shifts) }
 {
-    let mut moves = Vec::new(alloc);
+    let mut moves = Vec::with_capacity(alloc, last.min(1))?;
     let mut at = last;
     while at > 0 {
         if at > all.len() {

@@ -16,7 +16,7 @@ loop-key-preserved c =
     let h = c.loop-key.invariant in
     let is : c.loop-key.key-iterator ≡ (c.in-Some.key.now, c.in-Some.row.now) ∷ c.next.new.self = search rules in
     let all = c.in_ok-push.ensures.items in
-    let own = entry-found h.done c.next.new.self (c.in-Some.key.now, c.in-Some.row.now) c.args.standings.now.rows (ap (λ (es : List (Key × Row)). h.done ++ es) (sym is) ∙ h.parts) c.len-keys.ensures.ascending in
+    let own = entry-found h.done c.next.new.self (c.in-Some.key.now, c.in-Some.row.now) c.args.standings.now.rows (ap (λ (es : List (Key × Row)). h.done ++ es) (sym is) ∙ h.parts) c.len-count.ensures.ascending in
     let made : Climb = record { key = c.in-Some.key.now; moves = c.in_ok-moves.moves } in
     record {
       done = h.done ++ (c.in-Some.key.now, c.in-Some.row.now) ∷ [];

@@ -4,7 +4,7 @@ use Rattle.ug_types.specs.declared.key.Key.{Key}
 use Rattle.ug_types.specs.declared.route.OutAttrs.{OutAttrs}
 use Rattle.std.specs.Prelude.{Option}
 use Rattle.ug_timeline.specs.declared.since.Since.{Since}
-use Rattle.ug_hearing.specs.Keyed.{value_for}
+use Rattle.ug_hearing.specs.Keyed.{value_for, last_for}
 use Rattle.ug_timeline.proofs.MergedKeys.{IsToldSo}
 use Rattle.ug_timeline.proofs.seat.Seat.log_of.Given as goal
 
@@ -14,5 +14,5 @@ invariant-loop-key l = record {
   done : List (Key × Vec (Since (Option OutAttrs)));
   parts : done ++ l.key-iterator ≡ l.outs_by_key;
   ends : l.teller.ends ≡ l.self.ends;
-  told : (q : Key) → IsToldSo l.self.ends l.self.ups.items (value_for done q) (value_for l.log.changes q);
+  told : (q : Key) → IsToldSo l.self.ends l.self.ups.items (value_for done q) (last_for l.pairs.items q);
 }
