@@ -9,7 +9,7 @@ use Rattle.ug_events.specs.Events.{Saying}
 use Rattle.ug_events.specs.Reads.{Reads}
 use Rattle.ug_speaker.specs.Speech.{Speech}
 use Rattle.ug_report.specs.Report.{Answer}
-use Rattle.ug_event_loop.specs.Turns.{GoesOn, Answers, AnswersAt, IsLegalAt, IsEndedAt, IsClosedAt}
+use Rattle.ug_event_loop.specs.Turns.{GoesOn, Answers, AnswersAt, IsLegalAt, IsSettled, IsSettledAt, IsEndedAt, IsClosedAt}
 use Rattle.ug_event_loop.proofs.Turning.{goes_further, goes_by_others, answers_later}
 
 pub if-ok : {A E : Type 0} (P Q : A → Type 0) (r : Result A E) → ((x : A) → P x → Q x) → IfOk r P → IfOk r Q
@@ -63,6 +63,11 @@ module _ {Opening State Job Said : Type 0} (rules : Rules Opening State Job Said
     legal-over legal =
         subst (λ (r : Option Opening). IsLegalAt rules speech r seen) (sym root_is)
         (subst (λ (es : List (Entry Job Said)). IsLegal rules gave.opening es) (sym seen_is) legal)
+
+    pub settled-over : IsSettled rules speech (state_of rules gave) → IsSettledAt rules speech root seen
+    settled-over settled =
+        subst (λ (r : Option Opening). IsSettledAt rules speech r seen) (sym root_is)
+        (subst (λ (es : List (Entry Job Said)). IsSettled rules speech (replay rules gave.opening es)) (sym seen_is) settled)
 
     pub ended-over : speech.drained (state_of rules gave) ≡ true → speech.closed (state_of rules gave) ≡ true → IsEndedAt rules speech root seen
     ended-over drained closed =

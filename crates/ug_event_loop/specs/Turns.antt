@@ -67,6 +67,15 @@ module _ {Opening State Job Said : Type 0} (rules : Rules Opening State Job Said
   IsLegalAt None seen = Unit {0}
   IsLegalAt (Some opening) seen = IsLegal rules opening seen
 
+  -- Nothing has to be done before the next event, if there may be one.
+  abbrev pub IsSettled : State → Type 0
+  IsSettled state = speech.closed state ≡ false → speech.settled state ≡ true
+
+  -- the same of a pass, whose root is known
+  abbrev pub IsSettledAt : Option Opening → List (Entry Job Said) → Type 0
+  IsSettledAt None seen = Unit {0}
+  IsSettledAt (Some opening) seen = IsSettled (replay rules opening seen)
+
   -- and the work is ended: everything is told, and no job may be done any more
   abbrev pub IsEndedAt : Option Opening → List (Entry Job Said) → Type 0
   IsEndedAt None seen = Unit {0}

@@ -7,7 +7,8 @@ ghost use Rattle.ug_events.specs.Events.{IsEvent, Says, SaysSync};
 ghost use Rattle.ug_events.specs.Views.{event_of};
 ghost use Rattle.ug_world.specs.Verdicts.{verdict};
 ghost use Rattle.ug_speaker.specs.Speech.{Prepares};
-ghost use Rattle.ug_event_loop.specs.Turns.{GoesOn, Answers, answer_of};
+ghost use Rattle.ug_event_loop.specs.Turns.{GoesOn, Answers, IsSettled, answer_of};
+ghost use Rattle.ug_event_loop.specs.declared.board.Work.TheVariants.{Settling};
 ghost use Rattle.ug_event_loop.specs.Counts.{least_of, most_of, RisesBy, RisesWithin};
 
 use crate::came::Came;
@@ -61,7 +62,8 @@ enum Work {
 
 /// The next job of such work; none where there is none to be done.
 fn next_job<S: Speaker>(board: &Board<S>, work: Work) -> Result<Option<S::Job>, NoMemory>
-    ensures { IfOk result (λ next. IfSome next (λ job. S.speech.purpose job ≡ Prepares)) }
+    ensures prepares { IfOk result (λ next. IfSome next (λ job. S.speech.purpose job ≡ Prepares)) }
+    ensures settled { work ≡ Settling → board.now.spent ≡ false → IfOk result (λ next. IfNone next (IsSettled S.Machine.rules S.speech (state_of S.Machine.rules board.now))) }
 {
     match work {
         Work::Settling => board.machine().settling(),
@@ -83,6 +85,7 @@ fn prepare<S: Speaker, R: Wait, L: Ledger>(
     ensures adds { Adds (λ entry. entry.pass) 0 board.old.history board.new.history }
     ensures history { GoesOn S.Machine.rules S.speech board.old.history board.new.history }
     ensures unspent { OnOk result (board.new.spent ≡ false) }
+    ensures settled { work ≡ Settling → OnOk result (IsSettled S.Machine.rules S.speech (state_of S.Machine.rules board.new)) }
     ensures legal { IsLegal S.Machine.rules board.new.opening board.new.history }
     ensures steps_least { RisesBy steps.old steps.new (least_of S.Machine.rules board.old.opening board.old.history) (least_of S.Machine.rules board.old.opening board.new.history) }
     ensures steps_most { OnOk result (RisesWithin steps.old steps.new (most_of S.Machine.rules board.old.opening board.old.history) (most_of S.Machine.rules board.old.opening board.new.history)) }
@@ -110,7 +113,7 @@ fn refusal_of<S: Speaker>(board: &Board<S>, event: &Event) -> Option<u8>
     }
 }
 
-/// Takes an event that the world accepts.
+/// Takes an event that the world accepts, where nothing has to be done before it.
 fn take_event<S: Speaker, L: Ledger>(
     alloc: Global,
     board: &mut Board<S>,
@@ -119,6 +122,7 @@ fn take_event<S: Speaker, L: Ledger>(
 ) -> Result<Came<S::Said>, NoMemory>
     requires unspent { board.old.spent ≡ false }
     requires legal { IsLegal S.Machine.rules board.old.opening board.old.history }
+    requires settled { IsSettled S.Machine.rules S.speech (state_of S.Machine.rules board.old) }
     requires form { IsEvent (event_of event) }
     ensures opening { board.new.opening ≡ board.old.opening }
     ensures adds { Adds (λ entry. entry.pass) 0 board.old.history board.new.history }
@@ -152,6 +156,7 @@ pub(crate) fn settle<S: Speaker, R: Wait, L: Ledger>(
     ensures stays_spent { board.old.spent ≡ true → board.new.spent ≡ true }
     ensures adds { Adds (λ entry. entry.pass) 0 board.old.history board.new.history }
     ensures history { GoesOn S.Machine.rules S.speech board.old.history board.new.history }
+    ensures settled { OnOk result (IsSettled S.Machine.rules S.speech (state_of S.Machine.rules board.new)) }
     ensures legal { IsLegal S.Machine.rules board.new.opening board.new.history }
     ensures steps_least { RisesBy steps.old steps.new (least_of S.Machine.rules board.old.opening board.old.history) (least_of S.Machine.rules board.old.opening board.new.history) }
     ensures steps_most { OnOk result (RisesWithin steps.old steps.new (most_of S.Machine.rules board.old.opening board.old.history) (most_of S.Machine.rules board.old.opening board.new.history)) }

@@ -10,7 +10,7 @@ ghost use Rattle.ug_events.specs.Reads.{Reads};
 ghost use Rattle.ug_events.specs.Views.{event_of};
 ghost use Rattle.ug_report.specs.Report.{AreOf64, answer_texts};
 ghost use Rattle.ug_sender.specs.Posts.{AreHere, AllRest, posts_of};
-ghost use Rattle.ug_event_loop.specs.Turns.{GoesOn, AnswersAt, IsLegalAt, IsEndedAt, IsClosedAt, answer_of, marks_of};
+ghost use Rattle.ug_event_loop.specs.Turns.{GoesOn, AnswersAt, IsLegalAt, IsSettledAt, IsEndedAt, IsClosedAt, answer_of, marks_of};
 ghost use Rattle.ug_event_loop.specs.Counts.{least_at, most_at, RisesBy, RisesWithin};
 ghost use Rattle.ug_event_loop.specs.Standing.{said_by, is_due, IsPacedBy, IsPumpedBetween, IsSameBuilder, BuilderStands, TakesLines, StopsWithin};
 ghost use Rattle.ug_event_loop.specs.Reading.{StandsWithin};
@@ -320,6 +320,7 @@ impl<S: Speaker> Builder<S> {
         ensures tally { self.new.tally ≡ self.old.tally }
         ensures posts { posts_of crew.new ≡ posts_of crew.old }
         ensures due { OnOk result (is_due ≡ true → AllRest S.Machine.rules crew.new) }
+        ensures settled { OnOk result (IsSettledAt S.Machine.rules S.speech self.new.pass.root self.new.pass.seen) }
         ensures history { GoesOn S.Machine.rules S.speech self.old.pass.seen self.new.pass.seen }
         ensures legal { IsLegalAt S.Machine.rules S.speech self.new.pass.root self.new.pass.seen }
         ensures steps_least { RisesBy steps.old steps.new (least_at S.Machine.rules self.old.pass.root self.old.pass.seen) (least_at S.Machine.rules self.old.pass.root self.new.pass.seen) }

@@ -4,7 +4,7 @@ ghost use Rattle.std.specs.Prelude.{◌≡◌, true, false, Ok, OnOk, OnErr, IfO
 ghost use Rattle.ug_turnstile.specs.Passes.{IsSamePass};
 ghost use Rattle.ug_events.specs.Events.{IsEvent, Says, SaysSync};
 ghost use Rattle.ug_events.specs.Views.{event_of};
-ghost use Rattle.ug_event_loop.specs.Turns.{GoesOn, AnswersAt, IsLegalAt, IsEndedAt, IsClosedAt, answer_of};
+ghost use Rattle.ug_event_loop.specs.Turns.{GoesOn, AnswersAt, IsLegalAt, IsSettledAt, IsEndedAt, IsClosedAt, answer_of};
 ghost use Rattle.ug_event_loop.specs.Counts.{least_at, most_at, RisesBy, RisesWithin};
 
 use crate::board::{break_off, conclude, mark, offer, settle};
@@ -59,6 +59,7 @@ pub(crate) fn settle_in_turn<S: Speaker, R: Wait, L: Ledger>(
     ensures same { IsSamePass pass.old pass.new }
     ensures free { pass.new.holds ≡ false }
     ensures history { GoesOn S.Machine.rules S.speech pass.old.seen pass.new.seen }
+    ensures settled { OnOk result (IsSettledAt S.Machine.rules S.speech pass.new.root pass.new.seen) }
     ensures legal { IsLegalAt S.Machine.rules S.speech pass.new.root pass.new.seen }
     ensures steps_least { RisesBy steps.old steps.new (least_at S.Machine.rules pass.old.root pass.old.seen) (least_at S.Machine.rules pass.old.root pass.new.seen) }
     ensures steps_most { OnOk result (RisesWithin steps.old steps.new (most_at S.Machine.rules pass.old.root pass.old.seen) (most_at S.Machine.rules pass.old.root pass.new.seen)) }

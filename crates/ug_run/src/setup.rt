@@ -42,6 +42,7 @@ pub(crate) fn end_unset<K: Sink>(alloc: Global, stop: Stop, report: &mut K) -> S
     ensures cause { (file : _) → IsStopOf file stop → IsUnconfigured file result }
     ensures read { result ≡ Status.ReadFault → stop ≡ Stop.Read }
     ensures unread { stop ≡ Stop.Read → result ≡ Status.ReadFault }
+    ensures long { stop ≡ Stop.TooLong → result ≡ Status.TooLong }
     ensures starved { stop ≡ Stop.NoMemory → result ≡ Status.NoMemory }
     ensures report { AppendsThenStatus (K.held report.old) (K.held report.new) (Rose (K.faults report.old) (K.faults report.new)) [] (status_text result) }
 {
