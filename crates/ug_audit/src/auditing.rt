@@ -1,7 +1,6 @@
 //! The command.
 
 ghost use Rattle.std.specs.Prelude.{◌≡◌, ℕ, List, Option, Some, true, IfOk, IfErr, IsErrOf};
-ghost use Rattle.std.specs.String.{string_bytes};
 ghost use Rattle.ug_types.specs.declared.key.Key as keys;
 ghost use Rattle.ug_edge.specs.Told.{Rose, AppendsAll, FileText, file_told, Missing};
 ghost use Rattle.ug_report.specs.Statuses.{row_of};
@@ -20,6 +19,7 @@ use ug_command_line::AuditWords;
 use ug_edge::{Sink, Site, Source};
 use ug_input_laws::configurations_open;
 use ug_report::Status;
+use ug_short_text::ShortText;
 use ug_types::NoMemory;
 
 /// Runs `audit`. It reads the configuration, the events and the report of a run, and then its sessions, by peer in configured
@@ -62,7 +62,7 @@ fn audit_files<E: Site, K: Sink>(
     ensures wire_faults { E.wire_faults site.new ≡ E.wire_faults site.old }
 {
     match certificate_of(alloc, words, site) {
-        Ok(text) => end_right(report, text.as_bytes()),
+        Ok(text) => end_right(report, &text),
         Err(stop) => end_stopped(alloc, report, stop),
     }
 }
@@ -72,8 +72,8 @@ fn certificate_of<E: Site>(
     alloc: Global,
     words: &AuditWords<'_>,
     site: &mut E,
-) -> Result<String, Stop>
-    ensures right { IfOk result (λ text. IsRight (said words.now) (file_told (E.files site.old)) (AppendsAll (E.picks site.old).names (E.picks site.new).names) (λ (certificate : List ℕ). string_bytes text ≡ certificate)) }
+) -> Result<ShortText, Stop>
+    ensures right { IfOk result (λ text. IsRight (said words.now) (file_told (E.files site.old)) (AppendsAll (E.picks site.old).names (E.picks site.new).names) (λ (certificate : List ℕ). text ≡ certificate)) }
     ensures stopped { IfErr result (IsStopped (said words.now) (file_told (E.files site.old)) (AppendsAll (E.picks site.old).names (E.picks site.new).names)) }
     ensures unread { IsErrOf result Stop.Read → Rose (E.faults site.old) (E.faults site.new) }
     ensures unharmed { (IsErrOf result Stop.Read → ⊥) → E.faults site.new ≡ E.faults site.old }

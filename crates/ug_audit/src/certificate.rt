@@ -7,23 +7,29 @@ ghost use Rattle.ug_text.specs.Rows.{route_text};
 ghost use Rattle.ug_verdict.specs.Climbed.{shift_of, climb_of};
 ghost use Rattle.ug_audit.specs.Texts.{shift_text, climb_text, session_text};
 
+use std::alloc::Global;
+use ug_short_text::ShortText;
 use ug_text::write_prefix;
 use ug_types::{Key, NoMemory};
 use ug_verdict::{Climb, Move};
 
 /// Adds the certificate of a session: a line that names it, with how many messages it has, and a line for each key.
 #[tactic(auto, unfolding(crate::specs::Texts::session_text))]
-pub fn write_session(
-    out: &mut String,
+pub fn add_session(
+    alloc: Global,
+    out: &mut ShortText,
     peer: &str,
     number: u32,
     messages: u64,
     climbs: &[Climb],
 ) -> Result<(), NoMemory>
-    ensures { OnOk result (string_bytes out.new ≡ string_bytes out.old ++ session_text peer.now number messages (map climb_of climbs.now)) }
+    ensures { OnOk result (out.new ≡ out.old ++ session_text peer.now number messages (map climb_of climbs.now)) }
 {
-    write!(out, "session {peer} {number} messages {messages}\n")?;
-    write_climbs(out, climbs)
+    let title = format!(in alloc; "session {peer} {number} messages {messages}\n")?;
+    out.add(alloc, title.as_bytes())?;
+    let mut lines = String::new(alloc);
+    write_climbs(&mut lines, climbs)?;
+    out.add(alloc, lines.as_bytes())
 }
 
 /// Adds a line for each key.

@@ -18,16 +18,17 @@ use ug_commands::{end, end_refused};
 use ug_edge::{Failed, Sink};
 use ug_pieces::write_all;
 use ug_report::Status;
+use ug_short_text::ShortText;
 use ug_types::NoMemory;
 
-/// Writes the certificate.
-pub fn end_right<K: Sink>(report: &mut K, text: &[u8]) -> Status
+/// Writes the certificate, a piece after another. It takes no memory.
+pub fn end_right<K: Sink>(report: &mut K, text: &ShortText) -> Status
     ensures status { (result ≡ Status.Ok) ⊎ (result ≡ Status.ReportFault) }
     ensures whole { result ≡ Status.Ok → AppendsPiece (K.held report.old) (K.held report.new) text.now }
     ensures front { result ≡ Status.ReportFault → AppendsFront (K.held report.old) (K.held report.new) text.now }
     ensures failed { result ≡ Status.ReportFault → Rose (K.faults report.old) (K.faults report.new) }
 {
-    match write_all(report, text) {
+    match text.write(report) {
         Ok(()) => Status::Ok,
         Err(Failed) => Status::ReportFault,
     }

@@ -1,7 +1,6 @@
 //! The sessions of a run, one after another.
 
 ghost use Rattle.std.specs.Prelude.{◌≡◌, ◌≤◌, ◌<◌, ◌∷◌, ◌++◌, [], ℕ, length, slice_get, Option, Some, List, OnOk, IfOk, IfErr, IsErrOf};
-ghost use Rattle.std.specs.String.{string_bytes};
 ghost use Rattle.ug_edge.specs.Told.{Rose, file_told, AppendsAll};
 ghost use Rattle.ug_world.specs.declared.peer_state.PeerState as peers;
 ghost use Rattle.ug_audit.specs.Asked.{IsAsked};
@@ -12,13 +11,14 @@ ghost use Rattle.ug_audit.specs.Auditing.{worlds_of, last_of};
 ghost use Rattle.ug_audit.specs.Stopping.{IsRun, IsAt, IsStopped};
 
 use crate::asked::Asked;
-use crate::certificate::write_session;
+use crate::certificate::add_session;
 use crate::run::Run;
 use crate::session::{hear_file, refuted};
 use crate::stop::Stop;
 use crate::verdict::Verdict;
 use std::alloc::Global;
 use ug_edge::{Site, Source};
+use ug_short_text::ShortText;
 use ug_timeline::{History, history_of};
 use ug_types::{NoMemory, PeerId};
 
@@ -29,11 +29,11 @@ impl Run {
         alloc: Global,
         dir: &str,
         site: &mut E,
-    ) -> Result<String, Stop>
+    ) -> Result<ShortText, Stop>
         requires { IsRun self.now }
         ensures went { IfOk result (λ text. (command : words.AuditCommand) (names : Option (List (List ℕ))) → command.dir ≡ dir.now →
             IsAt command (file_told (E.files site.old)) self.now names (E.picks site.old).names (sessions_of self.now.last) [] →
-            IsAt command (file_told (E.files site.old)) self.now names (E.picks site.new).names [] (string_bytes text)) }
+            IsAt command (file_told (E.files site.old)) self.now names (E.picks site.new).names [] text) }
         ensures stopped { IfErr result (λ stop. (command : words.AuditCommand) (names : Option (List (List ℕ))) → command.dir ≡ dir.now →
             IsAt command (file_told (E.files site.old)) self.now names (E.picks site.old).names (sessions_of self.now.last) [] →
             IsStopped command (file_told (E.files site.old)) (AppendsAll names (E.picks site.new).names) stop) }
@@ -47,7 +47,7 @@ impl Run {
             Ok(history) => history,
             Err(NoMemory) => return Err(Stop::NoMemory),
         };
-        let mut text = String::new(alloc);
+        let mut text = ShortText::new(alloc);
         for id in 0..self.last.peers() {
             match self.hear_peer(alloc, dir, &history, id, site, &mut text) {
                 Ok(()) => {}
@@ -65,16 +65,16 @@ impl Run {
         history: &History,
         id: PeerId,
         site: &mut E,
-        text: &mut String,
+        text: &mut ShortText,
     ) -> Result<(), Stop>
         requires run { IsRun self.now }
         requires history { IsHistory (worlds_of self.now.first self.now.events.items) (last_of self.now.first self.now.events.items) history.now }
         requires id { id < length self.now.last.peers }
         ensures went { OnOk result ((command : words.AuditCommand) (names : Option (List (List ℕ))) (s : peers.PeerState) (left : List SessionOf) → command.dir ≡ dir.now → slice_get self.now.last.peers id ≡ Some s →
-            IsAt command (file_told (E.files site.old)) self.now names (E.picks site.old).names (sessions_from id s 1 s.sessions ++ left) (string_bytes text.old) →
-            IsAt command (file_told (E.files site.old)) self.now names (E.picks site.new).names left (string_bytes text.new)) }
+            IsAt command (file_told (E.files site.old)) self.now names (E.picks site.old).names (sessions_from id s 1 s.sessions ++ left) text.old →
+            IsAt command (file_told (E.files site.old)) self.now names (E.picks site.new).names left text.new) }
         ensures stopped { IfErr result (λ stop. (command : words.AuditCommand) (names : Option (List (List ℕ))) (s : peers.PeerState) (left : List SessionOf) → command.dir ≡ dir.now → slice_get self.now.last.peers id ≡ Some s →
-            IsAt command (file_told (E.files site.old)) self.now names (E.picks site.old).names (sessions_from id s 1 s.sessions ++ left) (string_bytes text.old) →
+            IsAt command (file_told (E.files site.old)) self.now names (E.picks site.old).names (sessions_from id s 1 s.sessions ++ left) text.old →
             IsStopped command (file_told (E.files site.old)) (AppendsAll names (E.picks site.new).names) stop) }
         ensures unread { IsErrOf result Stop.Read → Rose (E.faults site.old) (E.faults site.new) }
         ensures unharmed { (IsErrOf result Stop.Read → ⊥) → E.faults site.new ≡ E.faults site.old }
@@ -108,7 +108,7 @@ impl Run {
         number: u32,
         asked: &mut Asked,
         site: &mut E,
-        text: &mut String,
+        text: &mut ShortText,
     ) -> Result<(), Stop>
         requires run { IsRun self.now }
         requires id { id < length self.now.last.peers }
@@ -118,11 +118,11 @@ impl Run {
         ensures asked { OnOk result (IsAsked id (worlds_of self.now.first self.now.events.items) asked.old → IsAsked id (worlds_of self.now.first self.now.events.items) asked.new) }
         ensures went { OnOk result ((command : words.AuditCommand) (names : Option (List (List ℕ))) (s : peers.PeerState) (left : List SessionOf) → command.dir ≡ dir.now → slice_get self.now.last.peers id ≡ Some s →
             IsAsked id (worlds_of self.now.first self.now.events.items) asked.old →
-            IsAt command (file_told (E.files site.old)) self.now names (E.picks site.old).names (record { place = id; state = s; number = number } ∷ left) (string_bytes text.old) →
-            IsAt command (file_told (E.files site.old)) self.now names (E.picks site.new).names left (string_bytes text.new)) }
+            IsAt command (file_told (E.files site.old)) self.now names (E.picks site.old).names (record { place = id; state = s; number = number } ∷ left) text.old →
+            IsAt command (file_told (E.files site.old)) self.now names (E.picks site.new).names left text.new) }
         ensures stopped { IfErr result (λ stop. (command : words.AuditCommand) (names : Option (List (List ℕ))) (s : peers.PeerState) (left : List SessionOf) → command.dir ≡ dir.now → slice_get self.now.last.peers id ≡ Some s →
             IsAsked id (worlds_of self.now.first self.now.events.items) asked.old →
-            IsAt command (file_told (E.files site.old)) self.now names (E.picks site.old).names (record { place = id; state = s; number = number } ∷ left) (string_bytes text.old) →
+            IsAt command (file_told (E.files site.old)) self.now names (E.picks site.old).names (record { place = id; state = s; number = number } ∷ left) text.old →
             IsStopped command (file_told (E.files site.old)) (AppendsAll names (E.picks site.new).names) stop) }
         ensures unread { IsErrOf result Stop.Read → Rose (E.faults site.old) (E.faults site.new) }
         ensures unharmed { (IsErrOf result Stop.Read → ⊥) → E.faults site.new ≡ E.faults site.old }
@@ -143,7 +143,7 @@ impl Run {
         match verdict {
             Verdict::Broken(breach) => Err(refuted(alloc, id, name, number, breach)),
             Verdict::Right { messages, climbs } => {
-                match write_session(text, name, number, messages, &climbs) {
+                match add_session(alloc, text, name, number, messages, &climbs) {
                     Ok(()) => Ok(()),
                     Err(NoMemory) => Err(Stop::NoMemory),
                 }

@@ -1,5 +1,4 @@
 use Rattle.std.proofs.Common.{Err, rules, arith, ◌≡◌, ◌≤◌, ◌++◌, ◌∷◌, [], ℕ, List, length, Ok, Option, ap, subst, sym, refl, ◌∙◌}
-use Rattle.std.specs.String.{string_bytes}
 use Rattle.ug_edge.specs.Told.{Rose, file_told, AppendsAll}
 use Rattle.ug_pieces.specs.Lines.{lines_of}
 use Rattle.ug_world.specs.World.{World}
@@ -90,7 +89,7 @@ returns-in-Ok-certificate-clause-right g c =
     let later = has_later command told told1 told2 c.read_first.ensures.files c.read_events.ensures.files names names1 names2 first last events c.in-Ok.ensures.ok c.in-Ok.ensures.named c.in-Ok-read_events.ensures.named c.in-Ok-read_events.ensures.ok last_is in
     let found = c.in-Ok-read_told.ensures.ok first events last_is later in
     let start = begins command told told1 told2 c.read_first.ensures.files c.read_events.ensures.files names names1 names2 first last events c.in-Ok.ensures.ok c.in-Ok.ensures.named c.in-Ok-read_events.ensures.named c.in-Ok-read_events.ensures.ok last_is run right refl refl (g.E.Source.files c.read_told.new.site) c.read_told.ensures.files names3 c.in-Ok-read_told.ensures.named found in
-    ends_right command told told1 told2 c.read_first.ensures.files c.read_events.ensures.files names names1 names2 first last events c.in-Ok.ensures.ok c.in-Ok.ensures.named c.in-Ok-read_events.ensures.named c.in-Ok-read_events.ensures.ok last_is run right refl refl (g.E.Source.files c.read_told.new.site) c.read_told.ensures.files names3 c.in-Ok-read_told.ensures.named found (g.E.Source.picks c.certificate.new.site).names (string_bytes c.in-Ok-certificate.text)
+    ends_right command told told1 told2 c.read_first.ensures.files c.read_events.ensures.files names names1 names2 first last events c.in-Ok.ensures.ok c.in-Ok.ensures.named c.in-Ok-read_events.ensures.named c.in-Ok-read_events.ensures.ok last_is run right refl refl (g.E.Source.files c.read_told.new.site) c.read_told.ensures.files names3 c.in-Ok-read_told.ensures.named found (g.E.Source.picks c.certificate.new.site).names c.in-Ok-certificate.text
     (c.in-Ok-certificate.ensures.went command names refl start)
 
 pub returns-clause-stopped : goal.returns-clause-stopped

@@ -1,5 +1,4 @@
 use Rattle.std.proofs.Common.{rules, arith, ◌≡◌, ◌+◌, ◌<◌, ℕ, List, [], length, drop, ap, subst, sym, refl, ◌∙◌}
-use Rattle.std.specs.String.{string_bytes}
 use Rattle.ug_edge.specs.Told.{file_told, AppendsAll}
 use Rattle.ug_timeline.specs.Histories.{IsHistory}
 use Rattle.ug_audit.specs.Sessions.{sessions_of_peers}
@@ -23,7 +22,7 @@ returns-in-Err-hear_peer-clause-stopped g c = λ command names same at.
     let files : told' ≡ told = c.loop-id.invariant.files in
     let inside : id < length run.last.peers = omega (arith, c.loop-id-test.true, c.peers-id-end.ensures) in
     let next = next_peer run.last.peers id inside in
-    let here = at_peer command told told' files run names (g.E.Source.picks c.loop-id.site).names id next.0 (string_bytes c.loop-id.text) next.2 (c.loop-id.invariant.went command names same at) in
+    let here = at_peer command told told' files run names (g.E.Source.picks c.loop-id.site).names id next.0 c.loop-id.text next.2 (c.loop-id.invariant.went command names same at) in
     stopped_then command told told' files (AppendsAll names (g.E.Source.picks c.hear_peer.new.site).names) c.in-Err-hear_peer.stop
     (c.in-Err-hear_peer.ensures.stopped command names next.0 (sessions_of_peers (id + 1) (drop (id + 1) run.last.peers)) same next.1 here)
 
@@ -39,8 +38,8 @@ loop-id-preserved g c =
     let left = sessions_of_peers (id + 1) (drop (id + 1) run.last.peers) in
     record {
       went = λ command names same at.
-          let here = at_peer command told told' files run names (g.E.Source.picks c.loop-id.site).names id next.0 (string_bytes c.loop-id.text) next.2 (c.loop-id.invariant.went command names same at) in
-          at_then command told told' files run names (g.E.Source.picks c.hear_peer.new.site).names left (string_bytes c.hear_peer.new.text) (c.in-Ok-hear_peer.ensures.went command names next.0 left same next.1 here);
+          let here = at_peer command told told' files run names (g.E.Source.picks c.loop-id.site).names id next.0 c.loop-id.text next.2 (c.loop-id.invariant.went command names same at) in
+          at_then command told told' files run names (g.E.Source.picks c.hear_peer.new.site).names left c.hear_peer.new.text (c.in-Ok-hear_peer.ensures.went command names next.0 left same next.1 here);
       faults = search rules;
       files = c.hear_peer.ensures.files ∙ files;
       made = c.hear_peer.ensures.made ∙ c.loop-id.invariant.made;

@@ -1,5 +1,4 @@
 use Rattle.std.proofs.Common.{◌≡◌, ℕ, List, [], drop, Option}
-use Rattle.std.specs.String.{string_bytes}
 use Rattle.ug_edge.specs.Told.{file_told}
 use Rattle.ug_command_line.specs.Words.{AuditCommand}
 use Rattle.ug_audit.specs.Sessions.{sessions_of, sessions_of_peers}
@@ -11,7 +10,7 @@ abbrev pub invariant-loop-id : goal.invariant-loop-id
 invariant-loop-id g l = record {
   went : (command : AuditCommand) (names : Option (List (List ℕ))) → command.dir ≡ l.dir
       → IsAt command (file_told (g.E.Source.files l.fn.site)) l.self names (g.E.Source.picks l.fn.site).names (sessions_of l.self.last) []
-      → IsAt command (file_told (g.E.Source.files l.fn.site)) l.self names (g.E.Source.picks l.site).names (sessions_of_peers l.id (drop l.id l.self.last.peers)) (string_bytes l.text);
+      → IsAt command (file_told (g.E.Source.files l.fn.site)) l.self names (g.E.Source.picks l.site).names (sessions_of_peers l.id (drop l.id l.self.last.peers)) l.text;
   faults : g.E.Source.faults l.site ≡ g.E.Source.faults l.fn.site;
   files : g.E.Source.files l.site ≡ g.E.Source.files l.fn.site;
   made : g.E.Source.made l.site ≡ g.E.Source.made l.fn.site;

@@ -1,5 +1,4 @@
 use Rattle.std.proofs.Common.{rules, arith, ◌≡◌, ◌+◌, ◌-◌, ◌++◌, ℕ, List, ap, subst, sym, refl, ◌∙◌, length, slice_get, Some, Option}
-use Rattle.std.specs.String.{string_bytes}
 use Rattle.ug_edge.specs.Told.{file_told, AppendsAll}
 use Rattle.ug_world.specs.World.{World}
 use Rattle.ug_world.specs.declared.peer_state.PeerState.{PeerState}
@@ -23,11 +22,11 @@ pub returns-then-session-eq0-clause-went : goal.returns-then-session-eq0-clause-
 returns-then-session-eq0-clause-went g c = λ command names s left same there at.
     let count = peer_of (λ (t : PeerState). t.sessions) c.args.self.now.last.peers c.args.id s c.session.result c.session.ensures there in
     let none = c.if-session-eq0.true in
-    subst (λ (n : ℕ). IsAt command (file_told (g.E.Source.files c.args.site.now)) c.args.self.now names (g.E.Source.picks c.args.site.now).names (sessions_from c.args.id s 1 n ++ left) (string_bytes c.args.text.now)) (count ∙ none) at
+    subst (λ (n : ℕ). IsAt command (file_told (g.E.Source.files c.args.site.now)) c.args.self.now names (g.E.Source.picks c.args.site.now).names (sessions_from c.args.id s 1 n ++ left) c.args.text.now) (count ∙ none) at
 
 pub returns-in-Err-clause-stopped : goal.returns-in-Err-clause-stopped
 returns-in-Err-clause-stopped g c = λ command names s left same there at.
-    starves_between command (file_told (g.E.Source.files c.args.site.now)) c.args.self.now names (g.E.Source.picks c.args.site.now).names _ (string_bytes c.args.text.now) at
+    starves_between command (file_told (g.E.Source.files c.args.site.now)) c.args.self.now names (g.E.Source.picks c.args.site.now).names _ c.args.text.now at
 
 pub loop-before-init : goal.loop-before-init
 loop-before-init g c =
@@ -37,7 +36,7 @@ loop-before-init g c =
     record {
       asked = c.of-asked.ensures.asked c.args.id (worlds_of run.first run.events.items) timeline;
       begun = λ s there. ap (λ v. length v.items) c.of-asked.ensures.begun ∙ sessions s there;
-      went = λ command names s left same there at. at_begin command (file_told (g.E.Source.files c.args.site.now)) run names (g.E.Source.picks c.args.site.now).names c.args.id s left (string_bytes c.args.text.now) at;
+      went = λ command names s left same there at. at_begin command (file_told (g.E.Source.files c.args.site.now)) run names (g.E.Source.picks c.args.site.now).names c.args.id s left c.args.text.now at;
       faults = refl;
       files = refl;
       made = refl;
@@ -52,7 +51,7 @@ returns-in-Err-hear_session-clause-stopped g c = λ command names s left same th
     let told' = g.E.Source.files c.loop-before.site in
     let files : told' ≡ told = c.loop-before.invariant.files in
     let count = peer_of (λ (t : PeerState). t.sessions) run.last.peers c.args.id s c.session-before-end.result c.session-before-end.ensures there in
-    let here = at_number command told told' files run names (g.E.Source.picks c.loop-before.site).names c.args.id s before c.session-before-end.result left (string_bytes c.loop-before.text) count c.loop-before-test.true
+    let here = at_number command told told' files run names (g.E.Source.picks c.loop-before.site).names c.args.id s before c.session-before-end.result left c.loop-before.text count c.loop-before-test.true
     (c.loop-before.invariant.went command names s left same there at) in
     stopped_then command told told' files (AppendsAll names (g.E.Source.picks c.hear_session.new.site).names) c.in-Err-hear_session.stop
     (c.in-Err-hear_session.ensures.stopped command names s (sessions_from c.args.id s (before + 1 + 1) (s.sessions - (before + 1)) ++ left) same there c.loop-before.invariant.asked here)
@@ -70,9 +69,9 @@ loop-before-preserved g c =
       went = λ command names s left same there at.
           let count = peer_of (λ (t : PeerState). t.sessions) run.last.peers c.args.id s c.session-before-end.result c.session-before-end.ensures there in
           let more = sessions_from c.args.id s (before + 1 + 1) (s.sessions - (before + 1)) ++ left in
-          let here = at_number command told told' files run names (g.E.Source.picks c.loop-before.site).names c.args.id s before c.session-before-end.result left (string_bytes c.loop-before.text) count c.loop-before-test.true
+          let here = at_number command told told' files run names (g.E.Source.picks c.loop-before.site).names c.args.id s before c.session-before-end.result left c.loop-before.text count c.loop-before-test.true
           (c.loop-before.invariant.went command names s left same there at) in
-          at_then command told told' files run names (g.E.Source.picks c.hear_session.new.site).names more (string_bytes c.hear_session.new.text)
+          at_then command told told' files run names (g.E.Source.picks c.hear_session.new.site).names more c.hear_session.new.text
           (c.in-Ok-hear_session.ensures.went command names s more same there c.loop-before.invariant.asked here);
       faults = search rules;
       files = c.hear_session.ensures.files ∙ files;

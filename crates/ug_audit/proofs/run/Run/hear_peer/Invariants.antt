@@ -1,5 +1,4 @@
 use Rattle.std.proofs.Common.{◌≡◌, ◌+◌, ◌-◌, ◌++◌, ℕ, List, length, Option, Some, slice_get}
-use Rattle.std.specs.String.{string_bytes}
 use Rattle.ug_edge.specs.Told.{file_told}
 use Rattle.ug_world.specs.declared.peer_state.PeerState.{PeerState}
 use Rattle.ug_audit.specs.Asked.{IsAsked}
@@ -15,8 +14,8 @@ invariant-loop-before g l = record {
   asked : IsAsked l.id (worlds_of l.self.first l.self.events.items) l.asked;
   begun : (s : PeerState) → slice_get l.self.last.peers l.id ≡ Some s → length l.asked.begun.items ≡ s.sessions;
   went : (command : AuditCommand) (names : Option (List (List ℕ))) (s : PeerState) (left : List SessionOf) → command.dir ≡ l.dir → slice_get l.self.last.peers l.id ≡ Some s
-      → IsAt command (file_told (g.E.Source.files l.fn.site)) l.self names (g.E.Source.picks l.fn.site).names (sessions_from l.id s 1 s.sessions ++ left) (string_bytes l.fn.text)
-      → IsAt command (file_told (g.E.Source.files l.fn.site)) l.self names (g.E.Source.picks l.site).names (sessions_from l.id s (l.before + 1) (s.sessions - l.before) ++ left) (string_bytes l.text);
+      → IsAt command (file_told (g.E.Source.files l.fn.site)) l.self names (g.E.Source.picks l.fn.site).names (sessions_from l.id s 1 s.sessions ++ left) l.fn.text
+      → IsAt command (file_told (g.E.Source.files l.fn.site)) l.self names (g.E.Source.picks l.site).names (sessions_from l.id s (l.before + 1) (s.sessions - l.before) ++ left) l.text;
   faults : g.E.Source.faults l.site ≡ g.E.Source.faults l.fn.site;
   files : g.E.Source.files l.site ≡ g.E.Source.files l.fn.site;
   made : g.E.Source.made l.site ≡ g.E.Source.made l.fn.site;

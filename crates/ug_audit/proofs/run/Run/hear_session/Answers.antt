@@ -1,5 +1,4 @@
 use Rattle.std.proofs.Common.{◌≡◌, ◌++◌, map, ap, subst, sym, refl, List, ℕ}
-use Rattle.std.specs.String.{string_bytes}
 use Rattle.ug_edge.specs.Told.{file_told}
 use Rattle.ug_verdict.specs.declared.session.Session.{Session}
 use Rattle.ug_verdict.specs.declared.climbs.Climb.{Climb}
@@ -16,32 +15,32 @@ aim-requires-clause-version g c = version_few c.args.self.now c.requires.run
 
 pub returns-in-Err-clause-stopped : goal.returns-in-Err-clause-stopped
 returns-in-Err-clause-stopped g c = λ command names s left same there asked at.
-    starves_between command (file_told (g.E.Source.files c.args.site.now)) c.args.self.now names (g.E.Source.picks c.args.site.now).names _ (string_bytes c.args.text.now) at
+    starves_between command (file_told (g.E.Source.files c.args.site.now)) c.args.self.now names (g.E.Source.picks c.args.site.now).names _ c.args.text.now at
 
 pub returns-in-Err-hear_file-clause-stopped : goal.returns-in-Err-hear_file-clause-stopped
 returns-in-Err-hear_file-clause-stopped g c = λ command names s left same there asked at.
-    file_stops command (file_told (g.E.Source.files c.args.site.now)) c.args.self.now names (g.E.Source.picks c.args.site.now).names (g.E.Source.picks c.hear_file.new.site).names c.args.id c.args.number s left (string_bytes c.args.text.now) c.args.dir.now
+    file_stops command (file_told (g.E.Source.files c.args.site.now)) c.args.self.now names (g.E.Source.picks c.args.site.now).names (g.E.Source.picks c.hear_file.new.site).names c.args.id c.args.number s left c.args.text.now c.args.dir.now
     c.peer-peer.result.now same there c.peer-peer.ensures at c.in-Err-hear_file.stop c.in-Err-hear_file.ensures.stopped
 
 pub returns-in-Broken-clause-stopped : goal.returns-in-Broken-clause-stopped
 returns-in-Broken-clause-stopped g c = λ command names s left same there asked at.
-    broken_stops command (file_told (g.E.Source.files c.args.site.now)) c.args.self.now names (g.E.Source.picks c.args.site.now).names (g.E.Source.picks c.hear_file.new.site).names c.args.id c.args.number s left (string_bytes c.args.text.now) c.args.dir.now
+    broken_stops command (file_told (g.E.Source.files c.args.site.now)) c.args.self.now names (g.E.Source.picks c.args.site.now).names (g.E.Source.picks c.hear_file.new.site).names c.args.id c.args.number s left c.args.text.now c.args.dir.now
     c.peer-peer.result.now same there c.peer-peer.ensures at c.requires.run c.requires.some c.args.asked.now c.aim.new.self.session c.deref.result.now c.deref.ensures.value asked (c.in-Ok.ensures.aimed s there) c.in-Ok-hear_file.verdict
     c.in-Ok-hear_file.ensures.heard c.in-Ok-hear_file.ensures.named c.text-name.result.now c.text-name.ensures.value c.in-Broken.breach c.refuted.result c.in-Broken.is c.refuted.ensures
 
-pub returns-in-Ok-write_session-clause-asked : goal.returns-in-Ok-write_session-clause-asked
-returns-in-Ok-write_session-clause-asked g c = λ asked.
+pub returns-in-Ok-add_session-clause-asked : goal.returns-in-Ok-add_session-clause-asked
+returns-in-Ok-add_session-clause-asked g c = λ asked.
     subst (λ (x : Session). IsAsked c.args.id (worlds_of c.args.self.now.first c.args.self.now.events.items) (record { session = x; begun = c.aim.new.self.begun; ended = c.aim.new.self.ended })) (sym c.hear_file.ensures.same)
     (c.in-Ok.ensures.asked (worlds_of c.args.self.now.first c.args.self.now.events.items) asked)
 
-pub returns-in-Ok-write_session-clause-went : goal.returns-in-Ok-write_session-clause-went
-returns-in-Ok-write_session-clause-went g c = λ command names s left same there asked at.
-    right_goes_on command (file_told (g.E.Source.files c.args.site.now)) c.args.self.now names (g.E.Source.picks c.args.site.now).names (g.E.Source.picks c.hear_file.new.site).names c.args.id c.args.number s left (string_bytes c.args.text.now) c.args.dir.now
+pub returns-in-Ok-add_session-clause-went : goal.returns-in-Ok-add_session-clause-went
+returns-in-Ok-add_session-clause-went g c = λ command names s left same there asked at.
+    right_goes_on command (file_told (g.E.Source.files c.args.site.now)) c.args.self.now names (g.E.Source.picks c.args.site.now).names (g.E.Source.picks c.hear_file.new.site).names c.args.id c.args.number s left c.args.text.now c.args.dir.now
     c.peer-peer.result.now same there c.peer-peer.ensures at c.requires.run c.requires.some c.args.asked.now c.aim.new.self.session c.deref.result.now c.deref.ensures.value asked (c.in-Ok.ensures.aimed s there) c.in-Ok-hear_file.verdict
-    c.in-Ok-hear_file.ensures.heard c.in-Ok-hear_file.ensures.named c.text-name.result.now c.text-name.ensures.value c.in-Right.messages c.in-Right.climbs (string_bytes c.write_session.new.out) c.in-Right.is
-    (subst (λ (cs : List Climb). string_bytes c.write_session.new.out ≡ string_bytes c.args.text.now ++ session_text c.text-name.result.now c.args.number c.in-Right.messages (map climb_of cs)) c.deref-in-Right.ensures.value c.in-Ok-write_session.ensures)
+    c.in-Ok-hear_file.ensures.heard c.in-Ok-hear_file.ensures.named c.text-name.result.now c.text-name.ensures.value c.in-Right.messages c.in-Right.climbs c.add_session.new.out c.in-Right.is
+    (subst (λ (cs : List Climb). c.add_session.new.out ≡ c.args.text.now ++ session_text c.text-name.result.now c.args.number c.in-Right.messages (map climb_of cs)) c.deref-in-Right.ensures.value c.in-Ok-add_session.ensures)
 
 pub returns-clause-stopped : goal.returns-clause-stopped
 returns-clause-stopped g c = λ command names s left same there asked at.
-    starves_picked command (file_told (g.E.Source.files c.args.site.now)) c.args.self.now names (g.E.Source.picks c.args.site.now).names (g.E.Source.picks c.hear_file.new.site).names c.args.id c.args.number s left (string_bytes c.args.text.now) c.args.dir.now
+    starves_picked command (file_told (g.E.Source.files c.args.site.now)) c.args.self.now names (g.E.Source.picks c.args.site.now).names (g.E.Source.picks c.hear_file.new.site).names c.args.id c.args.number s left c.args.text.now c.args.dir.now
     c.peer-peer.result.now same there c.peer-peer.ensures at c.in-Ok-hear_file.ensures.named

@@ -1,0 +1,8 @@
+//! A text that is kept in few bytes until it is written.
+#![tactic(auto)]
+
+mod codes;
+mod short;
+mod spelling;
+
+pub use short::ShortText;

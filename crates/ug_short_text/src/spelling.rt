@@ -1,0 +1,121 @@
+//! Bytes spelled out again.
+
+ghost use Rattle.std.specs.Prelude.{◌≡◌, ◌++◌, ◌+◌, ◌≤◌, length, OnOk, OnErr};
+ghost use Rattle.arrayvec.specs.ArrayVec.{array_vec_len};
+ghost use Rattle.ug_edge.specs.Told.{Rose, AppendsPiece};
+ghost use Rattle.ug_pieces.specs.Reporting.{AppendsFront};
+ghost use Rattle.ug_short_text.specs.Codes.{code_text, codes_text, word_text};
+
+use arrayvec::ArrayVec;
+use ug_edge::{Failed, Sink};
+use ug_pieces::write_all;
+
+/// How many bytes are spelled out at once.
+const PIECE: usize = 512;
+
+/// Writes what bytes stand for, a piece after another, where no call fails. It takes no memory.
+pub fn write_spelled<K: Sink>(report: &mut K, codes: &[u8]) -> Result<(), Failed>
+    ensures ok { OnOk result (AppendsPiece (K.held report.old) (K.held report.new) (codes_text codes.now)) }
+    ensures err { OnErr result (AppendsFront (K.held report.old) (K.held report.new) (codes_text codes.now)) }
+    ensures failed { OnErr result (Rose (K.faults report.old) (K.faults report.new)) }
+    ensures unharmed { OnOk result (K.faults report.new ≡ K.faults report.old) }
+{
+    let mut at = 0;
+    while at < codes.len() {
+        let (_, rest) = codes.split_at(at);
+        let count = rest.len().min(PIECE);
+        let (piece, _) = rest.split_at(count);
+        match write_piece(report, piece) {
+            Ok(()) => {}
+            Err(Failed) => return Err(Failed),
+        }
+        at += count;
+    }
+    Ok(())
+}
+
+/// Writes what a few bytes stand for.
+fn write_piece<K: Sink>(report: &mut K, codes: &[u8]) -> Result<(), Failed>
+    requires { length codes.now ≤ 512 }
+    ensures ok { OnOk result (AppendsPiece (K.held report.old) (K.held report.new) (codes_text codes.now)) }
+    ensures err { OnErr result (AppendsFront (K.held report.old) (K.held report.new) (codes_text codes.now)) }
+    ensures failed { OnErr result (Rose (K.faults report.old) (K.faults report.new)) }
+    ensures unharmed { OnOk result (K.faults report.new ≡ K.faults report.old) }
+{
+    let mut room: ArrayVec<u8, 4096> = ArrayVec::new();
+    for code in codes {
+        spell(&mut room, *code);
+    }
+    write_all(report, room.as_slice())
+}
+
+/// Adds what a byte stands for.
+#[tactic(auto, unfolding(crate::specs::Codes::code_text))]
+fn spell(room: &mut ArrayVec<u8, 4096>, code: u8)
+    requires { array_vec_len room.old + 8 ≤ 4096 }
+    ensures items { room.new.items ≡ room.old.items ++ code_text code }
+    ensures len { array_vec_len room.new ≤ array_vec_len room.old + 8 }
+{
+    if code < 128 {
+        room.push(code);
+    } else if code < 228 {
+        room.push(48 + (code - 128) / 10);
+        room.push(48 + (code - 128) % 10);
+    } else if code < 238 {
+        room.push(code - 180);
+        room.push(b'.');
+    } else if code < 248 {
+        room.push(code - 190);
+        room.push(b'@');
+    } else {
+        spell_word(room, code);
+    }
+}
+
+/// Adds the word that a byte stands for.
+fn spell_word(room: &mut ArrayVec<u8, 4096>, code: u8)
+    requires { array_vec_len room.old + 8 ≤ 4096 }
+    ensures items { room.new.items ≡ room.old.items ++ word_text code }
+    ensures len { array_vec_len room.new ≤ array_vec_len room.old + 8 }
+{
+    match code {
+        248 => add(room, b"climb "),
+        249 => add(room, b"\nclimb "),
+        250 => add(room, b" id=0 "),
+        251 => add(room, b" id="),
+        252 => add(room, b".0/"),
+        _ => room.push(code),
+    }
+}
+
+/// Adds bytes.
+fn add(room: &mut ArrayVec<u8, 4096>, bytes: &[u8])
+    requires { array_vec_len room.old + length bytes.now ≤ 4096 }
+    ensures { room.new.items ≡ room.old.items ++ bytes.now }
+{
+    match room.try_extend_from_slice(bytes) {
+        Ok(()) => {}
+        Err(_) => unreachable!(),
+    }
+}
+
+/// How many bytes a byte stands for.
+#[tactic(auto, unfolding(crate::specs::Codes::code_text))]
+pub fn size_of(code: u8) -> usize
+    ensures value { result ≡ length (code_text code) }
+    ensures some { 1 ≤ result }
+{
+    if code < 128 {
+        return 1;
+    }
+    if code < 248 {
+        return 2;
+    }
+    match code {
+        248 | 250 => 6,
+        249 => 7,
+        251 => 4,
+        252 => 3,
+        _ => 1,
+    }
+}
