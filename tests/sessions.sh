@@ -1,77 +1,9 @@
 #!/bin/bash
 # Draws sessions beside the tables that they have to follow, right ones and damaged ones, as messages and as bytes, and asks that
-# the auditor and a plain and slow one answer the same of each (tests/sessions/main.rt.txt). The program is run and not proved,
-# over the crates as they stand, in a copy of them.
-# With the words `bugs` and names of wrong bodies (tests/sessions/bugs has those of no names) it tries each of them in the copy,
-# where the two have to differ.
+# the auditor and a plain and slow one answer the same of each (tests/sessions/main.rt.txt). With the word `bugs` it tries wrong
+# bodies, where the two have to differ (tests/beside.sh).
 cd "$(dirname "$0")/.." || exit 1
-work=$(mktemp -d)
-trap 'rm -rf "$work"' EXIT
-
-# lay: the crates without what was made of them, and the program among them.
-lay() {
-    rm -rf "$work/copy"
-    mkdir -p "$work/copy/.git" "$work/copy/crates/beside/src"
-    cp crates.txt HANDLES "$work/copy"
-    for folder in crates/*; do
-        mkdir -p "$work/copy/$folder"
-        cp -r "$folder/src" "$work/copy/$folder"
-        [ ! -d "$folder/specs" ] || cp -r "$folder/specs" "$work/copy/$folder"
-    done
-    for file in tests/sessions/*.rt.txt; do
-        cp "$file" "$work/copy/crates/beside/src/$(basename "$file" .txt)"
-    done
-    echo "beside: ug_slow_auditor ug_verdict ug_hearing ug_session_rules ug_update ug_types rand_pcg rand_core" >> "$work/copy/crates.txt"
-}
-
-# play: its status is whether all sessions passed.
-play() {
-    (cd "$work/copy/crates/beside" && rt try --steps 1 --seconds 400) > "$work/said" 2> "$work/told"
-    grep -qE '^[0-9]+ passed, 0 failed$' "$work/said"
-}
-
-# plant CRATE NAME: puts a wrong body of must-fail/ in.
-plant() {
-    python3 - "$work/copy/crates/$1" crates/"$1"/must-fail/"$2".edit* << 'END'
-import pathlib, sys
-lines = open(sys.argv[2]).read().splitlines()
-file = pathlib.Path(sys.argv[1]) / next(line[6:] for line in lines if line.startswith("file: "))
-texts = [line[5:] for line in lines if line[:5] in ("old: ", "new: ")]
-text = file.read_text()
-for old, new in zip(texts[::2], texts[1::2]):
-    assert text.count(old) == 1, old
-    text = text.replace(old, new)
-file.write_text(text)
-END
-}
-
-if [ "$1" = bugs ]; then
-    shift
-    [ $# -gt 0 ] || set -- $(cat tests/sessions/bugs)
-    passed=0
-    failed=0
-    for bug in "$@"; do
-        lay
-        if plant "${bug%%/*}" "${bug#*/}" && ! play && grep -qE '^[0-9]+ passed, [1-9][0-9]* failed$|fault' "$work/said" "$work/told"; then
-            passed=$((passed + 1))
-            echo "$bug: $(grep -hoE 'differ: .*$|^checked: fault.*' "$work/said" "$work/told" | sort | uniq -c | sort -rn | sed -E 's/^ *([0-9]+) +(differ: )?/\1 /' | head -n 3 | tr '\n' ';')"
-        else
-            failed=$((failed + 1))
-            echo "$bug is not noticed:"
-            tail -n 3 "$work/said" "$work/told"
-        fi
-    done
-    echo "$passed passed, $failed failed"
-    [ "$failed" = 0 ]
-    exit
-fi
-
-lay
-play
-status=$?
-cat "$work/said"
-if ! grep -qE '^[0-9]+ passed, [0-9]+ failed$' "$work/said"; then
-    tail -n 20 "$work/told"
-    echo "0 passed, 1 failed"
-fi
-exit $status
+name=sessions
+uses="ug_slow_auditor ug_verdict ug_hearing ug_session_rules ug_update ug_types rand_pcg rand_core"
+told="differ:"
+source tests/beside.sh
