@@ -12,5 +12,4 @@ pub mod FirstFrom
 pub mod Values
 pub mod Counts
 pub mod Numbers
-pub mod Narrow
 pub mod Stepped

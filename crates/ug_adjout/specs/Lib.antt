@@ -1,5 +1,3 @@
-pub mod Keys
-pub mod Narrow
 pub mod Waits
 pub mod Stored
 pub mod Places

@@ -15,11 +15,9 @@ mod rows;
 mod slot;
 mod step;
 mod table;
-mod v4_key;
 mod waiting;
 
 pub use adj_out::AdjOut;
 pub use desired::Desired;
 pub use marked::Marked;
 pub use out_key::OutKey;
-pub use v4_key::V4Key;

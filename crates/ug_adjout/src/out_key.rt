@@ -1,8 +1,8 @@
 ghost use Rattle.std.specs.Prelude.{◌≡◌};
 ghost use Rattle.std.specs.declared.cmp.Ordering.TheVariants.{Equal};
-ghost use Rattle.ug_adjout.specs.Keys.{same_keys};
+ghost use Rattle.ug_short_key.specs.Keys.{same_keys};
 
-use crate::v4_key::V4Key;
+use ug_short_key::V4Key;
 use ug_types::{Key, Weighed};
 
 /// A key of routes: keys that are equal in their order are the same.

@@ -15,9 +15,10 @@ use crate::side::Side;
 use crate::table::Table;
 use std::alloc::Global;
 use std::marker::Model;
-use ug_adjout::{AdjOut, Marked, V4Key};
+use ug_adjout::{AdjOut, Marked};
 use ug_intern::{AttrId, Pool};
 use ug_pack::Routes;
+use ug_short_key::V4Key;
 use ug_types::{Family, Key, KeyList, NoMemory, OutAttrs};
 
 /// The Adj-RIB-Out of peers of one family: IPv4 routes have keys of 12 bytes. Contracts see the keys as all see them.

@@ -1,7 +1,7 @@
 -- The order of routes' keys.
 use Rattle.std.specs.Cmp.{IsTotalOrder}
 use Rattle.std.specs.FinMap.{IsAntisymmetric}
-use Rattle.ug_adjout.specs.Keys.{same_keys, keys_total}
+use Rattle.ug_short_key.specs.Keys.{same_keys, keys_total}
 use Rattle.ug_pack.specs.Ready.{key_order}
 
 pub key_total : IsTotalOrder key_order

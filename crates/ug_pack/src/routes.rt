@@ -8,8 +8,9 @@ ghost use Rattle.ug_adjout_rules.specs.Formatting.{fitting, withdrawals, announc
 ghost use Rattle.ug_pack.specs.Ready.{key_order};
 
 use std::alloc::Global;
-use ug_adjout::{AdjOut, V4Key};
+use ug_adjout::AdjOut;
 use ug_intern::AttrId;
+use ug_short_key::V4Key;
 use ug_types::{Key, KeyList, NoMemory, Sequence};
 
 /// An Adj-RIB-Out of routes, in whatever form it keeps their keys: that of an IPv4 subgroup keeps them in few bytes.

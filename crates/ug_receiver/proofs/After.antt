@@ -1,5 +1,5 @@
 -- The first row above a key.
-use Rattle.std.proofs.Common.{◌≡◌, ℕ, Bool, true, false, List, ◌++◌, Option, Some, None, Ordering, nat_cmp, refl, sym, ap, subst, ◌∙◌}
+use Rattle.std.proofs.Common.{◌≡◌, ℕ, Bool, false, List, ◌++◌, Option, Some, None, Ordering, nat_cmp, refl, sym, ap, subst, ◌∙◌}
 use Rattle.std.specs.Prelude.{IsSome, IfSome, IfNone}
 use Rattle.std.specs.declared.cmp.Ordering.TheVariants.{Less, Equal, Greater}
 use Rattle.std.specs.Ordering.{is_gt, ordering_then}
@@ -11,68 +11,59 @@ use Rattle.ug_types.specs.declared.family.Family.{Family}
 use Rattle.ug_types.specs.declared.family.Family.TheVariants.{V4, V6}
 use Rattle.ug_types.specs.declared.key.Key.{Key}
 use Rattle.ug_types.specs.Keys.{family_rank}
-use Rattle.ug_types.specs.Orders.{key_cmp}
+use Rattle.ug_short_key.specs.Keys.{key_order, order_is}
 use Rattle.ug_types.specs.Attributes.{Attributes}
 use Rattle.ug_receiver.specs.declared.row.Row.{Row}
 use Rattle.ug_receiver.specs.Rows.{Rows, row_at, IsAfter}
 use Rattle.ug_receiver.specs.Stored.{rows_of, AreRowsOf, IsStored, IsFirstAfter}
-use Rattle.ug_receiver.proofs.Keys.{tied_by, lookup_is, before}
+use Rattle.ug_receiver.proofs.Keys.{tied, lookup_is, before}
 use Rattle.ug_receiver.proofs.Found.{found, attrs_of, either, found_append, found_shown, no_v4, no_v6}
 
-module _ (cmp : Key → Key → Ordering) (order : (a : Key) → (b : Key) → cmp a b ≡ key_cmp a b) where
-  after_by : (from : Option Key) (q : Key) → IsAfter key_cmp from q → IsAfter cmp from q
-  after_by None q h = tt
-  after_by (Some k) q h = order k q ∙ h
+at : (q : Key) (rows : List (Key × Row)) → lookup (is_at (key_order q)) rows ≡ found rows q
+at q rows = lookup_is key_order tied q rows
 
-  after_back : (from : Option Key) (q : Key) → IsAfter cmp from q → IsAfter key_cmp from q
-  after_back None q h = tt
-  after_back (Some k) q h = sym (order k q) ∙ h
+pub first_by : {A : Type 0} (rows : List (Key × Row)) (from : Option Key) (key : A → Key) (row : A → Row) (r : Option A)
+    → IfSome r (λ a. lookup (is_at (key_order (key a))) rows ≡ Some (row a)) → IfSome r (λ a. IsAfter key_order from (key a))
+    → IfSome r (λ a. (q : Key) → IsAfter key_order from q → IsSome (lookup (is_at (key_order q)) rows) → IsLeBy key_order (key a) q)
+    → IfNone r ((q : Key) → IsAfter key_order from q → lookup (is_at (key_order q)) rows ≡ None)
+    → IsFirstAfter rows from (option_map (λ a. (key a, row a)) r)
+first_by rows from key row None there above least none = λ q h. sym (at q rows) ∙ none q h
+first_by rows from key row (Some a) there above least none = (
+  sym (at (key a) rows) ∙ there,
+  above,
+  λ q h is.
+      least q h (subst (λ (o : Option Row). IsSome o) (sym (at q rows)) is),
+)
 
-  at : (q : Key) (rows : List (Key × Row)) → lookup (is_at (cmp q)) rows ≡ found rows q
-  at q rows = lookup_is cmp (tied_by cmp order) q rows
+-- a table's row, as all see it
+pub seen_row : {A : Type 0} (n : ℕ) (v4 v6 : List (Key × Row)) (refreshing : Bool) (t : Rows) (from : Option Key) (key : A → Key) (row : A → Row) (r : Option A) → rows_of v4 v6 n refreshing ≡ t
+    → IsFirstAfter (v4 ++ v6) from (option_map (λ a. (key a, row a)) r) → IfSome r (λ a. row_at t.rows (key a) ≡ Some (attrs_of (row a)))
+seen_row n v4 v6 refreshing t from key row None is h = tt
+seen_row n v4 v6 refreshing t from key row (Some a) is h =
+    subst (λ (s : Rows). row_at s.rows (key a) ≡ Some (attrs_of (row a))) is (found_shown (v4 ++ v6) (key a) ∙ ap (option_map attrs_of) h.0)
 
-  pub first_by : {A : Type 0} (rows : List (Key × Row)) (from : Option Key) (key : A → Key) (row : A → Row) (r : Option A)
-      → IfSome r (λ a. lookup (is_at (cmp (key a))) rows ≡ Some (row a)) → IfSome r (λ a. IsAfter cmp from (key a))
-      → IfSome r (λ a. (q : Key) → IsAfter cmp from q → IsSome (lookup (is_at (cmp q)) rows) → IsLeBy cmp (key a) q)
-      → IfNone r ((q : Key) → IsAfter cmp from q → lookup (is_at (cmp q)) rows ≡ None)
-      → IsFirstAfter rows from (option_map (λ a. (key a, row a)) r)
-  first_by rows from key row None there above least none = λ q h. sym (at q rows) ∙ none q (after_by from q h)
-  first_by rows from key row (Some a) there above least none = (
-    sym (at (key a) rows) ∙ there,
-    after_back from (key a) above,
-    λ q h is.
-        ap is_gt (sym (order (key a) q)) ∙ least q (after_by from q h) (subst (λ (o : Option Row). IsSome o) (sym (at q rows)) is),
-  )
+pub seen_above : {A : Type 0} (rows : List (Key × Row)) (from : Option Key) (key : A → Key) (row : A → Row) (r : Option A)
+    → IsFirstAfter rows from (option_map (λ a. (key a, row a)) r) → IfSome r (λ a. IsAfter key_order from (key a))
+seen_above rows from key row None h = tt
+seen_above rows from key row (Some a) h = h.1
 
-  -- a table's row, as all see it
-  pub seen_row : {A : Type 0} (n : ℕ) (v4 v6 : List (Key × Row)) (refreshing : Bool) (t : Rows) (from : Option Key) (key : A → Key) (row : A → Row) (r : Option A) → rows_of v4 v6 n refreshing ≡ t
-      → IsFirstAfter (v4 ++ v6) from (option_map (λ a. (key a, row a)) r) → IfSome r (λ a. row_at t.rows (key a) ≡ Some (attrs_of (row a)))
-  seen_row n v4 v6 refreshing t from key row None is h = tt
-  seen_row n v4 v6 refreshing t from key row (Some a) is h =
-      subst (λ (s : Rows). row_at s.rows (key a) ≡ Some (attrs_of (row a))) is (found_shown (v4 ++ v6) (key a) ∙ ap (option_map attrs_of) h.0)
+some_found : (o : Option Row) → IsSome (option_map attrs_of o) → IsSome o
+some_found None h = h
+some_found (Some row) h = refl
 
-  pub seen_above : {A : Type 0} (rows : List (Key × Row)) (from : Option Key) (key : A → Key) (row : A → Row) (r : Option A)
-      → IsFirstAfter rows from (option_map (λ a. (key a, row a)) r) → IfSome r (λ a. IsAfter cmp from (key a))
-  seen_above rows from key row None h = tt
-  seen_above rows from key row (Some a) h = after_by from (key a) h.1
+pub seen_least : {A : Type 0} (n : ℕ) (v4 v6 : List (Key × Row)) (refreshing : Bool) (t : Rows) (from : Option Key) (key : A → Key) (row : A → Row) (r : Option A) → rows_of v4 v6 n refreshing ≡ t
+    → IsFirstAfter (v4 ++ v6) from (option_map (λ a. (key a, row a)) r) → IfSome r (λ a. (q : Key) → IsAfter key_order from q → IsSome (row_at t.rows q) → IsLeBy key_order (key a) q)
+seen_least n v4 v6 refreshing t from key row None is h = tt
+seen_least n v4 v6 refreshing t from key row (Some a) is h = λ q g there.
+    let shows : IsSome (option_map attrs_of (found (v4 ++ v6) q)) =
+    subst (λ (o : Option Attributes). IsSome o) (found_shown (v4 ++ v6) q) (subst (λ (s : Rows). IsSome (row_at s.rows q)) (sym is) there) in
+    h.2 q g (some_found (found (v4 ++ v6) q) shows)
 
-  some_found : (o : Option Row) → IsSome (option_map attrs_of o) → IsSome o
-  some_found None h = h
-  some_found (Some row) h = refl
-
-  pub seen_least : {A : Type 0} (n : ℕ) (v4 v6 : List (Key × Row)) (refreshing : Bool) (t : Rows) (from : Option Key) (key : A → Key) (row : A → Row) (r : Option A) → rows_of v4 v6 n refreshing ≡ t
-      → IsFirstAfter (v4 ++ v6) from (option_map (λ a. (key a, row a)) r) → IfSome r (λ a. (q : Key) → IsAfter cmp from q → IsSome (row_at t.rows q) → IsLeBy cmp (key a) q)
-  seen_least n v4 v6 refreshing t from key row None is h = tt
-  seen_least n v4 v6 refreshing t from key row (Some a) is h = λ q g there.
-      let shows : IsSome (option_map attrs_of (found (v4 ++ v6) q)) =
-      subst (λ (o : Option Attributes). IsSome o) (found_shown (v4 ++ v6) q) (subst (λ (s : Rows). IsSome (row_at s.rows q)) (sym is) there) in
-      ap is_gt (order (key a) q) ∙ h.2 q (after_back from q g) (some_found (found (v4 ++ v6) q) shows)
-
-  pub seen_none : {A : Type 0} (n : ℕ) (v4 v6 : List (Key × Row)) (refreshing : Bool) (t : Rows) (from : Option Key) (key : A → Key) (row : A → Row) (r : Option A) → rows_of v4 v6 n refreshing ≡ t
-      → IsFirstAfter (v4 ++ v6) from (option_map (λ a. (key a, row a)) r) → IfNone r ((q : Key) → IsAfter cmp from q → row_at t.rows q ≡ None)
-  seen_none n v4 v6 refreshing t from key row None is h = λ q g.
-      subst (λ (s : Rows). row_at s.rows q ≡ None) is (found_shown (v4 ++ v6) q ∙ ap (option_map attrs_of) (h q (after_back from q g)))
-  seen_none n v4 v6 refreshing t from key row (Some a) is h = tt
+pub seen_none : {A : Type 0} (n : ℕ) (v4 v6 : List (Key × Row)) (refreshing : Bool) (t : Rows) (from : Option Key) (key : A → Key) (row : A → Row) (r : Option A) → rows_of v4 v6 n refreshing ≡ t
+    → IsFirstAfter (v4 ++ v6) from (option_map (λ a. (key a, row a)) r) → IfNone r ((q : Key) → IsAfter key_order from q → row_at t.rows q ≡ None)
+seen_none n v4 v6 refreshing t from key row None is h = λ q g.
+    subst (λ (s : Rows). row_at s.rows q ≡ None) is (found_shown (v4 ++ v6) q ∙ ap (option_map attrs_of) (h q g))
+seen_none n v4 v6 refreshing t from key row (Some a) is h = tt
 
 -- ---- both families
 
@@ -110,8 +101,8 @@ first_v4 n v4 v6 from row s h =
     let mine : row.0.prefix.family ≡ V4 = of_v4 n v4 row.0 s.all_v4 (some_is (found v4 row.0) row.1 h.0) in (
       there,
       h.1,
-      λ q g is. either_cases (IsLeBy key_cmp row.0 q) (found v4 q) (found v6 q) (subst (λ (o : Option Row). IsSome o) (found_append v4 v6 q) is)
-          (λ a. h.2 q g a) (λ b. turned_less (key_cmp row.0 q) (before row.0 q mine (of_v6 n v6 q s.all_v6 b))),
+      λ q g is. either_cases (IsLeBy key_order row.0 q) (found v4 q) (found v6 q) (subst (λ (o : Option Row). IsSome o) (found_append v4 v6 q) is)
+          (λ a. h.2 q g a) (λ b. turned_less (key_order row.0 q) (before row.0 q mine (of_v6 n v6 q s.all_v6 b))),
     )
 
 none_v4 : (v4 v6 : List (Key × Row)) (q : Key) → found v4 q ≡ None → found (v4 ++ v6) q ≡ found v6 q
@@ -135,5 +126,5 @@ families_behind V4 g x y e h l = absurd cc
 
 pub none_behind : (n : ℕ) (v4 : List (Key × Row)) (key : Key) → AreRowsOf V4 n v4 → key.prefix.family ≡ V6 → IsFirstAfter v4 (Some key) None
 none_behind n v4 key all six = λ q g. family_cases (found v4 q ≡ None) q.prefix.family
-    (λ e. absurd (families_behind key.prefix.family q.prefix.family (ordering_then (nat_cmp key.prefix.bits q.prefix.bits) (nat_cmp key.prefix.len q.prefix.len)) (nat_cmp key.id q.id) six e g))
+    (λ e. absurd (families_behind key.prefix.family q.prefix.family (ordering_then (nat_cmp key.prefix.bits q.prefix.bits) (nat_cmp key.prefix.len q.prefix.len)) (nat_cmp key.id q.id) six e (sym (order_is key q) ∙ g)))
     (λ e. no_v4 n v4 q all e)

@@ -1,5 +1,5 @@
 -- Looking a key up in the rows of both families.
-use Rattle.std.proofs.Common.{◌≡◌, ℕ, ◌+◌, ◌<◌, ◌≤◌, Bool, true, false, cond, not, ◌||◌, List, [], ◌∷◌, ◌++◌, map, Option, Some, None, refl, sym, ap, subst, ◌∙◌, arith}
+use Rattle.std.proofs.Common.{◌≡◌, ℕ, ◌+◌, ◌≤◌, Bool, true, false, cond, not, ◌||◌, List, [], ◌∷◌, ◌++◌, map, Option, Some, None, refl, sym, ap, subst, ◌∙◌, arith}
 use Rattle.std.specs.Prelude.{nat_lt, is_some, IfSome, OnOk, Result, Ok, Err, if◌then◌else◌}
 use Rattle.std.specs.declared.cmp.Ordering.TheVariants.{Less}
 use Rattle.std.specs.Ordering.{is_eq}
@@ -14,7 +14,7 @@ use Rattle.ug_types.specs.declared.family.Family.{Family}
 use Rattle.ug_types.specs.declared.family.Family.TheVariants.{V4, V6}
 use Rattle.ug_types.specs.declared.key.Key.{Key}
 use Rattle.ug_types.specs.Keys.{same_key}
-use Rattle.ug_types.specs.Orders.{key_cmp}
+use Rattle.ug_short_key.specs.Keys.{key_order}
 use Rattle.ug_types.specs.Attributes.{Attributes}
 use Rattle.ug_table_rules.specs.Tables.{among}
 use Rattle.ug_receiver.specs.declared.row.Announced.{Announced}
@@ -63,7 +63,7 @@ found_append [] b q = refl
 found_append (e ∷ a) b q = either_or (same_key q e.0) e.1 (found a q) (found b q) (found (a ++ b) q) (found_append a b q)
 
 -- a key that stands before others is none of them
-none_past : (k : Key) (rows : List (Key × Row)) (q : Key) → AllByRecursion (λ (y : Key). key_cmp k y ≡ Less) (keys_of rows) → same_key q k ≡ true → found rows q ≡ None
+none_past : (k : Key) (rows : List (Key × Row)) (q : Key) → AllByRecursion (λ (y : Key). key_order k y ≡ Less) (keys_of rows) → same_key q k ≡ true → found rows q ≡ None
 none_past k [] q h e = refl
 none_past k (x ∷ rows) q h e =
     let other : same_key q x.0 ≡ false = ap (λ (z : Key). same_key z x.0) (same_is q k e) ∙ sym (tied k x.0) ∙ ap is_eq h.0 in
@@ -77,11 +77,11 @@ stale_step n row k q false true rest f se te none ih = ih ∙ ap (stale_in n) (n
 stale_step n row k q false false rest f se te none ih = ih
 
 -- a key is stale where its row is
-pub stale_found : (n : ℕ) (rows : List (Key × Row)) (q : Key) → IsStrictlySortedBy key_cmp (keys_of rows) → among (stale_keys n rows) q ≡ stale_in n (found rows q)
+pub stale_found : (n : ℕ) (rows : List (Key × Row)) (q : Key) → IsStrictlySortedBy key_order (keys_of rows) → among (stale_keys n rows) q ≡ stale_in n (found rows q)
 stale_found n [] q s = refl
 stale_found n (e ∷ rows) q s =
     stale_step n e.1 e.0 q (is_stale n e.1) (same_key q e.0) (filter (λ (x : Key × Row). is_stale n x.1) rows) (found rows q) refl refl
-    (λ t. none_past e.0 rows q (sorted_head key_cmp e.0 (keys_of rows) s) t) (stale_found n rows q (sorted_tail key_cmp e.0 (keys_of rows) s))
+    (λ t. none_past e.0 rows q (sorted_head key_order e.0 (keys_of rows) s) t) (stale_found n rows q (sorted_tail key_order e.0 (keys_of rows) s))
 
 fresh_step : (n : ℕ) (row : Row) (k q : Key) (s t : Bool) (rest : List (Key × Row)) (f : Option Row) → is_stale n row ≡ s → same_key q k ≡ t → (t ≡ true → f ≡ None)
     → found rest q ≡ (if stale_in n f then None else f) → found (cond (not s) ((k, row) ∷ rest) rest) q ≡ (if stale_in n (cond t (Some row) f) then None else cond t (Some row) f)
@@ -93,11 +93,11 @@ fresh_step n row k q false true rest f se te none ih =
 fresh_step n row k q false false rest f se te none ih = ap (λ (b : Bool). cond b (Some row) (found rest q)) te ∙ ih
 
 -- what is fresh is what isn't stale
-fresh_found : (n : ℕ) (rows : List (Key × Row)) (q : Key) → IsStrictlySortedBy key_cmp (keys_of rows) → found (fresh_rows n rows) q ≡ (if stale_in n (found rows q) then None else found rows q)
+fresh_found : (n : ℕ) (rows : List (Key × Row)) (q : Key) → IsStrictlySortedBy key_order (keys_of rows) → found (fresh_rows n rows) q ≡ (if stale_in n (found rows q) then None else found rows q)
 fresh_found n [] q s = refl
 fresh_found n (e ∷ rows) q s =
     fresh_step n e.1 e.0 q (is_stale n e.1) (same_key q e.0) (fresh_rows n rows) (found rows q) refl refl
-    (λ t. none_past e.0 rows q (sorted_head key_cmp e.0 (keys_of rows) s) t) (fresh_found n rows q (sorted_tail key_cmp e.0 (keys_of rows) s))
+    (λ t. none_past e.0 rows q (sorted_head key_order e.0 (keys_of rows) s) t) (fresh_found n rows q (sorted_tail key_order e.0 (keys_of rows) s))
 
 -- ---- no row of the other family
 
@@ -150,7 +150,7 @@ all_false true = refl
 all_false false = refl
 
 pub stale_changed : (n : ℕ) (key : Key) (w : Option Row) (old new : List (Key × Row)) (refreshing : Bool) → stale_in n w ≡ false
-    → IsStrictlySortedBy key_cmp (keys_of old) → IsStrictlySortedBy key_cmp (keys_of new) → IsChanged key w old new
+    → IsStrictlySortedBy key_order (keys_of old) → IsStrictlySortedBy key_order (keys_of new) → IsChanged key w old new
     → (q : Key) → among (if refreshing then stale_keys n new else []) q ≡ (if same_key q key then false else among (if refreshing then stale_keys n old else []) q)
 stale_changed n key w old new false e so sn h q = all_false (same_key q key)
 stale_changed n key w old new true e so sn h q =
@@ -178,14 +178,14 @@ all_stale : (n : ℕ) (o : Option Row) → IfSome o (λ r. r.shared.value.seen �
 all_stale n None h = refl
 all_stale n (Some row) h = below_more row.shared.value.seen n h
 
-pub begun_stale : (n : ℕ) (v4 v6 : List (Key × Row)) → AllByRecursion (IsRowOf V4 n) v4 → AllByRecursion (IsRowOf V6 n) v6 → IsStrictlySortedBy key_cmp (keys_of (v4 ++ v6))
+pub begun_stale : (n : ℕ) (v4 v6 : List (Key × Row)) → AllByRecursion (IsRowOf V4 n) v4 → AllByRecursion (IsRowOf V6 n) v6 → IsStrictlySortedBy key_order (keys_of (v4 ++ v6))
     → (q : Key) → among (stale_keys (n + 1) (v4 ++ v6)) q ≡ is_some (row_at (map shown (v4 ++ v6)) q)
 begun_stale n v4 v6 a b s q =
     let seen : IfSome (found (v4 ++ v6) q) (λ r. r.shared.value.seen ≤ n) =
     subst (λ (o : Option Row). IfSome o (λ r. r.shared.value.seen ≤ n)) (sym (found_append v4 v6 q)) (either_seen n (found v4 q) (found v6 q) (found_seen V4 n v4 q a) (found_seen V6 n v6 q b)) in
     stale_found (n + 1) (v4 ++ v6) q s ∙ all_stale n (found (v4 ++ v6) q) seen ∙ sym (ap is_some (found_shown (v4 ++ v6) q))
 
-pub swept_rows : (n : ℕ) (v4 v6 : List (Key × Row)) → IsStrictlySortedBy key_cmp (keys_of (v4 ++ v6))
+pub swept_rows : (n : ℕ) (v4 v6 : List (Key × Row)) → IsStrictlySortedBy key_order (keys_of (v4 ++ v6))
     → (q : Key) → row_at (map shown (fresh_rows n v4 ++ fresh_rows n v6)) q ≡ (if among (stale_keys n (v4 ++ v6)) q then None else row_at (map shown (v4 ++ v6)) q)
 swept_rows n v4 v6 s q =
     let rows : List (Key × Row) = v4 ++ v6 in
@@ -196,7 +196,7 @@ swept_rows n v4 v6 s q =
 
 -- the same of a table that is seen as its rows
 pub swept_view : (n : ℕ) (v4 v6 new4 new6 : List (Key × Row)) (refreshing : Bool) (t : Rows) → refreshing ≡ true → rows_of v4 v6 n refreshing ≡ t → new4 ≡ fresh_rows n v4 → new6 ≡ fresh_rows n v6
-    → IsStrictlySortedBy key_cmp (keys_of (v4 ++ v6)) → (q : Key) → row_at (map shown (new4 ++ new6)) q ≡ (if among t.stale q then None else row_at t.rows q)
+    → IsStrictlySortedBy key_order (keys_of (v4 ++ v6)) → (q : Key) → row_at (map shown (new4 ++ new6)) q ≡ (if among t.stale q then None else row_at t.rows q)
 swept_view n v4 v6 new4 new6 refreshing t on is e4 e6 s q = rw (e4, e6, ← is, on) (swept_rows n v4 v6 s q)
 
 pub v4_row : (n : ℕ) (key : Key) (w : Option Row) (old new v6 : List (Key × Row)) (refreshing : Bool) (t : Rows) → key.prefix.family ≡ V4 → rows_of old v6 n refreshing ≡ t → IsStored old v6 n → IsChanged key w old new

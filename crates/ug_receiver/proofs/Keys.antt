@@ -1,5 +1,5 @@
 -- Keys that tie in their order are the same, and IPv4 stands before IPv6.
-use Rattle.std.proofs.Common.{◌≡◌, ℕ, ◌==◌, Bool, true, false, cond, ◌&&◌, List, [], ◌∷◌, Option, Some, None, Ordering, nat_cmp, refl, sym, ap, ◌∙◌, arith}
+use Rattle.std.proofs.Common.{◌≡◌, ℕ, ◌==◌, Bool, true, false, cond, ◌&&◌, List, [], ◌∷◌, Option, Some, Ordering, nat_cmp, refl, sym, ap, ◌∙◌, arith}
 use Rattle.std.specs.Prelude.{if◌then◌else◌}
 use Rattle.std.specs.declared.cmp.Ordering.TheVariants.{Less, Equal, Greater}
 use Rattle.std.specs.Ordering.{is_eq, ordering_then}
@@ -13,7 +13,7 @@ use Rattle.ug_types.specs.declared.key.Key.{Key}
 use Rattle.ug_types.specs.Ip.{same_family}
 use Rattle.ug_types.specs.Keys.{same_key, prefix_cmp, family_rank}
 use Rattle.ug_types.specs.Orders.{key_cmp}
-use Rattle.ug_types.specs.OrderLaws.{key_cmp-IsAntisymmetric}
+use Rattle.ug_short_key.specs.Keys.{key_order, order_is, same_keys}
 
 abbrev pub Same : (Key → Key → Ordering) → Type 0
 Same cmp = (a : Key) → (b : Key) → is_eq (cmp a b) ≡ same_key a b
@@ -32,20 +32,19 @@ family_tied V6 V6 = refl
 both : {a b c d : Bool} → a ≡ b → c ≡ d → (a && c) ≡ (b && d)
 both {a} {b} {c} {d} e f = ap (λ (x : Bool). x && c) e ∙ ap (λ (x : Bool). b && x) f
 
-pub tied : Same key_cmp
-tied a b =
+tied_by_parts : Same key_cmp
+tied_by_parts a b =
     is_eq-then (prefix_cmp a.prefix b.prefix) (nat_cmp a.id b.id)
     ∙ both (is_eq-then (nat_cmp (family_rank a.prefix.family) (family_rank b.prefix.family)) (ordering_then (nat_cmp a.prefix.bits b.prefix.bits) (nat_cmp a.prefix.len b.prefix.len))
     ∙ both (family_tied a.prefix.family b.prefix.family) (is_eq-then (nat_cmp a.prefix.bits b.prefix.bits) (nat_cmp a.prefix.len b.prefix.len)
     ∙ both (unsigned_tied a.prefix.bits b.prefix.bits) (unsigned_tied a.prefix.len b.prefix.len)))
     (unsigned_tied a.id b.id)
 
--- an order that is the keys' own
-pub tied_by : (cmp : Key → Key → Ordering) → ((a : Key) → (b : Key) → cmp a b ≡ key_cmp a b) → Same cmp
-tied_by cmp same a b = ap is_eq (same a b) ∙ tied a b
+pub tied : Same key_order
+tied a b = ap is_eq (order_is a b) ∙ tied_by_parts a b
 
 pub same_is : (a b : Key) → same_key a b ≡ true → a ≡ b
-same_is a b e = key_cmp-IsAntisymmetric a b ((Equal-is (key_cmp a b)).0 (tied a b ∙ e))
+same_is a b e = same_keys a b ((Equal-is (key_order a b)).0 (tied a b ∙ e))
 
 -- ---- families
 
@@ -70,8 +69,8 @@ families_before V4 V6 x y e h = refl
 families_before V4 V4 x y e h = absurd cc
 families_before V6 g x y e h = absurd cc
 
-pub before : (a b : Key) → a.prefix.family ≡ V4 → b.prefix.family ≡ V6 → key_cmp a b ≡ Less
-before a b e h = families_before a.prefix.family b.prefix.family (ordering_then (nat_cmp a.prefix.bits b.prefix.bits) (nat_cmp a.prefix.len b.prefix.len)) (nat_cmp a.id b.id) e h
+pub before : (a b : Key) → a.prefix.family ≡ V4 → b.prefix.family ≡ V6 → key_order a b ≡ Less
+before a b e h = order_is a b ∙ families_before a.prefix.family b.prefix.family (ordering_then (nat_cmp a.prefix.bits b.prefix.bits) (nat_cmp a.prefix.len b.prefix.len)) (nat_cmp a.id b.id) e h
 
 -- ---- what a change of a map is, key by key
 

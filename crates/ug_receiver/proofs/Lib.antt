@@ -1,4 +1,3 @@
-pub mod Narrow
 pub mod Keys
 pub mod Found
 pub mod Kept

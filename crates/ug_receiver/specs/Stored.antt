@@ -11,7 +11,7 @@ use Rattle.ug_types.specs.declared.family.Family.TheVariants.{V4, V6}
 use Rattle.ug_types.specs.declared.key.Key.{Key}
 use Rattle.ug_types.specs.Keys.{same_key}
 use Rattle.ug_types.specs.Attributes.{Attributes}
-use Rattle.ug_types.specs.Orders.{key_cmp}
+use Rattle.ug_short_key.specs.Keys.{key_order}
 use Rattle.ug_receiver.specs.declared.row.Row.{Row}
 use Rattle.ug_receiver.specs.Rows.{Rows, IsAfter}
 
@@ -49,13 +49,13 @@ IsChanged key row old new = (q : Key) → lookup (same_key q) new ≡ (if same_k
 
 -- the least row above a key, or the first one; or there is none
 abbrev pub IsFirstAfter : List (Key × Row) → Option Key → Option (Key × Row) → Type 0
-IsFirstAfter rows from None = (q : Key) → IsAfter key_cmp from q → lookup (same_key q) rows ≡ None
+IsFirstAfter rows from None = (q : Key) → IsAfter key_order from q → lookup (same_key q) rows ≡ None
 IsFirstAfter rows from (Some row) =
-    (lookup (same_key row.0) rows ≡ Some row.1) × IsAfter key_cmp from row.0 × ((q : Key) → IsAfter key_cmp from q → IsSome (lookup (same_key q) rows) → IsLeBy key_cmp row.0 q)
+    (lookup (same_key row.0) rows ≡ Some row.1) × IsAfter key_order from row.0 × ((q : Key) → IsAfter key_order from q → IsSome (lookup (same_key q) rows) → IsLeBy key_order row.0 q)
 
 -- the rows of each family are of that family, in key order, and none was announced after more refreshes than there were
 pub record IsStored (v4 v6 : List (Key × Row)) (refreshes : ℕ) : Type 0 where
   pub all_v4 : AllByRecursion (IsRowOf V4 refreshes) v4
   pub all_v6 : AllByRecursion (IsRowOf V6 refreshes) v6
-  pub v4_ascend : IsStrictlySortedBy key_cmp (keys_of v4)
-  pub v6_ascend : IsStrictlySortedBy key_cmp (keys_of v6)
+  pub v4_ascend : IsStrictlySortedBy key_order (keys_of v4)
+  pub v6_ascend : IsStrictlySortedBy key_order (keys_of v6)

@@ -6,10 +6,9 @@ ghost use Rattle.std.specs.Map.Iter.{TakesFirst};
 ghost use Rattle.ug_receiver.specs.Rows.{row_seen};
 
 use crate::row::Row;
-use crate::v4_key::V4Key;
-use crate::v6_key::V6Key;
 use std::collections::btree_map::Iter;
 use std::marker::Model;
+use ug_short_key::{V4Key, V6Key};
 use ug_types::{Attrs, Key};
 
 /// The rows of a table in key order, each as its key and its attributes.

@@ -6,8 +6,6 @@ mod row;
 mod rows;
 mod sharing;
 mod table;
-mod v4_key;
-mod v6_key;
 
 pub use iter::RowIter;
 pub use table::Table;

@@ -8,22 +8,21 @@ ghost use Rattle.std.specs.Map.Iter.{deref_pair};
 ghost use Rattle.std.specs.BTreeMap.{get};
 ghost use Rattle.std.specs.BTreeMap.Range.{IsLeBy};
 ghost use Rattle.ug_types.specs.declared.family.Family.TheVariants.{V4, V6};
-ghost use Rattle.ug_types.specs.Orders.{key_cmp};
+ghost use Rattle.ug_short_key.specs.Keys.{key_order};
 ghost use Rattle.ug_receiver.specs.Rows.{IsAfter};
 ghost use Rattle.ug_receiver.specs.Stored.{fresh_rows, is_stale, row_lent, AreRowsOf, IsChanged, IsFirstAfter, IsStored};
 
 use crate::row::Row;
-use crate::v4_key::V4Key;
-use crate::v6_key::V6Key;
 use std::collections::BTreeMap;
 use std::ops::Bound;
+use ug_short_key::{V4Key, V6Key};
 use ug_types::{Family, Key, NoMemory};
 
 pub fn remove_v4(rows: &mut BTreeMap<V4Key, Row>, key: &Key)
     requires { key.now.prefix.family ≡ V4 }
     ensures row { IsChanged key.now None rows.old.entries rows.new.entries }
     ensures kept { (n : ℕ) → AreRowsOf V4 n rows.old.entries → AreRowsOf V4 n rows.new.entries }
-    ensures ascending { IsStrictlySortedBy key_cmp (keys_of rows.new.entries) }
+    ensures ascending { IsStrictlySortedBy key_order (keys_of rows.new.entries) }
 {
     rows.remove(&V4Key::narrow(key));
 }
@@ -32,7 +31,7 @@ pub fn remove_v6(rows: &mut BTreeMap<V6Key, Row>, key: &Key)
     requires { key.now.prefix.family ≡ V6 }
     ensures row { IsChanged key.now None rows.old.entries rows.new.entries }
     ensures kept { (n : ℕ) → AreRowsOf V6 n rows.old.entries → AreRowsOf V6 n rows.new.entries }
-    ensures ascending { IsStrictlySortedBy key_cmp (keys_of rows.new.entries) }
+    ensures ascending { IsStrictlySortedBy key_order (keys_of rows.new.entries) }
 {
     rows.remove(&V6Key::narrow(key));
 }
@@ -42,7 +41,7 @@ pub fn put_v4(rows: &mut BTreeMap<V4Key, Row>, key: &Key, row: Row) -> Result<()
     requires { key.now.prefix.family ≡ V4 }
     ensures row { OnOk result (IsChanged key.now (Some row) rows.old.entries rows.new.entries) }
     ensures kept { (n : ℕ) → row.shared.value.seen ≤ n → AreRowsOf V4 n rows.old.entries → AreRowsOf V4 n rows.new.entries }
-    ensures ascending { IsStrictlySortedBy key_cmp (keys_of rows.new.entries) }
+    ensures ascending { IsStrictlySortedBy key_order (keys_of rows.new.entries) }
 {
     rows.insert(V4Key::narrow(key), row)?;
     Ok(())
@@ -53,7 +52,7 @@ pub fn put_v6(rows: &mut BTreeMap<V6Key, Row>, key: &Key, row: Row) -> Result<()
     requires { key.now.prefix.family ≡ V6 }
     ensures row { OnOk result (IsChanged key.now (Some row) rows.old.entries rows.new.entries) }
     ensures kept { (n : ℕ) → row.shared.value.seen ≤ n → AreRowsOf V6 n rows.old.entries → AreRowsOf V6 n rows.new.entries }
-    ensures ascending { IsStrictlySortedBy key_cmp (keys_of rows.new.entries) }
+    ensures ascending { IsStrictlySortedBy key_order (keys_of rows.new.entries) }
 {
     rows.insert(V6Key::narrow(key), row)?;
     Ok(())

@@ -12,13 +12,12 @@ use crate::iter::RowIter;
 use crate::row::{Announced, Row};
 use crate::rows::{count_stale, put_v4, put_v6, remove_v4, remove_v6, stored_after, sweep};
 use crate::sharing::Sharing;
-use crate::v4_key::V4Key;
-use crate::v6_key::V6Key;
 use std::alloc::Global;
 use std::collections::BTreeMap;
 use std::marker::Model;
 use std::rc::Rc;
-use ug_types::{Attrs, Family, Item, Key, NoMemory, Update, comparison_laws};
+use ug_short_key::{V4Key, V6Key};
+use ug_types::{Attrs, Family, Item, Key, NoMemory, Update};
 
 /// What the messages of a session leave: for each key the attributes of its route, and which keys are stale since a
 /// refresh began.
@@ -190,7 +189,6 @@ impl Table {
         ensures count { result ≡ length self.now.rows }
         ensures ascending { IsStrictlySortedBy ⟦<Key as Ord>⟧.cmp (keys_of self.now.rows) }
     {
-        comparison_laws();
         self.v4.len() + self.v6.len()
     }
 
@@ -206,7 +204,6 @@ impl Table {
         ensures count { result ≡ length self.now.stale }
         ensures ascending { IsStrictlySortedBy ⟦<Key as Ord>⟧.cmp self.now.stale }
     {
-        comparison_laws();
         if !self.refreshing {
             return 0;
         }
@@ -221,7 +218,6 @@ impl Table {
             IsSome (row_at self.now.rows q) → IsLeBy ⟦<Key as Ord>⟧.cmp row.0 q) }
         ensures none { IfNone result ((q : route_keys.Key) → IsAfter ⟦<Key as Ord>⟧.cmp (option_copied key.entry) q → row_at self.now.rows q ≡ None) }
     {
-        comparison_laws();
         match stored_after(&self.v4, &self.v6, key) {
             Some((key, row)) => Some((key, &row.shared.as_ref().attrs)),
             None => None,
@@ -233,7 +229,6 @@ impl Table {
         ensures rows { result ≡ self.now.rows }
         ensures ascending { IsStrictlySortedBy ⟦<Key as Ord>⟧.cmp (keys_of self.now.rows) }
     {
-        comparison_laws();
         RowIter {
             v4: self.v4.iter(),
             v6: self.v6.iter(),

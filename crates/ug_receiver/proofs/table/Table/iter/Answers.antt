@@ -4,4 +4,4 @@ use Rattle.ug_receiver.proofs.table.Table.iter.Goals as goal
 pub returns-clause-ascending : goal.returns-clause-ascending
 returns-clause-ascending c =
     let t = c.self.inside in
-    view_ascends _ c.comparison_laws.ensures.key_order t.refreshes t.v4.entries t.v6.entries t.refreshing c.args.self.now c.self.view_is c.self.invariant
+    view_ascends t.refreshes t.v4.entries t.v6.entries t.refreshing c.args.self.now c.self.view_is c.self.invariant

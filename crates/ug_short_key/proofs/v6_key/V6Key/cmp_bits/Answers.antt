@@ -1,8 +1,8 @@
 use Rattle.std.proofs.Common.{ℕ, ◌+◌, ◌*◌, ◌^◌, ap, ◌∙◌}
 use Rattle.std.specs.Ordering.{nat_cmp}
 use Rattle.ug_types.specs.declared.key.Key.{Key}
-use Rattle.ug_receiver.proofs.Narrow.{high_decides}
-use Rattle.ug_receiver.proofs.v6_key.V6Key.cmp_bits.Goals as goal
+use Rattle.ug_short_key.proofs.Narrow.{high_decides}
+use Rattle.ug_short_key.proofs.v6_key.V6Key.cmp_bits.Goals as goal
 
 pub returns-in_default : goal.returns-in_default
 returns-in_default c =

@@ -1,7 +1,7 @@
 use Rattle.std.proofs.Common.{ap, ◌∙◌}
 use Rattle.ug_types.specs.Ip.{IpPrefix}
-use Rattle.ug_adjout.proofs.Narrow.{prefix_again, key_again}
-use Rattle.ug_adjout.proofs.v4_key.V4Key.new.Goals as goal
+use Rattle.ug_short_key.proofs.Narrow.{prefix_again, key_again}
+use Rattle.ug_short_key.proofs.v4_key.V4Key.new.Goals as goal
 
 pub invariant_of-result : goal.invariant_of-result
 invariant_of-result c =

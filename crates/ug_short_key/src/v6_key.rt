@@ -3,7 +3,7 @@
 ghost use Rattle.std.specs.Prelude.{◌≡◌, ◌+◌, ◌/◌, ◌%◌, ◌*◌, ◌^◌, Some, refl};
 ghost use Rattle.std.specs.Ordering.{eq_by_cmp, nat_cmp};
 ghost use Rattle.std.specs.Cmp as laws;
-ghost use Rattle.ug_types.specs.Orders.{key_cmp, key_cmp_total};
+ghost use Rattle.ug_short_key.specs.Keys.{key_order, keys_total};
 ghost use Rattle.ug_types.specs.declared.family.Family.TheVariants.{V6};
 
 use std::cmp::Ordering;
@@ -80,9 +80,9 @@ impl V6Key {
 }
 
 impl PartialEq for V6Key {
-    ghost eq = { eq_by_cmp key_cmp };
+    ghost eq = { eq_by_cmp key_order };
 
-    ghost laws = { laws.partial_equiv_from_equiv (laws.eq_by_cmp_equiv key_cmp_total) };
+    ghost laws = { laws.partial_equiv_from_equiv (laws.eq_by_cmp_equiv keys_total) };
 
     fn eq(&self, other: &Self) -> bool {
         self.cmp(other).is_eq()
@@ -90,13 +90,13 @@ impl PartialEq for V6Key {
 }
 
 impl Eq for V6Key {
-    ghost laws = { laws.eq_by_cmp_equiv key_cmp_total };
+    ghost laws = { laws.eq_by_cmp_equiv keys_total };
 }
 
 impl PartialOrd for V6Key {
-    ghost partial_cmp = { λ a b. Some (key_cmp a b) };
+    ghost partial_cmp = { λ a b. Some (key_order a b) };
 
-    ghost laws = { laws.po key_cmp_total (λ a b. refl) };
+    ghost laws = { laws.po keys_total (λ a b. refl) };
 
     fn partial_cmp(&self, other: &Self) -> Option<Ordering> {
         Some(self.cmp(other))
@@ -104,9 +104,9 @@ impl PartialOrd for V6Key {
 }
 
 impl Ord for V6Key {
-    ghost cmp = { key_cmp };
+    ghost cmp = { key_order };
 
-    ghost total = { key_cmp_total };
+    ghost total = { keys_total };
 
     ghost matches_partial_cmp = { λ a b. refl };
 

@@ -18,7 +18,8 @@ family_order V4 V6 = refl
 family_order V6 V4 = refl
 family_order V6 V6 = refl
 
-order_is : (a b : Key) → key_ord.ghosts.cmp a b ≡ key_cmp a b
+-- it is the order by prefix, and then by identifier
+pub order_is : (a b : Key) → key_ord.ghosts.cmp a b ≡ key_cmp a b
 order_is a b = rw (family_order a.prefix.family b.prefix.family) refl
 
 -- the order of routes' keys

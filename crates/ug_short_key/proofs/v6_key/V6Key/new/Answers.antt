@@ -1,7 +1,7 @@
 use Rattle.std.proofs.Common.{ap, ◌∙◌, arith}
 use Rattle.ug_types.specs.Ip.{IpPrefix}
-use Rattle.ug_receiver.proofs.Narrow.{wide_again, wide_key_again}
-use Rattle.ug_receiver.proofs.v6_key.V6Key.new.Goals as goal
+use Rattle.ug_short_key.proofs.Narrow.{wide_again, wide_key_again}
+use Rattle.ug_short_key.proofs.v6_key.V6Key.new.Goals as goal
 
 pub invariant_of-result : goal.invariant_of-result
 invariant_of-result c =

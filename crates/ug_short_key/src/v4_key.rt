@@ -5,7 +5,7 @@ ghost use Rattle.std.specs.Ordering.{eq_by_cmp};
 ghost use Rattle.std.specs.Cmp as laws;
 ghost use Rattle.ug_types.specs.Keys.{weight_of};
 ghost use Rattle.ug_types.specs.declared.family.Family.TheVariants.{V4};
-ghost use Rattle.ug_adjout.specs.Keys.{key_order, keys_total};
+ghost use Rattle.ug_short_key.specs.Keys.{key_order, keys_total};
 
 use std::cmp::Ordering;
 use std::marker::Model;
@@ -24,7 +24,7 @@ impl Model for V4Key {
     ghost use Rattle.std.specs.Prelude.{◌*◌, ◌/◌, ◌^◌};
     ghost use Rattle.ug_types.specs.Ip.{IsPrefix};
     ghost use Rattle.ug_types.specs.declared.family.Family.TheVariants.{V4};
-    ghost use Rattle.ug_adjout.specs.Narrow.{leading_bits};
+    ghost use Rattle.ug_short_key.specs.Narrow.{leading_bits};
 
     ghost Value = { Route };
 
