@@ -1,4 +1,5 @@
 pub mod Crews
+pub mod Missing
 pub mod Outcomes
 pub mod Pieces
 pub mod Rounds

@@ -1,11 +1,13 @@
 -- What the answer of a round says of what it did.
-use Rattle.std.proofs.Common.{◌≡◌, ℕ, ◌<◌, ◌≤◌, Bool, true, false, List, [], ◌∷◌, ◌++◌, length, map, Option, Some, None, refl, sym, ◌∙◌, ap, subst, arith, inl, inr, take, append_assoc}
+use Rattle.std.proofs.Common.{◌≡◌, ℕ, ◌<◌, ◌≤◌, Bool, true, false, List, [], ◌∷◌, ◌++◌, ◌+◌, length, map, length-append, Option, Some, None, refl, sym, ◌∙◌, ap, subst, arith, inl, inr, take, append_assoc}
 use Rattle.std.specs.Prelude.{◌||◌, ◌⊎◌, IsSome}
 use Rattle.std.proofs.lemmas.List.{append-nil}
-use Rattle.std.proofs.lemmas.List.{length-take-le}
+use Rattle.std.proofs.lemmas.List.{length-take-le, length-map}
 use Rattle.ug_edge.specs.Told.{Rose, SendsPiece}
-use Rattle.ug_history_rules.specs.Deeds.{Deed, Begins, Loses}
-use Rattle.ug_sender.specs.declared.pumped.Pumped.TheVariants.{Idle as WasIdle, Lost as WasLost, Stopped as WasStopped}
+use Rattle.ug_turnstile.specs.Passes.{StartsWith}
+use Rattle.ug_history_rules.specs.Deeds.{Deed, Begins, Hands, Loses}
+use Rattle.ug_sender.specs.declared.pumped.Pumped.{Pumped}
+use Rattle.ug_sender.specs.declared.pumped.Pumped.TheVariants.{Begun as DidBegin, Sent as DidSend, Idle as WasIdle, Lost as WasLost, Stopped as WasStopped}
 use Rattle.ug_sender.specs.declared.pumped.Round.{Round}
 use Rattle.ug_sender.specs.declared.turn.Ending.{Ending}
 use Rattle.ug_sender.specs.declared.turn.Ending.TheVariants.{Begun, Idle, Stop, More}
@@ -13,7 +15,7 @@ use Rattle.ug_sender.specs.declared.turn.Taken.{Taken}
 use Rattle.ug_sender.specs.declared.sending.Went.{Went}
 use Rattle.ug_sender.specs.declared.sending.Went.TheVariants.{Well, Ill}
 use Rattle.ug_sender.specs.Courses.{Course, is_unnoted, KeepsWire}
-use Rattle.ug_sender.specs.Rounds.{Packet, hands, bytes_in, ending_deeds, begun_by, TellsTurn, SendsBy, BeginsBy, IsBelow, TellsWent, CountsFault, fate_after, open_after, outcome, outcome_of, TellsEnd, TellsRound}
+use Rattle.ug_sender.specs.Rounds.{Packet, hands, bytes_in, ending_deeds, begun_by, TellsTurn, SendsBy, BeginsBy, IsBelow, TellsWent, CountsFault, fate_after, open_after, outcome, outcome_of, with_packets, TellsEnd, TellsRound}
 use Rattle.ug_sender.specs.Tellings.{IsSameWire, Shown}
 use Rattle.ug_sender.proofs.Pieces.{nothing-sent}
 use Rattle.ug_sender.proofs.Wires.{or-false}
@@ -57,6 +59,14 @@ stop-outcome Stop Well Well is = (refl, refl, refl)
 stop-outcome More Well Well is = cc
 stop-outcome ending Well (Ill noted) is = cc
 stop-outcome ending (Ill noted) begun is = cc
+
+pub sent-outcome : (ending : Ending) (sent begun : Went) → outcome ending sent begun ≡ DidSend → ending ≡ More
+sent-outcome (Begun n) Well Well is = cc
+sent-outcome Idle Well Well is = cc
+sent-outcome Stop Well Well is = cc
+sent-outcome More Well Well is = refl
+sent-outcome ending Well (Ill noted) is = cc
+sent-outcome ending (Ill noted) begun is = cc
 
 well-not-lost : (ending : Ending) → outcome_of ending ≡ WasLost → ⊥
 well-not-lost (Begun n) is = cc
@@ -210,3 +220,99 @@ round-tells round d0 d3 l0 l3 u0 u3 taken buf sent begun latest u ds0 ds1 ds2 tu
     turn.grown ∙ sym (append_assoc ds0 (hands turn.packets) (ending_deeds taken.ending)) in
     let told = round-told taken.ending sent begun latest u (ds0 ++ hands turn.packets) ds1 ds2 d3 grown first second in
     (turn.packets, packets ∙ turn.count, rw (end, deeds, was, known, is, gone) told)
+
+-- A round by which the pass was handed nothing, and that noted nothing, had nothing to send.
+
+went-longer : (went : Went) (session : Option ℕ) (old new : List (Deed (List ℕ))) → TellsWent went session old new → length old ≤ length new
+went-longer Well session old new tells = let same = ap length tells in omega arith
+went-longer (Ill noted) None old new tells = absurd tells
+went-longer (Ill true) (Some n) old new tells = let more = ap length tells in omega (arith, length-append old (Loses n ∷ []))
+went-longer (Ill false) (Some n) old new tells = let same = ap length tells in omega arith
+
+length-hands : (packets : List Packet) → length (hands packets) ≡ length packets
+length-hands packets = length-map packets (λ p. Hands p.session p.bytes)
+
+done_by :
+    (ending : Ending) (sent begun : Went) (old new : List (Deed (List ℕ))) → sent ≡ Well → TellsWent begun (begun_by ending) old new
+    → length (ending_deeds ending) ≡ 0 → (ending ≡ More → ⊥)
+    → (outcome ending sent begun ≡ WasIdle) ⊎ (outcome ending sent begun ≡ WasStopped)
+done_by (Begun n) sent begun old new well tells none other = let bad : ⊥ = omega arith in absurd bad
+done_by Idle Well Well old new well tells none other = inl refl
+done_by Idle Well (Ill noted) old new well tells none other = absurd tells
+done_by Idle (Ill noted) begun old new well tells none other = cc
+done_by Stop Well Well old new well tells none other = inr refl
+done_by Stop Well (Ill noted) old new well tells none other = absurd tells
+done_by Stop (Ill noted) begun old new well tells none other = cc
+done_by More sent begun old new well tells none other = absurd (other refl)
+
+pub round-done :
+    (taken : Taken) (buf : List ℕ) (sent begun : Went) (latest : Option ℕ) (ds0 ds1 ds2 ds3 : List (Deed (List ℕ)))
+    → TellsTurn latest taken buf ds0 ds1 → TellsWent sent latest ds1 ds2 → TellsWent begun (begun_by taken.ending) ds2 ds3
+    → (taken.filled ≡ 0 → sent ≡ Well) → (taken.ending ≡ More → 0 < taken.packets) → ds3 ≡ ds0
+    → (outcome taken.ending sent begun ≡ WasIdle) ⊎ (outcome taken.ending sent begun ≡ WasStopped)
+round-done taken buf sent begun latest ds0 ds1 ds2 ds3 turn first second unfilled more same =
+    let a = went-longer sent latest ds1 ds2 first in
+    let b = went-longer begun (begun_by taken.ending) ds2 ds3 second in
+    let grown : length ds1 ≡ length ds0 + (length (hands turn.packets) + length (ending_deeds taken.ending)) =
+    ap length turn.grown ∙ (length-append ds0 (hands turn.packets ++ ending_deeds taken.ending)
+    ∙ ap (λ n. length ds0 + n) (length-append (hands turn.packets) (ending_deeds taken.ending))) in
+    let back : length ds3 ≡ length ds0 = ap length same in
+    let none : length turn.packets ≡ 0 = omega (arith, length-hands turn.packets) in
+    let ended : length (ending_deeds taken.ending) ≡ 0 = omega arith in
+    let empty : length (take taken.filled buf) ≡ 0 = ap length (turn.bytes ∙ ap (bytes_in latest) (no-packets turn.packets none)) in
+    let f = turn.filled in
+    let unfull : taken.filled ≡ 0 = omega (arith, length-take-le taken.filled buf turn.filled) in
+    let count = turn.count in
+    done_by taken.ending sent begun ds2 ds3 (unfilled unfull) second ended (λ is. let some = more is in omega arith)
+
+-- Deeds are added, and none is taken back.
+
+end-adds : (end : Pumped) (old new : Shown) → TellsEnd end old new → StartsWith new.deeds old.deeds
+end-adds DidBegin old new told = (Begins told.0 ∷ [], told.1)
+end-adds DidSend old new told = ([], ap (λ s. s.deeds) told ∙ sym (append-nil old.deeds))
+end-adds WasIdle old new told = ([], ap (λ s. s.deeds) told ∙ sym (append-nil old.deeds))
+end-adds WasStopped old new told = ([], ap (λ s. s.deeds) told ∙ sym (append-nil old.deeds))
+end-adds WasLost old new told = (map (λ n. Begins n) told.0 ++ map (λ n. Loses n) told.1, told.2)
+
+-- what a round adds: no less than the packets that were handed out
+pub round-adds :
+    (round : Round) (old new : Shown) → TellsRound round old new
+    → (rest : List (Deed (List ℕ))) × (new.deeds ≡ old.deeds ++ rest) × (round.packets ≤ length rest)
+round-adds round old new told =
+    let end = end-adds round.end (with_packets told.0 old) new told.2 in
+    let count = told.1 in (
+      hands told.0 ++ end.0,
+      end.1 ∙ append_assoc old.deeds (hands told.0) end.0,
+      omega (arith, length-append (hands told.0) end.0, length-hands told.0),
+    )
+
+pub starts-longer : {X : Type 0} (old new : List X) → StartsWith new old → length old ≤ length new
+starts-longer {X} old new starts = let e = ap length starts.1 in omega (arith, length-append old starts.0)
+
+longer-by : {X : Type 0} (rest old new : List X) → new ≡ old ++ rest → (new ≡ old → ⊥) → length old < length new
+longer-by [] old new is other = absurd (other (is ∙ append-nil old))
+longer-by (x ∷ rest) old new is other = let e = ap length is in omega (arith, length-append old (x ∷ rest))
+
+pub starts-longer-other : {X : Type 0} (old new : List X) → StartsWith new old → (new ≡ old → ⊥) → length old < length new
+starts-longer-other {X} old new starts other = longer-by starts.0 old new starts.1 other
+
+-- a round in which something was done
+pub round-longer :
+    (round : Round) (old new : Shown) (first : List (Deed (List ℕ))) → TellsRound round old new → StartsWith old.deeds first
+    → (new.deeds ≡ old.deeds → (round.end ≡ WasIdle) ⊎ (round.end ≡ WasStopped)) → ((round.end ≡ WasIdle) ⊎ (round.end ≡ WasStopped) → ⊥)
+    → length first < length new.deeds
+round-longer round old new first told starts done other =
+    let adds = round-adds round old new told in
+    let more = longer-by adds.0 old.deeds new.deeds adds.1 (λ same. other (done same)) in
+    omega (arith, starts-longer first old.deeds starts)
+
+-- a round in which packets were handed out
+pub packets-longer :
+    (round : Round) (old new : Shown) → TellsRound round old new → 0 < round.packets → length old.deeds < length new.deeds
+packets-longer round old new told some =
+    let adds = round-adds round old new told in
+    let e = ap length adds.1 in
+    let m = adds.2 in omega (arith, length-append old.deeds adds.0)
+
+pub round-starts : (round : Round) (old new : Shown) → TellsRound round old new → StartsWith new.deeds old.deeds
+round-starts round old new told = let adds = round-adds round old new told in (adds.0, adds.1)

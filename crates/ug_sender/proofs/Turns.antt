@@ -1,5 +1,5 @@
 -- What a lane's step on a board tells.
-use Rattle.std.proofs.Common.{◌≡◌, ℕ, ◌≤◌, Bool, true, false, List, [], ◌∷◌, ◌++◌, length, Option, Some, None, refl, sym, ◌∙◌, ap, subst, arith, length-append, append_assoc, if◌then◌else◌}
+use Rattle.std.proofs.Common.{◌≡◌, ℕ, ◌≤◌, Bool, true, false, List, [], ◌∷◌, ◌++◌, length, Option, Some, None, refl, sym, ◌∙◌, ap, subst, arith, length-append, append_assoc, if◌then◌else◌, inl, inr}
 use Rattle.std.proofs.lemmas.List.{append-nil}
 use Rattle.std.proofs.lemmas.Bool.{eq-eqb}
 use Rattle.ug_board.specs.declared.steps.BoardStep.TheVariants.{Lane as LaneTakes}
@@ -11,13 +11,13 @@ use Rattle.ug_board.specs.declared.steps.LaneSaid.TheVariants.{Begun, Hand, Idle
 use Rattle.ug_board.specs.Entry.{Entry}
 use Rattle.ug_board.specs.Rules.{Rules, IsMachine, IsNext, LeavesHanded, counts, says_more, lane_said}
 use Rattle.ug_board.specs.History.{IsLegal, IsLegalFrom, after_step, replay, lane_entries, spent_said}
-use Rattle.std.specs.Prelude.{filter}
+use Rattle.std.specs.Prelude.{filter, ◌⊎◌}
 use Rattle.std.proofs.lemmas.List.Elements.{filter-append}
 use Rattle.ug_turnstile.specs.Passes.{StartsWith, owned_by}
 use Rattle.ug_history_rules.specs.Deeds.{Deed, Hands, Loses, Each, when, of_pass, to_peer, lane_is_to, lane_deeds, deeds, deeds_from, begins}
 use Rattle.ug_history_rules.proofs.Growth.{deeds_from-append, deeds_from-others}
 use Rattle.ug_history_rules.proofs.Beginnings.{begins-at_most}
-use Rattle.ug_sender.specs.Lanes.{AreOfPeer, deeds_at}
+use Rattle.ug_sender.specs.Lanes.{AreOfPeer, MayNotLoseAt, deeds_at}
 use Rattle.ug_sender.specs.Tellings.{TellsNext, TellsLoss}
 
 pub Each-append : {A : Type 0} → (P : A → Type 0) → (old new : List A) → Each P old → Each P new → Each P (old ++ new)
@@ -154,6 +154,34 @@ module _ {Opening State Job Said : Type 0} (rules : Rules Opening State Job Said
       let kept : deeds_at rules (Some opening') number history' ≡ deeds_at rules (Some opening) number history =
       ap (λ o. deeds_at rules (Some o) number history') same ∙ ap (λ h. deeds_at rules (Some opening) number h) (stays refl) in
       subst (λ b. TellsLoss b session (deeds_at rules (Some opening) number history) (deeds_at rules (Some opening') number history')) (sym (passes refl)) kept
+
+  none-counted :
+      (counted : Bool) (number : ℕ) (step : LaneStep) (state : State) → counted ≡ false → some_entries counted number step state ≡ []
+  unfolding some_entries
+  none-counted true number step state is = cc
+  none-counted false number step state is = refl
+
+  -- a loss that may not be noted leaves no entry
+  pub unlost :
+      (history : List (Entry Job Said)) (peer number session : ℕ) (state : State)
+      → rules.may_lose peer session state ≡ false → history ++ lane_entries rules number (Lost peer session) state ≡ history
+  unfolding some_entries
+  unlost history peer number session state is =
+      ap (λ es. history ++ es) (none-counted (rules.may_lose peer session state) number (Lost peer session) state is) ∙ append-nil history
+
+  -- which losses a board passes over
+  pub loss-passed :
+      (spent may : Bool) (spent' : Bool) (opening opening' : Opening) (history history' : List (Entry Job Said)) (peer number session : ℕ)
+      → opening' ≡ opening → spent' ≡ spent
+      → (spent ≡ false → may ≡ rules.may_lose peer session (replay rules opening history))
+      → (spent ≡ false → history' ≡ history ++ lane_entries rules number (Lost peer session) (replay rules opening history))
+      → may ≡ false → (spent' ≡ true) ⊎ MayNotLoseAt rules (Some opening') peer session history'
+  loss-passed true may spent' opening opening' history history' peer number session same kept is grown none = inl kept
+  loss-passed false may spent' opening opening' history history' peer number session same kept is grown none =
+      let never : rules.may_lose peer session (replay rules opening history) ≡ false = sym (is refl) ∙ none in
+      let stays : history' ≡ history = grown refl ∙ unlost history peer number session (replay rules opening history) never in
+      inr (subst (λ o. MayNotLoseAt rules (Some o) peer session history') (sym same)
+      (subst (λ h. MayNotLoseAt rules (Some opening) peer session h) (sym stays) never))
 
   -- Between two turns of a pass others may add entries: they tell nothing of it.
   nothing-more : {A : Type 0} → (xs ys : List A) → xs ++ ys ≡ xs → ys ≡ []

@@ -1,15 +1,15 @@
 -- A lane as contracts see it, and what it keeps.
-use Rattle.std.specs.Prelude.{◌≡◌, ℕ, ◌⊎◌, Bool, true, false, List, [], Option, Some, None}
+use Rattle.std.specs.Prelude.{◌≡◌, ℕ, ◌⊎◌, Bool, true, false, List, [], ◌∷◌, ◌++◌, Option, Some, None}
 use Rattle.ug_edge.specs.Told.{WireName}
 use Rattle.ug_board.specs.Entry.{Entry}
 use Rattle.ug_board.specs.declared.steps.LaneStep.TheVariants.{Next}
 use Rattle.ug_board.specs.declared.steps.LaneSaid.TheVariants.{Idle, Stop}
 use Rattle.ug_board.specs.History.{replay}
 use Rattle.ug_board.specs.Rules.{Rules}
-use Rattle.ug_history_rules.specs.Deeds.{Deed, deeds, of_pass, to_peer, Each}
+use Rattle.ug_history_rules.specs.Deeds.{Deed, Begins, deeds, of_pass, to_peer, Each}
 use Rattle.ug_turnstile.specs.Passes.{Held}
 use Rattle.ug_sender.specs.Courses.{Course, KeepsWire}
-use Rattle.ug_turnstile.specs.Passes.{IsSamePass}
+use Rattle.ug_turnstile.specs.Passes.{IsSamePass, StartsWith}
 use Rattle.ug_sender.specs.Tellings.{Shown}
 
 -- A lane: its wire, for whom that was made, its pass, its peer, the session that is open, and whether the loss of one was not
@@ -37,6 +37,10 @@ AreOfPeer peer number = Each (λ entry. of_pass number entry ≡ true → to_pee
 -- the same of the entries of a pass
 abbrev pub IsOfPeer : {Opening Job Said : Type 0} → ℕ → Held (Entry Job Said) Opening → Type 0
 IsOfPeer peer pass = AreOfPeer peer pass.number pass.seen
+
+-- This session begins among the deeds that were added.
+abbrev pub BeginsAmong : ℕ → List (Deed (List ℕ)) → List (Deed (List ℕ)) → Type 0
+BeginsAmong session old new = (front : List (Deed (List ℕ))) × (rest : List (Deed (List ℕ))) × (new ≡ old ++ (front ++ Begins session ∷ rest))
 
 module _ {Opening State Job Said : Type 0} (rules : Rules Opening State Job Said) where
   -- what the entries of a number tell of a history with this root: bytes are handed out
@@ -73,6 +77,27 @@ module _ {Opening State Job Said : Type 0} (rules : Rules Opening State Job Said
   -- Nothing more is sent to the peer, as far as the pass has seen: the history says so, or the board is spent.
   abbrev pub IsOver : ℕ → Held (Entry Job Said) Opening → Type 0
   IsOver peer pass = (pass.spent ≡ true) ⊎ StopsAt pass.root peer pass.seen
+
+  -- The loss of this session to the peer may not be noted, where this history leads from this root.
+  abbrev pub MayNotLoseAt : Option Opening → ℕ → ℕ → List (Entry Job Said) → Type 0
+  MayNotLoseAt None peer session seen = ⊥
+  MayNotLoseAt (Some root) peer session seen = rules.may_lose peer session (replay rules root seen) ≡ false
+
+  -- The loss of this session to the peer is passed over, as far as the pass has seen: it may not be noted, or the board
+  -- is spent.
+  abbrev pub IsPassedOver : ℕ → ℕ → Held (Entry Job Said) Opening → Type 0
+  IsPassedOver peer session pass = (pass.spent ≡ true) ⊎ MayNotLoseAt pass.root peer session pass.seen
+
+  -- The same at a moment between these two of one pass.
+  abbrev pub WasPassedOver : ℕ → ℕ → Held (Entry Job Said) Opening → Held (Entry Job Said) Opening → Type 0
+  WasPassedOver peer session old new =
+      (moment : Held (Entry Job Said) Opening) × IsSamePass old moment × StartsWith moment.seen old.seen × StartsWith new.seen moment.seen × IsPassedOver peer session moment
+
+  -- The loss of a session was passed over between these two moments of one pass: of the one that was open, or of one that
+  -- began between them.
+  abbrev pub MissesLoss : ℕ → Option ℕ → Held (Entry Job Said) Opening → Held (Entry Job Said) Opening → Type 0
+  MissesLoss peer latest old new =
+      (session : ℕ) × ((latest ≡ Some session) ⊎ BeginsAmong session (pass_deeds old) (pass_deeds new)) × WasPassedOver peer session old new
 
   -- Nothing is sent to the peer for now, or nothing more.
   abbrev pub IsAtRest : ℕ → Held (Entry Job Said) Opening → Type 0

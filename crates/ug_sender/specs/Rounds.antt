@@ -1,6 +1,9 @@
 -- What a lane takes in one turn, and what becomes of it on the wire.
-use Rattle.std.specs.Prelude.{◌≡◌, ℕ, ◌+◌, ◌<◌, ◌≤◌, ◌==◌, Bool, false, List, [], ◌∷◌, ◌++◌, length, map, take, Option, Some, None}
+use Rattle.std.specs.Prelude.{◌≡◌, ℕ, ◌+◌, ◌<◌, ◌≤◌, ◌==◌, Bool, true, false, List, [], ◌∷◌, ◌++◌, length, map, take, Option, Some, None}
 use Rattle.ug_edge.specs.Told.{Rose, BeginsSession, SendsPiece}
+use Rattle.ug_board.specs.Entry.{Entry}
+use Rattle.ug_board.specs.Rules.{Rules}
+use Rattle.ug_turnstile.specs.Passes.{Held}
 use Rattle.ug_history_rules.specs.Deeds.{Deed, Begins, Hands, Loses, begins, when}
 use Rattle.ug_sender.specs.declared.pumped.Pumped.{Pumped}
 use Rattle.ug_sender.specs.declared.pumped.Pumped.TheVariants.{Begun as DidBegin, Sent as DidSend, Idle as WasIdle, Lost as WasLost, Stopped as WasStopped}
@@ -13,6 +16,7 @@ use Rattle.ug_sender.specs.declared.turn.Next.TheVariants.{Packet as WasPacket, 
 use Rattle.ug_sender.specs.declared.sending.Went.{Went}
 use Rattle.ug_sender.specs.declared.sending.Went.TheVariants.{Well, Ill}
 use Rattle.ug_sender.specs.Courses.{Fate, Whole, fate_of}
+use Rattle.ug_sender.specs.Lanes.{IsPassedOver}
 use Rattle.ug_sender.specs.Pieces.{SendsFront}
 use Rattle.ug_sender.specs.Tellings.{TellsLoss, TellsPump, Shown, IsSameWire}
 
@@ -91,6 +95,13 @@ abbrev pub TellsWent : Went → Option ℕ → List (Deed (List ℕ)) → List (
 TellsWent Well session old new = new ≡ old
 TellsWent (Ill noted) None old new = ⊥
 TellsWent (Ill noted) (Some session) old new = TellsLoss noted session old new
+
+-- Where a call failed and the loss of its session was not noted, that loss is passed over.
+abbrev pub PassesOver : {Opening State Job Said : Type 0} → Rules Opening State Job Said → Went → ℕ → Option ℕ → Held (Entry Job Said) Opening → Type 0
+PassesOver rules Well peer session pass = Unit {0}
+PassesOver rules (Ill true) peer session pass = Unit {0}
+PassesOver rules (Ill false) peer None pass = ⊥
+PassesOver rules (Ill false) peer (Some session) pass = IsPassedOver rules peer session pass
 
 -- the session that began at the end of a turn
 abbrev pub begun_by : Ending → Option ℕ

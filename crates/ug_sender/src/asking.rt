@@ -5,7 +5,7 @@ ghost use Rattle.ug_board.specs.declared.steps.LaneSaid.TheVariants.{Idle, Stop}
 ghost use Rattle.ug_board.specs.Rules.{buffer_size};
 ghost use Rattle.ug_board.specs.History.{state_of};
 ghost use Rattle.ug_turnstile.specs.Passes.{Adds, IsSamePass, StartsWith};
-ghost use Rattle.ug_sender.specs.Lanes.{AreOfPeer, IsOfPeer, IdlesAt, StopsAt, IsOver, deeds_at, pass_deeds};
+ghost use Rattle.ug_sender.specs.Lanes.{AreOfPeer, IsOfPeer, IdlesAt, StopsAt, IsOver, MayNotLoseAt, IsPassedOver, deeds_at, pass_deeds};
 ghost use Rattle.ug_sender.specs.Tellings.{TellsNext, TellsLoss};
 
 use std::sync::Wait;
@@ -60,6 +60,7 @@ fn lose_on<M: Machine>(
     ensures own { AreOfPeer peer number board.new.history }
     ensures spent { board.new.spent ≡ board.old.spent }
     ensures told { TellsLoss result session (deeds_at M.rules (Some board.old.opening) number board.old.history) (deeds_at M.rules (Some board.new.opening) number board.new.history) }
+    ensures passed { result ≡ false → (board.new.spent ≡ true) ⊎ MayNotLoseAt M.rules (Some board.new.opening) peer session board.new.history }
 {
     let is_noted = may_lose_on(board, peer, session);
     let _said = board.lane(number, LaneStep::Lost { peer, session }, buf);
@@ -112,6 +113,7 @@ pub(crate) fn ask_loss<M: Machine, R: Wait>(
     ensures own { IsOfPeer peer pass.new }
     ensures seen { StartsWith pass.new.seen pass.old.seen }
     ensures told { TellsLoss result session (pass_deeds M.rules pass.old) (pass_deeds M.rules pass.new) }
+    ensures passed { result ≡ false → IsPassedOver M.rules peer session pass.new }
 {
     let number = pass.number();
     let mut turn = turnstile.take(rt, pass);

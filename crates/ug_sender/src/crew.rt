@@ -1,6 +1,6 @@
 //! The workers of a run.
 
-ghost use Rattle.std.specs.Prelude.{◌≡◌, ◌≤◌, [], length, map, false, is_some, All, IfSome, IfOk, IfErr};
+ghost use Rattle.std.specs.Prelude.{◌≡◌, ◌≤◌, [], length, map, true, false, is_some, All, IfSome, IfOk, IfErr};
 ghost use Rattle.std.specs.Vec.{vec_len, vec_capacity};
 ghost use Rattle.ug_sender.specs.Lanes.{IsOver};
 ghost use Rattle.ug_sender.specs.Posts.{AreHere, AllRest, posts, posts_of, worker_here, here_deeds};
@@ -92,6 +92,7 @@ impl<W: Wire, M: Machine> Crew<W, M> {
         ensures places { map (λ worker. is_some worker.here) self.new ≡ map (λ worker. is_some worker.here) self.old }
         ensures rest { AllRest M.rules self.new }
         ensures still { result ≡ false → map (λ worker. here_deeds M.rules worker.here) self.new ≡ map (λ worker. here_deeds M.rules worker.here) self.old }
+        ensures done { result ≡ true → map (λ worker. here_deeds M.rules worker.here) self.new ≡ map (λ worker. here_deeds M.rules worker.here) self.old → ⊥ }
     {
         let mut has_done = false;
         for place in 0..self.workers.len() {

@@ -1,12 +1,12 @@
 //! A lane: a wire, and the pass by which it is told what to send.
 
-ghost use Rattle.std.specs.Prelude.{◌≡◌, ◌≤◌, ◌||◌, ◌⊎◌, [], true, false, Some, None, IfOk, IfErr};
+ghost use Rattle.std.specs.Prelude.{◌≡◌, ◌<◌, ◌≤◌, ◌||◌, ◌⊎◌, [], true, false, Some, None, IfOk, IfErr};
 ghost use Rattle.std.specs.Vec.{vec_len};
 ghost use Rattle.ug_edge.specs.Told.{Rose, IsFresh};
 ghost use Rattle.ug_turnstile.specs.Passes.{StartsWith, mine};
 ghost use Rattle.ug_sender.specs.declared.pumped.Pumped.TheVariants.{Sent as DidSend, Idle as WasIdle, Lost as WasLost, Stopped as WasStopped};
 ghost use Rattle.ug_sender.specs.Courses.{fate_of, is_unnoted};
-ghost use Rattle.ug_sender.specs.Lanes.{fresh_lane, IdlesAt, IsOver, IsSamePost, KeepsLane, shown};
+ghost use Rattle.ug_sender.specs.Lanes.{fresh_lane, IdlesAt, IsOver, IsSamePost, KeepsLane, MissesLoss, pass_deeds, shown};
 ghost use Rattle.ug_sender.specs.Rounds.{TellsRound, fate_after, open_after, outcome};
 ghost use Rattle.ug_sender.specs.Tellings.{TellsPump, IsSameWire};
 
@@ -131,6 +131,7 @@ impl<W: Wire, M: Machine> Lane<W, M> {
         ensures over { result ≡ WasStopped → IsOver M.rules self.new.peer self.new.pass }
         ensures unspent { result ≡ WasIdle → self.new.pass.spent ≡ false }
         ensures still { (result ≡ WasIdle) ⊎ (result ≡ WasStopped) → IsSameWire (W.sessions self.old.wire) (W.begun self.old.wire) (W.sessions self.new.wire) (W.begun self.new.wire) }
+        ensures unnoted { self.new.unnoted ≡ true → (self.old.unnoted ≡ true) ⊎ MissesLoss M.rules self.old.peer self.old.latest self.old.pass self.new.pass }
         ensures closed { result ≡ DidSend → self.old.latest ≡ None → IsSameWire (W.sessions self.old.wire) (W.begun self.old.wire) (W.sessions self.new.wire) (W.begun self.new.wire) }
     {
         let said = ask_next(
@@ -198,6 +199,9 @@ impl<W: Wire, M: Machine> Lane<W, M> {
         ensures idle { result.end ≡ WasIdle → IdlesAt M.rules self.new.pass.root self.new.peer self.new.pass.seen }
         ensures over { result.end ≡ WasStopped → IsOver M.rules self.new.peer self.new.pass }
         ensures unspent { result.end ≡ WasIdle → self.new.pass.spent ≡ false }
+        ensures sent { result.end ≡ DidSend → 0 < result.packets }
+        ensures done { pass_deeds M.rules self.new.pass ≡ pass_deeds M.rules self.old.pass → (result.end ≡ WasIdle) ⊎ (result.end ≡ WasStopped) }
+        ensures unnoted { self.new.unnoted ≡ true → (self.old.unnoted ≡ true) ⊎ MissesLoss M.rules self.old.peer self.old.latest self.old.pass self.new.pass }
         ensures still { result.packets ≡ 0 → (result.end ≡ WasIdle) ⊎ (result.end ≡ WasStopped) → IsSameWire (W.sessions self.old.wire) (W.begun self.old.wire) (W.sessions self.new.wire) (W.begun self.new.wire) }
     {
         let buf = self.buf.as_mut_slice();

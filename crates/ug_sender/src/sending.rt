@@ -8,7 +8,7 @@ ghost use Rattle.ug_sender.specs.declared.sending.Went.TheVariants.{Well};
 ghost use Rattle.ug_sender.specs.Lanes.{IsOfPeer, pass_deeds};
 ghost use Rattle.ug_sender.specs.Courses.{is_unnoted};
 ghost use Rattle.ug_sender.specs.Pieces.{SendsFront};
-ghost use Rattle.ug_sender.specs.Rounds.{SendsBy, BeginsBy, TellsWent, CountsFault, IsBelow, begun_by, fate_after};
+ghost use Rattle.ug_sender.specs.Rounds.{SendsBy, BeginsBy, TellsWent, PassesOver, CountsFault, IsBelow, begun_by, fate_after};
 
 use crate::asking::ask_loss;
 use crate::turn::Ending;
@@ -101,6 +101,8 @@ pub(crate) fn send_taken<W: Wire, M: Machine, R: Wait>(
     ensures made_for { W.made_for wire.new ≡ W.made_for wire.old }
     ensures faults { CountsFault result (W.faults wire.old) (W.faults wire.new) }
     ensures told { TellsWent result latest (pass_deeds M.rules pass.old) (pass_deeds M.rules pass.new) }
+    ensures passed { PassesOver M.rules result peer latest pass.new }
+    ensures none { filled ≡ 0 → result ≡ Well }
     ensures unchanged { result ≡ Well → pass.new ≡ pass.old }
 {
     let Some(session) = latest else {
@@ -141,6 +143,7 @@ pub(crate) fn begin_taken<W: Wire, M: Machine, R: Wait>(
     ensures made_for { W.made_for wire.new ≡ W.made_for wire.old }
     ensures faults { CountsFault result (W.faults wire.old) (W.faults wire.new) }
     ensures told { TellsWent result (begun_by ending) (pass_deeds M.rules pass.old) (pass_deeds M.rules pass.new) }
+    ensures passed { PassesOver M.rules result peer (begun_by ending) pass.new }
     ensures unchanged { result ≡ Well → pass.new ≡ pass.old }
 {
     let Ending::Begun { session } = ending else {

@@ -1,6 +1,7 @@
 //! What a worker does with its lane.
 
-ghost use Rattle.std.specs.Prelude.{◌≡◌, false};
+ghost use Rattle.std.specs.Prelude.{◌≡◌, true, false};
+ghost use Rattle.ug_turnstile.specs.Passes.{StartsWith};
 ghost use Rattle.ug_sender.specs.Lanes.{IsSamePost, IsAtRest, IsOver, pass_deeds};
 ghost use Rattle.ug_sender.specs.Posts.{post_of};
 
@@ -23,6 +24,8 @@ pub(crate) fn pump_out<R: Wait, W: Wire, M: Machine>(
     ensures same { IsSamePost lane.old lane.new }
     ensures rests { IsAtRest M.rules lane.new.peer lane.new.pass }
     ensures still { result ≡ false → pass_deeds M.rules lane.new.pass ≡ pass_deeds M.rules lane.old.pass }
+    ensures kept { StartsWith (pass_deeds M.rules lane.new.pass) (pass_deeds M.rules lane.old.pass) }
+    ensures done { result ≡ true → pass_deeds M.rules lane.new.pass ≡ pass_deeds M.rules lane.old.pass → ⊥ }
 {
     let mut has_done = false;
     for _ in rt.forever() {

@@ -1,9 +1,9 @@
 //! What a lane takes in one turn: packets, as long as there are some and there is room for them.
 
-ghost use Rattle.std.specs.Prelude.{◌≡◌, ◌+◌, ◌≤◌, ◌⊎◌, length, true, false, Some, None};
+ghost use Rattle.std.specs.Prelude.{◌≡◌, ◌+◌, ◌<◌, ◌≤◌, ◌⊎◌, length, true, false, Some, None};
 ghost use Rattle.ug_board.specs.Rules.{buffer_size};
 ghost use Rattle.ug_turnstile.specs.Passes.{Adds, IsSamePass, StartsWith};
-ghost use Rattle.ug_sender.specs.declared.turn.Ending.TheVariants.{Idle, Stop};
+ghost use Rattle.ug_sender.specs.declared.turn.Ending.TheVariants.{Idle, Stop, More};
 ghost use Rattle.ug_sender.specs.declared.turn.Next.TheVariants.{Last};
 ghost use Rattle.ug_sender.specs.Lanes.{AreOfPeer, IsOfPeer, IdlesAt, StopsAt, IsOver, deeds_at, pass_deeds};
 ghost use Rattle.ug_sender.specs.Rounds.{TellsStep, TellsTurn};
@@ -71,6 +71,7 @@ fn step_on<M: Machine>(
     ensures idle { result ≡ Last Idle → IdlesAt M.rules (Some board.new.opening) peer board.new.history }
     ensures over { result ≡ Last Stop → (board.new.spent ≡ true) ⊎ StopsAt M.rules (Some board.new.opening) peer board.new.history }
     ensures unspent { result ≡ Last Idle → board.new.spent ≡ false }
+    ensures ended { result ≡ Last More → ⊥ }
     ensures spent { board.new.spent ≡ board.old.spent }
 {
     let (_, room) = buf.split_at_mut(filled);
@@ -105,6 +106,7 @@ fn turn_on<M: Machine>(
     ensures idle { result.ending ≡ Idle → IdlesAt M.rules (Some board.new.opening) peer board.new.history }
     ensures over { result.ending ≡ Stop → (board.new.spent ≡ true) ⊎ StopsAt M.rules (Some board.new.opening) peer board.new.history }
     ensures unspent { result.ending ≡ Idle → board.new.spent ≡ false }
+    ensures more { result.ending ≡ More → buffer_size ≤ length buf.old → 0 < result.packets }
     ensures spent { board.new.spent ≡ board.old.spent }
 {
     let mut filled = 0;
@@ -154,6 +156,7 @@ pub(crate) fn take_turn<M: Machine, R: Wait>(
     ensures idle { result.ending ≡ Idle → IdlesAt M.rules pass.new.root peer pass.new.seen }
     ensures over { result.ending ≡ Stop → IsOver M.rules peer pass.new }
     ensures unspent { result.ending ≡ Idle → pass.new.spent ≡ false }
+    ensures more { result.ending ≡ More → buffer_size ≤ length buf.old → 0 < result.packets }
 {
     let number = pass.number();
     let mut turn = turnstile.take(rt, pass);

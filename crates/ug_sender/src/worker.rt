@@ -1,6 +1,7 @@
 //! A worker: a lane that works in a thread of its own, or here.
 
-ghost use Rattle.std.specs.Prelude.{◌≡◌, false, IfOk, IfErr, IfSome, is_some};
+ghost use Rattle.std.specs.Prelude.{◌≡◌, true, false, IfOk, IfErr, IfSome, is_some};
+ghost use Rattle.ug_turnstile.specs.Passes.{StartsWith};
 ghost use Rattle.ug_sender.specs.Lanes.{IsOver};
 ghost use Rattle.ug_sender.specs.Posts.{post_of, worker_here, worker_apart, Rests, here_deeds};
 
@@ -84,6 +85,8 @@ impl<W: Wire, M: Machine> Worker<W, M> {
         ensures place { is_some self.new.here ≡ is_some self.old.here }
         ensures rests { Rests M.rules self.new }
         ensures still { result ≡ false → here_deeds M.rules self.new.here ≡ here_deeds M.rules self.old.here }
+        ensures kept { StartsWith (here_deeds M.rules self.new.here) (here_deeds M.rules self.old.here) }
+        ensures done { result ≡ true → here_deeds M.rules self.new.here ≡ here_deeds M.rules self.old.here → ⊥ }
     {
         match &mut self.place {
             Place::Here(lane) => pump_out(rt, turnstile, lane),

@@ -6,7 +6,7 @@ pub returns-in-Last-clause-told : goal.returns-in-Last-clause-told
 returns-in-Last-clause-told g c =
     let room : c.loop-packets.filled ≤ length c.step_on.new.buf = omega (arith, c.step_on.auto.buf, c.loop-packets.invariant.1) in
     turn-ended c.args.latest c.loop-packets.packets c.loop-packets.filled c.in-Last.ending c.loop-packets.buf c.step_on.new.buf _ _ _
-    c.loop-packets.invariant.6 room c.in-Last.ensures.told
+    c.loop-packets.invariant.7 room c.in-Last.ensures.told
 
 pub loop-packets-preserved : goal.loop-packets-preserved
 loop-packets-preserved g c =
@@ -14,9 +14,10 @@ loop-packets-preserved g c =
     let told = c.in-Packet.ensures.told in (
       omega (arith, c.loop-packets-test.true),
       omega (arith, c.step_on.auto.buf, told.3, invariant.1, c.if-buf-filled-lt-LONGEST_MESSAGE.false),
-      c.step_on.ensures.opening ∙ invariant.2,
-      c.step_on.ensures.spent ∙ invariant.3,
-      adds-further (λ entry. entry.pass) c.args.number c.args.board.now.history c.loop-packets.board.history c.step_on.new.board.history invariant.4 c.step_on.ensures.adds,
+      omega (arith, told.3, invariant.2),
+      c.step_on.ensures.opening ∙ invariant.3,
+      c.step_on.ensures.spent ∙ invariant.4,
+      adds-further (λ entry. entry.pass) c.args.number c.args.board.now.history c.loop-packets.board.history c.step_on.new.board.history invariant.5 c.step_on.ensures.adds,
       c.step_on.ensures.own,
-      taken-further c.args.latest c.loop-packets.packets c.loop-packets.filled c.in-Packet.len c.loop-packets.buf c.step_on.new.buf _ _ _ invariant.6 told,
+      taken-further c.args.latest c.loop-packets.packets c.loop-packets.filled c.in-Packet.len c.loop-packets.buf c.step_on.new.buf _ _ _ invariant.7 told,
     )

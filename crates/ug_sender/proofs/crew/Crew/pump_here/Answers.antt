@@ -3,7 +3,7 @@ use Rattle.std.specs.Prelude.{is_some}
 use Rattle.std.proofs.Math.Seq.{map-set_same}
 use Rattle.ug_sender.specs.Posts.{AreHere, Rests, here_deeds}
 use Rattle.ug_sender.proofs.Seats.{here_in}
-use Rattle.ug_sender.proofs.Crews.{holds_more, holds_all, as_many}
+use Rattle.ug_sender.proofs.Crews.{holds_more, holds_all, as_many, total_same, total_kept, total_done}
 use Rattle.ug_sender.proofs.crew.Crew.pump_here.Goals.{then-pump_out, else-pump_out}
 use Rattle.ug_sender.proofs.crew.Crew.pump_here.Goals as goal
 
@@ -21,7 +21,12 @@ loop-place-preserved g c =
     let workers = c.loop-place.self-inside.workers.items in
     let place = c.loop-place.place in
     let old = c.index_mut.result.now in
-    let new = c.pump_out.new.self in (
+    let new = c.pump_out.new.self in
+    let many : length workers ≡ length c.args.self.now = as_many workers c.args.self.now c.loop-place.invariant.0 in
+    let end : c.len-place-end.result ≡ length c.args.self.now = c.loop-place.invariant.2 in
+    let below : c.loop-place.place < c.len-place-end.result = c.loop-place-test.true in
+    let within : place < length workers = omega arith in
+    let kept = total_kept g.M.Machine.rules workers place old new within c.index_mut.ensures.value c.pump_out.ensures.kept in (
       map-set_same (λ w. w.post) workers place new old (c.pump_out.ensures.post ∙ ap (λ w. w.post) c.index_mut.ensures.value) ∙ c.loop-place.invariant.0,
       map-set_same (λ w. is_some w.here) workers place new old (c.pump_out.ensures.place ∙ ap (λ w. is_some w.here) c.index_mut.ensures.value) ∙ c.loop-place.invariant.1,
       c.loop-place.invariant.2,
@@ -34,6 +39,13 @@ loop-place-preserved g c =
             (c.pump_out.ensures.still w.if-pump_out.false ∙ ap (λ worker. here_deeds g.M.Machine.rules worker.here) c.index_mut.ensures.value)
             ∙ c.loop-place.invariant.5 (sym w.has_done-is ∙ none)
       ],
+      omega (arith, c.loop-place.invariant.6, kept),
+      elim c.if-pump_out.branch [
+        | then-pump_out w ↦ λ has.
+            let more = total_done g.M.Machine.rules workers place old new within c.index_mut.ensures.value c.pump_out.ensures.kept (c.pump_out.ensures.done w.if-pump_out.true) in
+            omega (arith, c.loop-place.invariant.6)
+        | else-pump_out w ↦ λ has. let before = c.loop-place.invariant.7 (sym w.has_done-is ∙ has) in omega (arith, kept)
+      ],
     )
 
 pub returns-clause-rest : goal.returns-clause-rest
@@ -42,3 +54,9 @@ returns-clause-rest g c =
     let many : length workers ≡ length c.args.self.now = as_many workers c.args.self.now c.loop-place.invariant.0 in
     let end : c.len-place-end.result ≡ length c.args.self.now = c.loop-place.invariant.2 in
     holds_all (Rests g.M.Machine.rules) workers c.loop-place.place c.loop-place.invariant.4 (omega (arith, c.loop-place-test.false))
+
+pub returns-clause-done : goal.returns-clause-done
+returns-clause-done g c has same =
+    let more = c.loop-place.invariant.7 has in
+    let as_before = total_same g.M.Machine.rules c.loop-place.self-inside.workers.items c.args.self.now same in
+    omega arith

@@ -1,9 +1,12 @@
 use Rattle.std.proofs.Common.{rules, arith, length, ◌≡◌, [], ◌∷◌, ◌++◌, take, true, false, ◌∙◌, ap, subst}
+use Rattle.std.specs.Prelude.{◌⊎◌}
 use Rattle.ug_edge.specs.Told.{SendsPiece}
 use Rattle.ug_sender.specs.Courses.{Whole, fate_of}
 use Rattle.ug_sender.specs.Pieces.{SendsFront}
 use Rattle.ug_sender.proofs.Wires.{change_last, begun_course, handed_course, other_course, begun-below, begun-well, begun-ill, sent-well, sent-ill, sent-other}
 use Rattle.ug_sender.proofs.Pieces.{front-of}
+use Rattle.ug_sender.specs.Lanes.{MissesLoss}
+use Rattle.ug_sender.proofs.Missing.{begun-missed, sent-missed}
 use Rattle.ug_sender.proofs.lane.Lane.pump.Goals as goal
 
 pub begin_session-requires-clause-fewer : goal.begin_session-requires-clause-fewer
@@ -90,3 +93,21 @@ invariant_of-self-in_default-send_all g c =
       },
       c.self.invariant.1,
     )
+
+pub returns-in_default-clause-unnoted : goal.returns-in_default-clause-unnoted
+returns-in_default-clause-unnoted g c has =
+    subst (λ l. (l.unnoted ≡ true) ⊎ MissesLoss g.M.Machine.rules l.peer l.latest l.pass c.ask_loss-is_noted.new.pass) c.self.view_is
+    (begun-missed g.M.Machine.rules c.in-Begun.session c.ask_loss-is_noted.result c.self.inside.unnoted _ c.self.inside.peer c.self.inside.latest
+    c.self.inside.pass c.ask_next-said.new.pass c.ask_loss-is_noted.new.pass
+    c.with_loss-self-inside.ensures c.ask_next-said.ensures.same c.ask_loss-is_noted.ensures.same c.ask_next-said.ensures.seen c.ask_loss-is_noted.ensures.seen
+    c.in-Begun.ensures.told.0 c.ask_loss-is_noted.ensures.told c.ask_loss-is_noted.ensures.passed has)
+
+pub returns-in_default-send_all-clause-unnoted : goal.returns-in_default-send_all-clause-unnoted
+returns-in_default-send_all-clause-unnoted g c has =
+    let yes : c.is_open.result ≡ true = search rules in
+    subst (λ l. (l.unnoted ≡ true) ⊎ MissesLoss g.M.Machine.rules l.peer l.latest l.pass c.ask_loss-is_noted-in_default-send_all.new.pass) c.self.view_is
+    (sent-missed g.M.Machine.rules c.in-Hand.session c.ask_loss-is_noted-in_default-send_all.result c.self.inside.unnoted _ c.self.inside.peer c.self.inside.latest
+    c.self.inside.pass c.ask_next-said.new.pass c.ask_loss-is_noted-in_default-send_all.new.pass
+    c.with_loss-self-inside-in_default-send_all.ensures c.ask_next-said.ensures.same c.ask_loss-is_noted-in_default-send_all.ensures.same
+    c.ask_next-said.ensures.seen c.ask_loss-is_noted-in_default-send_all.ensures.seen
+    (c.is_open.ensures.yes yes) c.ask_loss-is_noted-in_default-send_all.ensures.passed has)

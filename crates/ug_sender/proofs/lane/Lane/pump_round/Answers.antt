@@ -1,11 +1,12 @@
-use Rattle.std.proofs.Common.{◌≡◌, refl, sym, ◌∙◌, ap, subst}
+use Rattle.std.proofs.Common.{◌≡◌, true, refl, sym, ◌∙◌, ap, subst, arith}
 use Rattle.std.specs.Prelude.{◌⊎◌}
 use Rattle.ug_sender.specs.declared.pumped.Pumped.TheVariants.{Idle as WasIdle, Stopped as WasStopped}
-use Rattle.ug_sender.specs.Lanes.{pass_deeds}
+use Rattle.ug_sender.specs.Lanes.{MissesLoss, pass_deeds}
 use Rattle.ug_sender.specs.Rounds.{TellsTurn}
 use Rattle.ug_sender.proofs.Wires.{begun-counted}
 use Rattle.ug_sender.proofs.Rounds.{round-kept, courses_of, kept_of}
-use Rattle.ug_sender.proofs.Outcomes.{filled-none, below-as, round-still, round-tells}
+use Rattle.ug_sender.proofs.Outcomes.{filled-none, below-as, sent-outcome, round-still, round-tells, round-done}
+use Rattle.ug_sender.proofs.Missing.{round-missed}
 use Rattle.ug_sender.proofs.lane.Lane.pump_round.Goals as goal
 
 pub send_taken-sent-requires-clause-latest : goal.send_taken-sent-requires-clause-latest
@@ -47,3 +48,25 @@ returns-clause-still g c none is =
     let same = round-still c.take_turn-taken.result c.take_turn-taken.new.buf c.send_taken-sent.result c.begin_taken-begun.result c.self.inside.latest _ _ _ _ _ _ _ _
     c.take_turn-taken.ensures.told c.send_taken-sent.ensures.sent c.send_taken-sent.ensures.begun c.begin_taken-begun.ensures.begun none ended in
     (same.0 ∙ ap (λ l. g.W.Wire.sessions l.wire) c.self.view_is, same.1 ∙ ap (λ l. g.W.Wire.begun l.wire) c.self.view_is)
+
+pub returns-clause-sent : goal.returns-clause-sent
+returns-clause-sent g c is =
+    c.take_turn-taken.ensures.more (sent-outcome c.take_turn-taken.result.ending c.send_taken-sent.result c.begin_taken-begun.result (sym c.outcome.ensures ∙ is)) (omega (arith, c.self.invariant.1))
+
+pub returns-clause-done : goal.returns-clause-done
+returns-clause-done g c same =
+    subst (λ e. (e ≡ WasIdle) ⊎ (e ≡ WasStopped)) (sym c.outcome.ensures)
+    (round-done c.take_turn-taken.result c.take_turn-taken.new.buf c.send_taken-sent.result c.begin_taken-begun.result c.self.inside.latest _ _ _ _
+    c.take_turn-taken.ensures.told c.send_taken-sent.ensures.told c.begin_taken-begun.ensures.told c.send_taken-sent.ensures.none
+    (λ more. c.take_turn-taken.ensures.more more (omega (arith, c.self.invariant.1)))
+    (same ∙ sym (ap (λ l. pass_deeds g.M.Machine.rules l.pass) c.self.view_is)))
+
+pub returns-clause-unnoted : goal.returns-clause-unnoted
+returns-clause-unnoted g c has =
+    subst (λ l. (l.unnoted ≡ true) ⊎ MissesLoss g.M.Machine.rules l.peer l.latest l.pass c.begin_taken-begun.new.pass) c.self.view_is
+    (round-missed g.M.Machine.rules c.take_turn-taken.result c.take_turn-taken.new.buf c.send_taken-sent.result c.begin_taken-begun.result c.self.inside.unnoted _ c.self.inside.peer c.self.inside.latest
+    c.self.inside.pass c.take_turn-taken.new.pass c.send_taken-sent.new.pass c.begin_taken-begun.new.pass
+    c.with_calls-self-inside.ensures c.take_turn-taken.ensures.same c.send_taken-sent.ensures.same c.begin_taken-begun.ensures.same
+    c.take_turn-taken.ensures.seen c.send_taken-sent.ensures.seen c.begin_taken-begun.ensures.seen
+    c.take_turn-taken.ensures.told c.send_taken-sent.ensures.told c.begin_taken-begun.ensures.told
+    c.send_taken-sent.ensures.passed c.begin_taken-begun.ensures.passed has)
