@@ -245,7 +245,7 @@ impl<S: Speaker> Builder<S> {
         requires crew { AreHere turnstile.now.id (posts_of crew.old) }
         ensures same { IsSameBuilder self.old self.new }
         ensures posts { posts_of crew.new ≡ posts_of crew.old }
-        ensures due { IfOk result (λ due. IsPumpedBetween self.old self.new → due ≡ Some true) }
+        ensures due { IfOk result (λ due. self.new.tally.accepted ≡ self.old.tally.accepted + 1 → due ≡ Some (is_due self.new.tally.accepted self.old.coalesce)) }
         ensures taken { OnOk result (TakesLines S.Machine.rules S.speech self.old (K.held report.old) self.new (K.held report.new) (line.now ∷ [])) }
         ensures stopped { IfErr result (λ stop. StopsWithin S.Machine.rules S.speech stop self.old (K.held report.old) self.new (K.held report.new) (line.now ∷ [])) }
         ensures rose { IsErrOf result Stop.Report → Rose (K.faults report.old) (K.faults report.new) }
@@ -287,6 +287,7 @@ impl<S: Speaker> Builder<S> {
         ensures same { IsSameBuilder self.old self.new }
         ensures posts { posts_of crew.new ≡ posts_of crew.old }
         ensures pumped { OnOk result (IsPumpedBetween self.old self.new → AllRest S.Machine.rules crew.new) }
+        ensures settled { OnOk result (self.new.tally.accepted ≡ self.old.tally.accepted + 1 → IsSettledAt S.Machine.rules S.speech self.new.pass.root self.new.pass.seen) }
         ensures taken { OnOk result (TakesLines S.Machine.rules S.speech self.old (K.held report.old) self.new (K.held report.new) (line.now ∷ [])) }
         ensures stopped { IfErr result (λ stop. StopsWithin S.Machine.rules S.speech stop self.old (K.held report.old) self.new (K.held report.new) (line.now ∷ [])) }
         ensures rose { IsErrOf result Stop.Report → Rose (K.faults report.old) (K.faults report.new) }
@@ -362,6 +363,7 @@ impl<S: Speaker> Builder<S> {
         ensures same { IsSameBuilder self.old self.new }
         ensures posts { posts_of crew.new ≡ posts_of crew.old }
         ensures rest { OnOk result (AllRest S.Machine.rules crew.new) }
+        ensures settled { OnOk result (IsSettledAt S.Machine.rules S.speech self.new.pass.root self.new.pass.seen) }
         ensures taken { OnOk result ((first : List (Reads Saying)) (held : Option (List ℕ)) → BuilderStands S.Machine.rules S.speech self.old first [] held held
             → BuilderStands S.Machine.rules S.speech self.new (first ++ Ok (Says (event_of event)) ∷ []) [] held held) }
         ensures stopped { OnErr result ((first : List (Reads Saying)) (held : Option (List ℕ)) → BuilderStands S.Machine.rules S.speech self.old first [] held held
