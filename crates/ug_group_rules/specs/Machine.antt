@@ -226,6 +226,7 @@ after_saying (Announced o keys) x = record x { out = with_told keys x.out }
 after_saying EndOfRib x = record x { ending = false }
 after_saying RefreshEnds x = record x { phase = Quiet }
 
+-- The subgroup after its next packet is formatted: something was formatted, and there was room in its queue.
 abbrev pub formatted : Subgroup → Subgroup
 formatted x = record (after_saying (says_next x) x) { fresh = false; stuck = 0 }
 

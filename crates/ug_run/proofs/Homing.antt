@@ -1,17 +1,17 @@
 -- What comes back at the end of a run, and what the run comes to.
-use Rattle.std.proofs.Common.{◌≡◌, ℕ, ◌+◌, ◌<◌, ◌≤◌, Bool, true, false, List, [], ◌∷◌, length, map, All, Option, Some, None, inl, inr, refl, sym, ◌∙◌, ap, subst, arith}
-use Rattle.std.specs.Prelude.{IfSome}
+use Rattle.std.proofs.Common.{◌≡◌, ℕ, ◌≤◌, Bool, true, false, List, [], ◌∷◌, length, map, Option, Some, inl, inr, refl, sym, ◌∙◌, ap, subst, arith}
 use Rattle.std.specs.List.{list_any}
 use Rattle.std.proofs.lemmas.List.{length-map}
-use Rattle.ug_edge.specs.Told.{Rose, IsEnded, TakesFront, WireName, HasPicked, FileText, file_told}
+use Rattle.ug_edge.specs.Told.{Rose, IsEnded, TakesFront, WireName, HasPicked}
+use Rattle.ug_pieces.specs.Pieces.{HasRead}
 use Rattle.ug_pieces.specs.ReadingLaws.{Rose-later}
 use Rattle.ug_board.specs.Entry.{Entry}
 use Rattle.ug_board.specs.Rules.{Rules, IsMachine}
 use Rattle.ug_history_rules.specs.Deeds.{Each}
-use Rattle.ug_turnstile.specs.Passes.{Gate, Held, Agrees}
+use Rattle.ug_turnstile.specs.Passes.{Held, Agrees}
 use Rattle.ug_board.specs.History.{IsLegal, MayGoOn, replay}
 use Rattle.ug_sender.specs.Lanes.{LaneView}
-use Rattle.ug_events.specs.Events.{IsEvent, Saying}
+use Rattle.ug_events.specs.Events.{Saying}
 use Rattle.ug_events.specs.Reads.{Reads}
 use Rattle.ug_events.specs.Views.{event_of}
 use Rattle.ug_events.specs.declared.event.Event.{Event}
@@ -20,19 +20,20 @@ use Rattle.ug_speaker.specs.Speech.{Speech}
 use Rattle.ug_speaker.specs.Owes.{AreEvents, IsOpening, IsSpeaker}
 use Rattle.ug_speaker.specs.Story.{IsSound}
 use Rattle.ug_report.specs.declared.endings.Loss.{Loss}
-use Rattle.ug_report.specs.Report.{names_in, losses_from, losses_status}
-use Rattle.ug_sender.specs.Posts.{Post, post_of, posts, AreHere}
+use Rattle.ug_report.specs.Report.{losses_from, losses_status}
+use Rattle.ug_sender.specs.Posts.{posts}
 use Rattle.ug_event_loop.specs.declared.grammar.Grammar.{Grammar}
-use Rattle.ug_event_loop.specs.declared.tally.Tally.{Tally}
 use Rattle.ug_event_loop.specs.declared.reading.End.{End}
 use Rattle.ug_event_loop.specs.declared.reading.End.TheVariants as ends
-use Rattle.ug_event_loop.specs.Standing.{BuilderView, IsPacedBy, IsSameBuilder, BuilderStands}
+use Rattle.ug_event_loop.specs.Standing.{BuilderView}
 use Rattle.ug_event_loop.specs.Turns.{IsClosedAt}
 use Rattle.ug_event_loop.specs.FreshLaws.{fresh-stands}
-use Rattle.ug_event_loop.specs.Reading.{Outside, first_of, EndsAt, HasEnded, IsRead}
-use Rattle.ug_run.specs.Lanes.{AreAtPosts, AreKept, fresh_lanes}
-use Rattle.ug_run.specs.Boards.{IsBegun, IsHistoryOf}
-use Rattle.ug_run.proofs.LaneLaws.{posts_fresh, posts_stay, posts_here, lanes_many, lanes_stay_for}
+use Rattle.ug_event_loop.specs.Reading.{Outside, first_of, EndsAt, HasEnded}
+use Rattle.ug_run.specs.Lanes.{AreAtPosts, AreKept}
+use Rattle.ug_run.specs.Boards.{IsHistoryOf}
+use Rattle.ug_run.specs.Runs.{RunView, IsBegun}
+use Rattle.ug_run.proofs.LaneLaws.{posts_fresh, lanes_many, lanes_for}
+use Rattle.ug_run.proofs.Running.{same-many, same-for, same-at, root-is}
 use Rattle.ug_report.specs.Statuses.{row_of, status_text}
 use Rattle.ug_report.specs.declared.status.Status.{Status}
 use Rattle.ug_report.specs.declared.status.Status.TheVariants as statuses
@@ -46,31 +47,6 @@ use Rattle.ug_event_loop.proofs.Counting.{least-whole, most-whole}
 use Rattle.ug_run.proofs.Stories.{crew-from, IsBehind, behind, legal-open}
 use Rattle.ug_run.proofs.Histories.{some_is}
 use Rattle.ug_run.proofs.Coming.{comes}
-
--- ---- lanes and their posts
-
-module _ {W Opening Job Said : Type 0} where
-  pub same-many : (lanes old : List (LaneView W Opening Job Said)) → posts lanes ≡ posts old → length lanes ≡ length old
-  same-many lanes old same = sym (length-map lanes post_of) ∙ (ap length same ∙ length-map old post_of)
-
-  pub same-for : (lanes old : List (LaneView W Opening Job Said)) → posts lanes ≡ posts old
-      → map (λ (lane : LaneView W Opening Job Said). lane.made_for) lanes ≡ map (λ (lane : LaneView W Opening Job Said). lane.made_for) old
-  same-for lanes old same = lanes_stay_for post_of (λ a b e. ap (λ (p : Post Opening). p.made_for) e) lanes old same
-
-  module _ {State : Type 0} (made_for : W → WireName) (speech : Speech Opening State Job Said) (w : World) (gate : Gate) (b0 : Held (Entry Job Said) Opening) (passes : List (Held (Entry Job Said) Opening)) (wires : List W) (is : IsBegun speech w gate b0 passes) where
-    pub fresh-at : AreAtPosts gate.id (Some is.root) 0 (fresh_lanes made_for 0 wires passes)
-    fresh-at = posts_fresh made_for gate.id is.root 0 wires passes is.others
-
-    pub back-at : (lanes : List (LaneView W Opening Job Said)) → posts lanes ≡ posts (fresh_lanes made_for 0 wires passes) → AreAtPosts gate.id (Some is.root) 0 lanes
-    back-at lanes same =
-        posts_stay post_of (λ a b e. (ap (λ (p : Post Opening). p.turnstile) e, ap (λ (p : Post Opening). p.root) e, ap (λ (p : Post Opening). p.number) e, ap (λ (p : Post Opening). p.peer) e))
-        gate.id (Some is.root) 0 lanes (fresh_lanes made_for 0 wires passes) same fresh-at
-
-    pub here-at : (lanes : List (LaneView W Opening Job Said)) → AreAtPosts gate.id (Some is.root) 0 lanes → AreHere gate.id (posts lanes)
-    here-at lanes at = posts_here post_of (λ (p : Post Opening). p.turnstile) (λ a. refl) gate.id (Some is.root) 0 lanes at
-
-    pub root-is : b0.root ≡ Some is.root
-    root-is = ap (λ (p : Held (Entry Job Said) Opening). p.root) is.head
 
 -- ---- the first events
 
@@ -172,23 +148,6 @@ module _ (names : List (List ℕ)) (losses : List Loss) (accepted refused : ℕ)
 -- ---- how the reading ended
 
 module _ {Opening State Job Said : Type 0} (rules : Rules Opening State Job Said) (speech : Speech Opening State Job Said) where
-  pub read-same : (first : List (Reads Saying)) (old new : BuilderView Opening Job Said) (o o' : Outside) (end : Option End) → IsRead rules speech first old new o o' end → IsSameBuilder old new
-  read-same first old new o o' None h = absurd h
-  read-same first old new o o' (Some end) h = h.same
-
-  pub read-faults : (first : List (Reads Saying)) (old new : BuilderView Opening Job Said) (o o' : Outside) (end : Option End) → IsRead rules speech first old new o o' end → o.reads_failed ≤ o'.reads_failed
-  read-faults first old new o o' None h = absurd h
-  read-faults first old new o o' (Some end) h = h.reads
-
-  pub read-ended : (first : List (Reads Saying)) (old new : BuilderView Opening Job Said) (o o' : Outside) (e : Option End) (end : End) → e ≡ Some end → IsRead rules speech first old new o o' e → HasEnded rules speech first old new o o' end
-  read-ended first old new o o' e end is h = subst (λ (x : Option End). IsRead rules speech first old new o o' x) is h
-
-  -- a builder as it is made, over the pass of a run that begins
-  pub start-stands : (old : BuilderView Opening Job Said) (b0 : Held (Entry Job Said) Opening) (root : Opening) (names : List (List ℕ)) (grammar : Grammar) (every : ℕ) (held : Option (List ℕ))
-      → old ≡ record { pass = b0; names = names; grammar = grammar; coalesce = every; tally = record { lines = 0; accepted = 0; refused = 0 } } → b0.root ≡ Some root → b0.seen ≡ [] → BuilderStands rules speech old [] [] held held
-  start-stands old b0 root names grammar every held is root_is seen_is =
-      fresh-stands rules speech old root held (ap (λ (b : BuilderView Opening Job Said). b.pass.root) is ∙ root_is) (ap (λ (b : BuilderView Opening Job Said). b.pass.seen) is ∙ seen_is) (ap (λ (b : BuilderView Opening Job Said). b.tally) is)
-
   module _ (first : List (Reads Saying)) (old new : BuilderView Opening Job Said) (o o' : Outside) (read : List ℕ) where
     pub read-rose : (end : End) → EndsAt rules speech first old new o o' end read → end ≡ ends.Read → Rose o.reads_failed o'.reads_failed
     read-rose ends.Read h is = h.2
@@ -239,91 +198,110 @@ agrees_at {Opening} {Job} {Said} root history pass = Agrees (λ (entry : Entry J
 abbrev legal_at : {Opening State Job Said : Type 0} → Rules Opening State Job Said → Opening → List (Entry Job Said) → Type 0
 legal_at rules root history = IsLegal rules root history
 
-module _ {W Opening State Job Said : Type 0} (rules : Rules Opening State Job Said) (speech : Speech Opening State Job Said) (machine : IsMachine rules) (speaks : IsSpeaker rules speech)
-    (sessions : W → Option (List (List ℕ))) (begun faults : W → ℕ) (made_for : W → WireName) where
-  -- a builder that is done, over the history that came home
-  module _ (w : World) (gate : Gate) (b0 : Held (Entry Job Said) Opening) (passes : List (Held (Entry Job Said) Opening)) (wires : List W) (is : IsBegun speech w gate b0 passes)
-      (names : List (List ℕ)) (grammar : Grammar) (every : ℕ) (old new : BuilderView Opening Job Said) (old_is : old ≡ record { pass = b0; names = names; grammar = grammar; coalesce = every; tally = record { lines = 0; accepted = 0; refused = 0 } })
-      (first : List (Reads Saying)) (o o' : Outside) (end : End) (ended : HasEnded rules speech first old new o o' end)
-      (lanes : List (LaneView W Opening Job Said)) (pass : Held (Entry Job Said) Opening) (pass_is : pass ≡ new.pass) (history : List (Entry Job Said)) (hist : IsHistoryOf rules pass lanes history) where
-    root_begun : old.pass.root ≡ Some is.root
-    root_begun = ap (λ (b : BuilderView Opening Job Said). b.pass.root) old_is ∙ root-is made_for speech w gate b0 passes wires is
+-- a run that began and was read
+module _ {W Opening State Job Said : Type 0} (rules : Rules Opening State Job Said) (speech : Speech Opening State Job Said) (made_for : W → WireName)
+    (w : World) (grammar : Grammar) (wires : List W) (run run' : RunView W Opening Job Said) (is : IsBegun speech made_for w grammar wires run)
+    (first : List (Reads Saying)) (o o' : Outside) (end : End) (ended : HasEnded rules speech first run.builder run'.builder o o' end) where
+  root_begun : run.builder.pass.root ≡ Some is.dealt.root
+  root_begun = root-is speech w run.gate run.builder.pass is.passes is.dealt
 
-    root-same : hist.root ≡ is.root
-    root-same = some_is hist.root is.root (sym hist.known ∙ (ap (λ (p : Held (Entry Job Said) Opening). p.root) pass_is ∙ (ended.same.pass.2 ∙ root_begun)))
+  none_seen : run.builder.pass.seen ≡ []
+  none_seen = ap (λ (p : Held (Entry Job Said) Opening). p.seen) is.dealt.head
 
-    behind-home : IsBehind rules speech is.root history new.pass.seen
+  -- what was read
+  pub was-read : HasRead o.left o'.left (EndsAt rules speech first run.builder run'.builder o o' end)
+  was-read = ended.ended (fresh-stands rules speech run.builder is.dealt.root o.held root_begun none_seen (ap (λ (b : BuilderView Opening Job Said). b.tally) is.builder))
+
+  -- what the status says of the outside
+  module _ (names : List (List ℕ)) (losses : List Loss) (accepted refused : ℕ) (before held : Option (List ℕ)) (F : Type 0) (unnoted : Bool) (status : Status) (finished : IsFinished names losses accepted refused before held F end unnoted status) where
+    pub home-read : status ≡ statuses.ReadFault → Rose o.reads_failed o'.reads_failed
+    home-read is =
+        finished-read names losses accepted refused before held F (Rose o.reads_failed o'.reads_failed) end unnoted status finished (read-rose rules speech first run.builder run'.builder o o' was-read.read end was-read.so) is
+
+    pub home-unharmed : (status ≡ statuses.ReadFault → ⊥) → o'.reads_failed ≡ o.reads_failed
+    home-unharmed not_read = ended.unharmed (λ is. not_read (finished-unread names losses accepted refused before held F end unnoted status finished is))
+
+    pub home-report : (failed : ℕ) → o'.writes_failed ≤ failed → (F → Rose o'.writes_failed failed) → status ≡ statuses.ReportFault → Rose o.writes_failed failed
+    home-report failed more last is =
+        finished-report names losses accepted refused before held F (Rose o.writes_failed failed) end unnoted status finished
+        (λ e. rose-sooner o.writes_failed o'.writes_failed failed (report-rose rules speech first run.builder run'.builder o o' was-read.read end was-read.so e) more)
+        (λ rose. Rose-later o.writes_failed o'.writes_failed failed ended.writes more (last rose)) is
+
+    pub home-whole : (row_of status).completed ≡ true → IsEnded o'.left
+    home-whole done =
+        finished-whole names losses accepted refused before held F (IsEnded o'.left) end unnoted status finished (whole-ended rules speech first run.builder run'.builder o o' was-read.read end was-read.so) done
+
+  module _ (same : posts run'.lanes ≡ posts run.lanes) where
+    lanes_all : length run'.lanes ≡ length w.peers
+    lanes_all = same-many run'.lanes run.lanes same ∙ (ap length is.lanes ∙ (lanes_many made_for 0 wires is.passes (is.dealt.all ∙ sym is.all) ∙ is.all))
+
+    lanes_at : AreAtPosts run.gate.id (Some is.dealt.root) 0 run'.lanes
+    lanes_at =
+        same-at run.gate.id (Some is.dealt.root) run'.lanes run.lanes same
+        (subst (λ (ls : List (LaneView W Opening Job Said)). AreAtPosts run.gate.id (Some is.dealt.root) 0 ls) (sym is.lanes) (posts_fresh made_for run.gate.id is.dealt.root 0 wires is.passes is.dealt.others))
+
+    -- for whom the wires that come back were made
+    pub home-for : map (λ (lane : LaneView W Opening Job Said). lane.made_for) run'.lanes ≡ map made_for wires
+    home-for =
+        same-for run'.lanes run.lanes same
+        ∙ (ap (λ (ls : List (LaneView W Opening Job Said)). map (λ (lane : LaneView W Opening Job Said). lane.made_for) ls) is.lanes ∙ lanes_for made_for 0 wires is.passes (is.dealt.all ∙ sym is.all))
+
+  -- the history that came home
+  module _ (history : List (Entry Job Said)) (hist : IsHistoryOf rules run'.builder.pass run'.lanes history) where
+    root-same : hist.root ≡ is.dealt.root
+    root-same = some_is hist.root is.dealt.root (sym hist.known ∙ (ended.same.pass.2 ∙ root_begun))
+
+    behind-home : IsBehind rules speech is.dealt.root history run'.builder.pass.seen
     behind-home =
-        let number : pass.number ≡ 0 =
-        ap (λ (p : Held (Entry Job Said) Opening). p.number) pass_is ∙ (ended.same.pass.1 ∙ (ap (λ (b : BuilderView Opening Job Said). b.pass.number) old_is ∙ ap (λ (p : Held (Entry Job Said) Opening). p.number) is.head)) in
-        subst (λ (p : Held (Entry Job Said) Opening). IsBehind rules speech is.root history p.seen) pass_is
-        (behind rules speech is.root history pass number (subst (λ (r : Opening). agrees_at r history pass) root-same hist.builder_agrees))
+        let number : run'.builder.pass.number ≡ 0 = ended.same.pass.1 ∙ ap (λ (p : Held (Entry Job Said) Opening). p.number) is.dealt.head in
+        behind rules speech is.dealt.root history run'.builder.pass number (subst (λ (r : Opening). agrees_at r history run'.builder.pass) root-same hist.builder_agrees)
 
     -- what it counted
     pub counted-home : (completed : Bool) → (completed ≡ true → end ≡ ends.Complete) → IsCounted rules speech w completed history o.steps o'.steps
     counted-home completed complete =
-        let nothing : old.pass.seen ≡ [] = ap (λ (b : BuilderView Opening Job Said). b.pass.seen) old_is ∙ ap (λ (p : Held (Entry Job Said) Opening). p.seen) is.head in
         let home = behind-home in
         inr (record {
-          root = is.root;
-          first = is.first;
-          least = least-whole rules old.pass.root is.root root_begun old.pass.seen new.pass.seen home.later history nothing home.parts home.others o.steps o'.steps ended.least;
-          most = λ done. most-whole rules old.pass.root is.root root_begun old.pass.seen new.pass.seen home.later history nothing home.parts home.others o.steps o'.steps (ended.most (complete done));
+          root = is.dealt.root;
+          first = is.dealt.first;
+          least = least-whole rules run.builder.pass.root is.dealt.root root_begun run.builder.pass.seen run'.builder.pass.seen home.later history none_seen home.parts home.others o.steps o'.steps ended.least;
+          most = λ done. most-whole rules run.builder.pass.root is.dealt.root root_begun run.builder.pass.seen run'.builder.pass.seen home.later history none_seen home.parts home.others o.steps o'.steps (ended.most (complete done));
         })
 
+  -- what the run comes to
   pub came-home :
-      (w : World) → IsOpening w → (gate : Gate) (b0 : Held (Entry Job Said) Opening) (passes : List (Held (Entry Job Said) Opening)) (wires : List W) (is : IsBegun speech w gate b0 passes)
-      → length passes ≡ length wires → length w.peers ≡ length wires
-      → (first : List (Reads Saying)) → Each IsSound first → (names : List (List ℕ)) → names ≡ names_in w → (grammar : Grammar) (every : ℕ)
-      → (old new : BuilderView Opening Job Said) → old ≡ record { pass = b0; names = names; grammar = grammar; coalesce = every; tally = record { lines = 0; accepted = 0; refused = 0 } }
-      → (o o' : Outside) (end : End) → HasEnded rules speech first old new o o' end
-      → (lanes : List (LaneView W Opening Job Said)) → posts lanes ≡ posts (fresh_lanes made_for 0 wires passes)
-      → (pass : Held (Entry Job Said) Opening) → pass ≡ new.pass → (history : List (Entry Job Said)) → IsHistoryOf rules pass lanes history → AreKept rules sessions begun faults lanes
-      → (unnoted : Bool) → unnoted ≡ list_any (λ (lane : LaneView W Opening Job Said). lane.unnoted) lanes
+      (machine : IsMachine rules) (speaks : IsSpeaker rules speech) (sessions : W → Option (List (List ℕ))) (begun faults : W → ℕ) (same : posts run'.lanes ≡ posts run.lanes)
+      (history : List (Entry Job Said)) (hist : IsHistoryOf rules run'.builder.pass run'.lanes history) → IsOpening w → Each IsSound first → AreKept rules sessions begun faults run'.lanes
       → (name : List ℕ) (before : Before) (after : After) → HasPicked before.files name o.left → after.left ≡ o'.left → after.picks.is_open ≡ true → o.held ≡ before.held → (made_for' : List WireName)
-      → (peers : ℕ) → peers ≡ length w.peers → (names' : List (List ℕ)) → names' ≡ new.names → (tally : Tally) → tally ≡ new.tally → (history' : List (Entry Job Said)) → history' ≡ history
       → (F : Type 0) → (F → Rose before.faults after.faults) → (status : Status)
-      → IsFinished names' (losses_from 0 (all_losses 0 peers history')) tally.accepted tally.refused o'.held after.held F end unnoted status
-      → (back : List W) → back ≡ map (λ (lane : LaneView W Opening Job Said). lane.wire) lanes
-      → (spent : Bool) → (pass.spent ≡ true → spent ≡ true) → (spent ≡ true → (root : Opening) → pass.root ≡ Some root → MayGoOn rules root history)
+      → IsFinished run'.builder.names (losses_from 0 (all_losses 0 (length run'.lanes) history)) run'.builder.tally.accepted run'.builder.tally.refused o'.held after.held F end (list_any (λ (lane : LaneView W Opening Job Said). lane.unnoted) run'.lanes) status
+      → (back : List W) → back ≡ map (λ (lane : LaneView W Opening Job Said). lane.wire) run'.lanes
+      → (spent : Bool) → (run'.builder.pass.spent ≡ true → spent ≡ true) → (spent ≡ true → (root : Opening) → run'.builder.pass.root ≡ Some root → MayGoOn rules root history)
       → IsRun rules speech w grammar first name (record { before = before; after = after; status = status; wires = map (told_one sessions faults) back; made_for = made_for'; history = history; spent = spent })
-  came-home w opens gate b0 passes wires is many all first sound names names_is grammar every old new old_is o o' end ended lanes same pass pass_is history hist kept unnoted unnoted_is name before after picked left_is stays held_is made_for'
-      peers peers_is names' names'_is tally tally_is history' history'_is F f status finished back back_is spent spends goes_on =
+  came-home machine speaks sessions begun faults same history hist opens sound kept name before after picked left_is stays held_is made_for' F f status finished back back_is spent spends goes_on =
+      let old : BuilderView Opening Job Said = run.builder in
+      let new : BuilderView Opening Job Said = run'.builder in
+      let lanes : List (LaneView W Opening Job Said) = run'.lanes in
       let G : Type 0 = Rose before.faults after.faults in
-      let root_old : b0.root ≡ Some is.root = root-is made_for speech w gate b0 passes wires is in
-      let root_new : new.pass.root ≡ Some is.root = ended.same.pass.2 ∙ (ap (λ (b : BuilderView Opening Job Said). b.pass.root) old_is ∙ root_old) in
-      let at = back-at made_for speech w gate b0 passes wires is lanes same in
-      let root_same = root-same w gate b0 passes wires is names grammar every old new old_is first o o' end ended lanes pass pass_is history hist in
+      let root : Opening = is.dealt.root in
+      let root_new : new.pass.root ≡ Some root = ended.same.pass.2 ∙ root_begun in
       let count : length (map (toldl sessions faults) lanes) ≡ length lanes = length-map lanes (toldl sessions faults) in
-      let lanes_many' : length lanes ≡ length wires = same-many lanes (fresh_lanes made_for 0 wires passes) same ∙ lanes_many made_for 0 wires passes many in
-      let wires_all : length (map (toldl sessions faults) lanes) ≡ length w.peers = count ∙ (lanes_many' ∙ sym all) in
-      let stands = start-stands rules speech old b0 is.root names grammar every o.held old_is root_old (ap (λ (p : Held (Entry Job Said) Opening). p.seen) is.head) in
-      let done = ended.ended stands in
-      let agree = subst (λ (r : Opening). Each (λ (lane : LaneView W Opening Job Said). agrees_at r history lane.pass) lanes) root_same hist.lanes_agree in
-      let behind_new = behind-home w gate b0 passes wires is names grammar every old new old_is first o o' end ended lanes pass pass_is history hist in
-      let fine = subst (λ (h : List (Entry Job Said)). IsFinished new.names (losses_from 0 (all_losses 0 peers h)) new.tally.accepted new.tally.refused o'.held after.held G end unnoted status) history'_is
-      (subst (λ (t : Tally). IsFinished new.names (losses_from 0 (all_losses 0 peers history')) t.accepted t.refused o'.held after.held G end unnoted status) tally_is
-      (subst (λ (ns : List (List ℕ)). IsFinished ns (losses_from 0 (all_losses 0 peers history')) tally.accepted tally.refused o'.held after.held G end unnoted status) names'_is
-      (finished-later names' (losses_from 0 (all_losses 0 peers history')) tally.accepted tally.refused o'.held after.held F G f end unnoted status finished))) in
+      let wires_all : length (map (toldl sessions faults) lanes) ≡ length w.peers = count ∙ lanes_all same in
+      let done = was-read in
+      let agree = subst (λ (r : Opening). Each (λ (lane : LaneView W Opening Job Said). agrees_at r history lane.pass) lanes) (root-same history hist) hist.lanes_agree in
+      let fine = finished-later new.names (losses_from 0 (all_losses 0 (length lanes) history)) new.tally.accepted new.tally.refused o'.held after.held F G f end (list_any (λ (lane : LaneView W Opening Job Said). lane.unnoted) lanes) status finished in
       let so =
       subst (λ (h : Option (List ℕ)). EndsAt rules speech first old new (record o { held = h }) (record o' { left = after.left }) end done.read) held_is
       (subst (λ (l : Option (List ℕ)). EndsAt rules speech first old new o (record o' { left = l }) end done.read) (sym left_is) done.so) in
-      let run = comes rules speech machine speaks w opens grammar first sound is.root is.first (map (toldl sessions faults) lanes) wires_all history
-      (subst (λ (r : Opening). legal_at rules r history) root_same hist.legal)
+      let run_is = comes rules speech machine speaks w opens grammar first sound root is.dealt.first (map (toldl sessions faults) lanes) wires_all history
+      (subst (λ (r : Opening). legal_at rules r history) (root-same history hist) hist.legal)
       (subst (λ n. Each (λ (entry : Entry Job Said). entry.pass ≤ n) history) (sym count) hist.owned)
-      unnoted
-      (λ complete noted. crew-from rules speech sessions begun faults gate.id is.root history complete 0 lanes at kept agree (λ over. sym unnoted_is ∙ noted over))
-      new root_new (ended.same.names ∙ (ap (λ (b : BuilderView Opening Job Said). b.names) old_is ∙ names_is)) behind_new
+      (list_any (λ (lane : LaneView W Opening Job Said). lane.unnoted) lanes)
+      (λ complete noted. crew-from rules speech sessions begun faults run.gate.id root history complete 0 lanes (lanes_at same) kept agree (λ over. noted over))
+      new root_new (ended.same.names ∙ ap (λ (b : BuilderView Opening Job Said). b.names) is.builder) (behind-home history hist)
       name before after o.left picked stays o'.held made_for' spent
-      (λ unspent. subst (λ (u : Bool). IsClosedAt rules speech u new.pass.root new.pass.seen) (ap (λ (p : Held (Entry Job Said) Opening). p.spent) (sym pass_is) ∙ never_spent pass.spent spent spends unspent) ended.closed)
-      (λ is'. let more = goes_on is' is.root (ap (λ (p : Held (Entry Job Said) Opening). p.root) pass_is ∙ root_new) in legal-open rules speech speaks.steps more.0 (replay rules is.root history) more.1)
+      (λ unspent. subst (λ (u : Bool). IsClosedAt rules speech u new.pass.root new.pass.seen) (never_spent new.pass.spent spent spends unspent) ended.closed)
+      (λ is'. let more = goes_on is' root root_new in legal-open rules speech speaks.steps more.0 (replay rules root history) more.1)
       done.read (part_read before.files name o.left after.left done.read picked (subst (λ (l : Option (List ℕ)). TakesFront o.left l done.read) (sym left_is) done.taken))
-      peers (peers_is ∙ sym wires_all) old (ap (λ (b : BuilderView Opening Job Said). b.grammar) old_is) o.reads_failed o'.reads_failed o.writes_failed o'.writes_failed o.steps o'.steps end status so fine in
+      (length lanes) (sym count) old (ap (λ (b : BuilderView Opening Job Said). b.grammar) is.builder) o.reads_failed o'.reads_failed o.writes_failed o'.writes_failed o.steps o'.steps end status so fine in
       subst (λ (ts : List WireTold). IsRun rules speech w grammar first name (record { before = before; after = after; status = status; wires = ts; made_for = made_for'; history = history; spent = spent }))
-      (sym (ap (λ (ws : List W). map (told_one sessions faults) ws) back_is ∙ told_wires sessions faults lanes)) run
-
--- A builder over the pass of a run that begins has the pace of the run's world.
-pub paced : {Opening State Job Said : Type 0} (speech : Speech Opening State Job Said) (w : World) (gate : Gate) (b0 : Held (Entry Job Said) Opening) (passes : List (Held (Entry Job Said) Opening)) (every : ℕ)
-    → IsBegun speech w gate b0 passes → every ≡ w.local.coalesce → IsPacedBy speech b0.root every
-paced {Opening} {State} {Job} {Said} speech w gate b0 passes every is same =
-    subst (λ (r : Option Opening). IsPacedBy speech r every) (sym (ap (λ (p : Held (Entry Job Said) Opening). p.root) is.head)) (same ∙ ap (λ (v : World). v.local.coalesce) (sym is.first))
+      (sym (ap (λ (ws : List W). map (told_one sessions faults) ws) back_is ∙ told_wires sessions faults lanes)) run_is

@@ -8,6 +8,7 @@ pub mod Coming
 pub mod Lost
 pub mod Concluding
 pub mod Starting
+pub mod Running
 pub mod Homing
 pub mod Setting
 pub mod Audited

@@ -1,4 +1,4 @@
--- What a run begins with, and what is known at its end.
+-- The passes of a board as they are dealt, and what is known when they are back.
 use Rattle.std.specs.Prelude.{◌≡◌, ◌+◌, ◌≤◌, List, length, Some}
 use Rattle.ug_board.specs.Entry.{Entry}
 use Rattle.ug_board.specs.Rules.{Rules}
@@ -10,9 +10,9 @@ use Rattle.ug_world.specs.World.{World}
 use Rattle.ug_speaker.specs.Speech.{Speech}
 use Rattle.ug_run.specs.Lanes.{AreFreshFrom}
 
--- A run begins in this world: a turnstile stands round a board whose root begins there, the builder's pass has number 0, and
--- each peer has a pass, numbered from 1 in configured order. Nobody has seen anything yet.
-pub record IsBegun {Opening State Job Said : Type 0} (speech : Speech Opening State Job Said) (w : World) (gate : Gate) (builder : Held (Entry Job Said) Opening) (passes : List (Held (Entry Job Said) Opening)) : Type 0 where
+-- A board of this world is dealt out: the root of the board that the turnstile stands round begins there, the builder's pass has
+-- number 0, and each peer has a pass, numbered from 1 in configured order. Nobody has seen anything yet.
+pub record AreDealt {Opening State Job Said : Type 0} (speech : Speech Opening State Job Said) (w : World) (gate : Gate) (builder : Held (Entry Job Said) Opening) (passes : List (Held (Entry Job Said) Opening)) : Type 0 where
   pub root : Opening
   pub first : speech.first root ≡ w
   pub count : gate.count ≡ length w.peers + 1

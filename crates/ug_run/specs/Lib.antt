@@ -1,6 +1,7 @@
 pub mod Wires
 pub mod Lanes
 pub mod Boards
+pub mod Runs
 pub mod Losses
 pub mod Ends
 pub mod Setups

@@ -2,13 +2,12 @@
 #![tactic(auto)]
 
 mod alone;
-mod beginning;
-mod closing;
 mod course;
 mod drawn;
 mod ending;
 mod lanes;
 mod losses;
+mod run;
 mod serving;
 mod setup;
 mod wires;

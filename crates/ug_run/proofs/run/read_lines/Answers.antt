@@ -1,7 +1,7 @@
 use Rattle.std.proofs.Common.{◌∙◌, sym, ap, subst}
 use Rattle.ug_sender.specs.Posts.{AreHere, posts_of}
 use Rattle.ug_run.proofs.LaneLaws.{posts_all_here}
-use Rattle.ug_run.proofs.course.read_lines.Goals as goal
+use Rattle.ug_run.proofs.run.read_lines.Goals as goal
 
 pub returns-in-Err-clause-ended : goal.returns-in-Err-clause-ended
 returns-in-Err-clause-ended g c =
