@@ -3,6 +3,9 @@
 ghost use Rattle.std.specs.Prelude.{◌≡◌, ◌++◌, ◌∷◌, [], ℕ, List, IsTrue, IfSome, IfOk};
 ghost use Rattle.ug_short_text.specs.Codes.{code_text, codes_text, IsFirst};
 
+use crate::code::{
+    CLIMB, DIGIT_AND_AT, DIGIT_AND_DOT, ID, ID_ZERO, LAST_ZERO, NEXT_CLIMB, TWO_DIGITS,
+};
 use crate::spelling::size_of;
 use std::alloc::Global;
 use ug_types::NoMemory;
@@ -40,7 +43,7 @@ fn first_code(text: &[u8]) -> Option<u8>
     if let Some(code) = code_of_word(*first, text) {
         return Some(code);
     }
-    if *first >= 128 {
+    if *first >= TWO_DIGITS {
         return None;
     }
     Some(*first)
@@ -51,19 +54,19 @@ fn first_code(text: &[u8]) -> Option<u8>
 fn code_of_two(first: u8, second: u8) -> Option<u8>
     ensures { IfSome result (λ code. code_text code ≡ first ∷ second ∷ []) }
 {
-    if first < 48 || first > 57 {
+    if !first.is_ascii_digit() {
         return None;
     }
     if second == b'.' {
-        return Some(first + 180);
+        return Some(first - b'0' + DIGIT_AND_DOT);
     }
     if second == b'@' {
-        return Some(first + 190);
+        return Some(first - b'0' + DIGIT_AND_AT);
     }
-    if second < 48 || second > 57 {
+    if !second.is_ascii_digit() {
         return None;
     }
-    Some(128 + (first - 48) * 10 + (second - 48))
+    Some(TWO_DIGITS + (first - b'0') * 10 + (second - b'0'))
 }
 
 /// The byte that stands for the word with which a text begins, where there is one.
@@ -73,20 +76,20 @@ fn code_of_word(first: u8, text: &[u8]) -> Option<u8>
 {
     if first == b' ' {
         if begins_with(text, b" id=0 ") {
-            return Some(250);
+            return Some(ID_ZERO);
         }
         if begins_with(text, b" id=") {
-            return Some(251);
+            return Some(ID);
         }
     }
     if first == b'\n' && begins_with(text, b"\nclimb ") {
-        return Some(249);
+        return Some(NEXT_CLIMB);
     }
     if first == b'.' && begins_with(text, b".0/") {
-        return Some(252);
+        return Some(LAST_ZERO);
     }
     if first == b'c' && begins_with(text, b"climb ") {
-        return Some(248);
+        return Some(CLIMB);
     }
     None
 }

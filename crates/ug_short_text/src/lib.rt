@@ -1,6 +1,7 @@
 //! A text that is kept in few bytes until it is written.
 #![tactic(auto)]
 
+mod code;
 mod codes;
 mod short;
 mod spelling;

@@ -6,6 +6,9 @@ ghost use Rattle.ug_edge.specs.Told.{Rose, AppendsPiece};
 ghost use Rattle.ug_pieces.specs.Reporting.{AppendsFront};
 ghost use Rattle.ug_short_text.specs.Codes.{code_text, codes_text, word_text};
 
+use crate::code::{
+    CLIMB, DIGIT_AND_AT, DIGIT_AND_DOT, ID, ID_ZERO, LAST_ZERO, NEXT_CLIMB, TWO_DIGITS,
+};
 use arrayvec::ArrayVec;
 use ug_edge::{Failed, Sink};
 use ug_pieces::write_all;
@@ -56,16 +59,16 @@ fn spell(room: &mut ArrayVec<u8, 4096>, code: u8)
     ensures items { room.new.items ≡ room.old.items ++ code_text code }
     ensures len { array_vec_len room.new ≤ array_vec_len room.old + 8 }
 {
-    if code < 128 {
+    if code < TWO_DIGITS {
         room.push(code);
-    } else if code < 228 {
-        room.push(48 + (code - 128) / 10);
-        room.push(48 + (code - 128) % 10);
-    } else if code < 238 {
-        room.push(code - 180);
+    } else if code < DIGIT_AND_DOT {
+        room.push(b'0' + (code - TWO_DIGITS) / 10);
+        room.push(b'0' + (code - TWO_DIGITS) % 10);
+    } else if code < DIGIT_AND_AT {
+        room.push(b'0' + (code - DIGIT_AND_DOT));
         room.push(b'.');
-    } else if code < 248 {
-        room.push(code - 190);
+    } else if code < CLIMB {
+        room.push(b'0' + (code - DIGIT_AND_AT));
         room.push(b'@');
     } else {
         spell_word(room, code);
@@ -79,11 +82,11 @@ fn spell_word(room: &mut ArrayVec<u8, 4096>, code: u8)
     ensures len { array_vec_len room.new ≤ array_vec_len room.old + 8 }
 {
     match code {
-        248 => add(room, b"climb "),
-        249 => add(room, b"\nclimb "),
-        250 => add(room, b" id=0 "),
-        251 => add(room, b" id="),
-        252 => add(room, b".0/"),
+        CLIMB => add(room, b"climb "),
+        NEXT_CLIMB => add(room, b"\nclimb "),
+        ID_ZERO => add(room, b" id=0 "),
+        ID => add(room, b" id="),
+        LAST_ZERO => add(room, b".0/"),
         _ => room.push(code),
     }
 }
@@ -105,17 +108,17 @@ pub fn size_of(code: u8) -> usize
     ensures value { result ≡ length (code_text code) }
     ensures some { 1 ≤ result }
 {
-    if code < 128 {
+    if code < TWO_DIGITS {
         return 1;
     }
-    if code < 248 {
+    if code < CLIMB {
         return 2;
     }
     match code {
-        248 | 250 => 6,
-        249 => 7,
-        251 => 4,
-        252 => 3,
+        CLIMB | ID_ZERO => 6,
+        NEXT_CLIMB => 7,
+        ID => 4,
+        LAST_ZERO => 3,
         _ => 1,
     }
 }
