@@ -125,7 +125,7 @@ are-within last report = marks_within last.version (entries_of last report) (ent
 -- ---- a session
 
 module _ (run : Run) (report : List ℕ) (r : IsRun run) (tells : TellsAsMuch run.entries.items (told_by run.first run.events.items report)) (p n : ℕ) (s : PeerState) (a : Asked) (session : Session) (some : 0 < n)
-    (asked : IsAsked p (worlds_of run.first run.events.items) a) (aimed : IsAimed p n run.last s run.entries.items a session) where
+    (asked : IsAsked p (worlds_of run.first run.events.items) a) (aimed : IsAimed p n (last_of run.first run.events.items) s run.entries.items a session) where
   abbrev ws : List World
   ws = worlds_of run.first run.events.items
 
@@ -141,20 +141,17 @@ module _ (run : Run) (report : List ℕ) (r : IsRun run) (tells : TellsAsMuch ru
   end : EndsWith ws last
   end = ends_with run.first (said_in run.events.items) r.first.version
 
-  aimed_at : IsAimed p n last s run.entries.items a session
-  aimed_at = subst (λ (l : World). IsAimed p n l s run.entries.items a session) r.last_is aimed
-
   within : AreWithin last.version (marks_in run.entries.items)
   within = subst (AreWithin last.version) (sym tells.marks) (are-within last report)
 
   is_it : IsSession session (past p n ws) (map (private_table p) ws)
-  is_it = is_session p n ws last s run.entries.items a session end aimed_at some within asked
+  is_it = is_session p n ws last s run.entries.items a session end aimed some within asked
 
   pub certified : (bytes : List ℕ) (messages : ℕ) (climbs : Vec Climb) (text : List ℕ) → text ≡ session_text s.peer.name n messages (map climb_of climbs.items) → (v : IsVerdictOn (opened_with s.peer) session bytes (verdicts.Right messages climbs))
       → IsReadAs (opened_with s.peer) bytes v.messages v.ending × IsCertified run.first run.events.items report x text v.messages v.ending
   certified bytes messages climbs text is v =
       let found = v.agrees (past p n ws) (map (private_table p) ws) is_it in
-      let right = is_right p n ws last s run.entries.items a session end aimed_at v.messages v.ending found.1 in (
+      let right = is_right p n ws last s run.entries.items a session end aimed v.messages v.ending found.1 in (
         v.is,
         record {
           right = subst (λ (ms : List Mark). IsHeardRight ws last p n s ms (is_lost_in told p n) v.messages v.ending) tells.marks
@@ -169,7 +166,7 @@ module _ (run : Run) (report : List ℕ) (r : IsRun run) (tells : TellsAsMuch ru
       → IsReadAs (opened_with s.peer) bytes v.messages v.ending × IsBroken run.first run.events.items report x b v.messages v.ending
   broken bytes b v =
       let found = v.agrees (past p n ws) (map (private_table p) ws) is_it in
-      let first = is_first p n ws last s run.entries.items a session end aimed_at v.messages v.ending b found in (
+      let first = is_first p n ws last s run.entries.items a session end aimed v.messages v.ending b found in (
         v.is,
         subst (λ (ms : List Mark). IsFirstBreach ws last p n s ms (is_lost_in told p n) v.messages v.ending b) tells.marks
             (subst (λ (l : Bool). IsFirstBreach ws last p n s (marks_in run.entries.items) l v.messages v.ending b) (tells.losses p n) first),

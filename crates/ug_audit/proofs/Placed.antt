@@ -1,13 +1,11 @@
 -- The sessions of a run at their places.
 use Rattle.std.proofs.Common.{◌≡◌, ℕ, zero, suc, ◌+◌, ◌-◌, ◌<◌, ◌≤◌, inl, inr, List, [], ◌∷◌, ◌++◌, length, drop, map, slice_get, Option, Some, None, Ok, refl, sym, ap, subst, ◌∙◌, arith}
-use Rattle.std.specs.Prelude.{◌⊎◌}
+use Rattle.std.specs.Prelude.{◌⊎◌, ◌==◌, ◌&&◌, Bool}
 use Rattle.std.specs.Option.{option_map}
 use Rattle.std.specs.Global.{Vec}
 use Rattle.std.proofs.lemmas.List.{drop_more}
 use Rattle.std.proofs.lemmas.Option.{slice_get_within, get_or_from_slice_get}
 use Rattle.ug_edge.specs.Told.{AppendsAll, FileTold, FileText, file_told}
-use Rattle.ug_outbound.specs.declared.peer.Peer.{Peer}
-use Rattle.ug_pieces.specs.Lines.{lines_of}
 use Rattle.ug_world.specs.declared.peer_state.PeerState.{PeerState}
 use Rattle.ug_world.specs.World.{World}
 use Rattle.ug_session_rules.specs.declared.breach.Breach.{Breach}
@@ -21,17 +19,23 @@ use Rattle.ug_audit.specs.declared.verdict.Verdict.TheVariants as verdicts
 use Rattle.ug_audit.specs.Verdicts.{most_bytes, IsVerdictOn}
 use Rattle.ug_audit.specs.Texts.{session_text}
 use Rattle.ug_audit.specs.declared.asked.Asked.{Asked}
-use Rattle.ug_audit.specs.Asked.{IsAsked, IsAimed}
+use Rattle.ug_audit.specs.Asked.{IsAsked, IsAimed, IsAimedBy}
 use Rattle.ug_command_line.specs.Words.{AuditCommand}
 use Rattle.ug_audit.specs.Files.{IsFile}
 use Rattle.ug_audit.specs.Sessions.{SessionOf, sessions_from, sessions_of, sessions_of_peers, file_name, file_of}
 use Rattle.ug_fields.specs.Reads.{Reads}
 use Rattle.ug_audit.specs.Auditing.{worlds_of, last_of, told_by, StandsFor, HasEvents, HasReport, IsRight}
+use Rattle.ug_audit.specs.Auditing as audits
+use Rattle.ug_audit.specs.declared.last.LastPeer.{LastPeer}
+use Rattle.ug_audit.specs.declared.last.Last.{Last}
+use Rattle.ug_audit.specs.Last.{last_peer, IsLast}
+use Rattle.ug_timeline.specs.Timelines.{end_of}
+use Rattle.ug_timeline.proofs.GroupTables.{which-world, same-one}
 use Rattle.ug_audit.specs.declared.stop.Stop.{Stop}
 use Rattle.ug_audit.specs.declared.stop.Stop.TheVariants as stops
 use Rattle.ug_audit.specs.declared.run.Run.{Run}
 use Rattle.ug_report_reader.specs.Told.{TellsAsMuch}
-use Rattle.ug_audit.specs.Stopping.{IsFileStop, IsRefutedBy, IsStopped, IsRun, IsOf, IsAt}
+use Rattle.ug_audit.specs.Stopping.{IsFileStop, IsRefutedBy, IsStopped, last_in, IsRun, IsOf, IsAt}
 use Rattle.ug_audit.proofs.FilesTold.{more_names}
 use Rattle.ug_audit.proofs.Steps.{at_first, at_last, goes_on, starves_before, starves_behind, session_stop, refuted_stop}
 use Rattle.ug_audit.proofs.Opened.{last_version, last_peers}
@@ -43,40 +47,68 @@ pub version_few : (run : Run) → IsRun run → run.last.version < 4294967295
 version_few run r =
     let few = last_version run.first run.events.items r.first.version in
     let lines = r.few in
-    let same = ap (λ (w : World). w.version) r.last_is in
+    let same = r.last.version in
     omega (arith, few, lines, same)
 
-pub peer_first : (run : Run) (id : ℕ) → IsRun run → id < length run.last.peers → id < length run.first.peers
-peer_first run id r inside =
-    let same = ap (λ (w : World). length w.peers) r.last_is in
-    let all = last_peers run.first run.events.items in
-    omega (arith, inside, same, all)
+pub peer_first : (run : Run) (id : ℕ) → id < length (last_in run).peers → id < length run.first.peers
+peer_first run id inside = let all = last_peers run.first run.events.items in omega (arith, inside, all)
 
--- ---- one peer
+pub first_peer : (run : Run) (id : ℕ) → id < length run.first.peers → id < length (last_in run).peers
+first_peer run id inside = let all = last_peers run.first run.events.items in omega (arith, inside, all)
 
-some_is : {X : Type 0} (x y : X) → Some x ≡ Some y → x ≡ y
-some_is {X} x y e = cc
+pub past_last : (run : Run) (id : ℕ) → length run.first.peers ≤ id → length (last_in run).peers ≤ id
+past_last run id far = let all = last_peers run.first run.events.items in omega (arith, far, all)
 
-pub peer_of : {T : Type 0} (f : PeerState → T) (peers : List PeerState) (id : ℕ) (s : PeerState) (x : T) → option_map f (slice_get peers id) ≡ Some x → slice_get peers id ≡ Some s → f s ≡ x
-peer_of {T} f peers id s x of is = some_is (f s) x (sym (ap (option_map f) is) ∙ of)
+pub peer_last : (run : Run) (id : ℕ) → IsRun run → id < length (last_in run).peers → id < length run.last.peers.items
+peer_last run id r inside = let many = r.last.many in omega (arith, inside, many)
+
+-- what is kept of a peer
+pub kept_of : (run : Run) (id : ℕ) (s : PeerState) (kept : LastPeer) → IsRun run → slice_get (last_in run).peers id ≡ Some s → slice_get run.last.peers.items id ≡ Some kept → kept ≡ last_peer s
+kept_of run id s kept r there got = r.last.each id s kept there got
+
+pub sessions_of_kept : (s : PeerState) (kept : LastPeer) → kept ≡ last_peer s → s.sessions ≡ kept.sessions
+sessions_of_kept s kept is = sym (ap (λ (x : LastPeer). x.sessions) is)
+
+-- one peer more
+pub kept_too : (peers : List PeerState) (keeps : List LastPeer) (new : LastPeer) (id : ℕ) → length keeps ≡ id → option_map last_peer (slice_get peers id) ≡ Some new
+    → ((p : ℕ) (s : PeerState) (kept : LastPeer) → slice_get peers p ≡ Some s → slice_get keeps p ≡ Some kept → kept ≡ last_peer s)
+    → (p : ℕ) (s : PeerState) (kept : LastPeer) → slice_get peers p ≡ Some s → slice_get (keeps ++ new ∷ []) p ≡ Some kept → kept ≡ last_peer s
+kept_too peers keeps new id many is each p s kept there got = by (which-world keeps new p kept got)
+  where
+    by : ((p < length keeps) × (slice_get keeps p ≡ Some kept)) ⊎ ((p ≡ length keeps) × (kept ≡ new)) → kept ≡ last_peer s
+    by (inl early) = each p s kept there early.1
+    by (inr last) =
+        let here : slice_get peers id ≡ Some s = ap (λ (k : ℕ). slice_get peers k) (sym (last.0 ∙ many)) ∙ there in
+        last.1 ∙ same-one new (last_peer s) (sym is ∙ ap (option_map last_peer) here)
+
+-- a session that is aimed at by what is kept
+pub aims_by : (p n : ℕ) (w : World) (last : Last) (s : PeerState) (kept : LastPeer) (up : Bool) (told : List Entry) (a : Asked) (session : Session) → IsLast w last → kept ≡ last_peer s → up ≡ (kept.up && (kept.sessions == n))
+    → IsAimedBy p n last.version up told a session → IsAimed p n w s told a session
+aims_by p n w last s kept up told a session is same is_open h = record {
+  changes = h.changes;
+  from = h.from;
+  to = h.to ∙ ap (λ (v : ℕ). end_of a.ended.items (n - 1) (v + 1)) is.version;
+  syncs = h.syncs;
+  rise = h.rise;
+  lost = h.lost;
+  is_open = h.open_is ∙ is_open ∙ ap (λ (x : LastPeer). x.up && (x.sessions == n)) same;
+  last_is = h.last_is ∙ is.version;
+}
 
 -- ---- one session
 
 -- what is found of a session of a peer, by the name of its file
-abbrev pub IsFound : (List ℕ → FileTold) → List ℕ → Peer → Session → Verdict → Type 0
-IsFound files name peer session verdict = (bytes : List ℕ) × IsFile (files name) bytes × (length bytes ≤ most_bytes) × IsVerdictOn (opened_with peer) session bytes verdict
+abbrev pub IsFound : (List ℕ → FileTold) → List ℕ → LastPeer → Session → Verdict → Type 0
+IsFound files name peer session verdict = (bytes : List ℕ) × IsFile (files name) bytes × (length bytes ≤ most_bytes) × IsVerdictOn peer.capabilities session bytes verdict
 
-module _ (command : AuditCommand) (files : List ℕ → FileTold) (run : Run) (names mid names' : Option (List (List ℕ))) (p n : ℕ) (s : PeerState) (left : List SessionOf) (text dir : List ℕ) (peer : Peer)
-    (same : command.dir ≡ dir) (there : slice_get run.last.peers p ≡ Some s) (of : option_map (λ (t : PeerState). t.peer) (slice_get run.last.peers p) ≡ Some peer)
+module _ (command : AuditCommand) (files : List ℕ → FileTold) (run : Run) (names mid names' : Option (List (List ℕ))) (p n : ℕ) (s : PeerState) (left : List SessionOf) (text dir : List ℕ) (peer : LastPeer)
+    (same : command.dir ≡ dir) (peer_is : peer ≡ last_peer s)
     (at : IsAt command files run names mid (record { place = p; state = s; number = n } ∷ left) text) where
   abbrev x : SessionOf
   x = record { place = p; state = s; number = n }
 
-  peer_is : peer ≡ s.peer
-  peer_is = sym (peer_of (λ (t : PeerState). t.peer) run.last.peers p s peer of there)
-
   name_is : file_name dir peer.name n ≡ file_of command.dir x
-  name_is = ap (λ (d : List ℕ). file_name d peer.name n) (sym same) ∙ ap (λ (q : Peer). file_name command.dir q.name n) peer_is
+  name_is = ap (λ (d : List ℕ). file_name d peer.name n) (sym same) ∙ ap (λ (q : LastPeer). file_name command.dir q.name n) peer_is
 
   picked_is : AppendsAll mid names' (file_name dir peer.name n ∷ []) → AppendsAll mid names' (file_of command.dir x ∷ [])
   picked_is h = subst (λ (f : List ℕ). AppendsAll mid names' (f ∷ [])) name_is h
@@ -93,19 +125,19 @@ module _ (command : AuditCommand) (files : List ℕ → FileTold) (run : Run) (n
   pub starves_picked : AppendsAll mid names' (file_name dir peer.name n ∷ []) → IsStopped command files (AppendsAll names names') stops.NoMemory
   starves_picked h = starves_behind command files run names mid names' x left text at (picked_is h)
 
-  module _ (r : IsRun run) (some : 0 < n) (a : Asked) (session : Session) (entries : List Entry) (told : entries ≡ run.entries.items) (asked : IsAsked p (worlds_of run.first run.events.items) a) (aimed : IsAimed p n run.last s entries a session)
+  module _ (r : IsRun run) (some : 0 < n) (a : Asked) (session : Session) (entries : List Entry) (told : entries ≡ run.entries.items) (asked : IsAsked p (worlds_of run.first run.events.items) a) (aimed : IsAimed p n (last_in run) s entries a session)
       (verdict : Verdict) (found : IsFound files (file_name dir peer.name n) peer session verdict) (picked : AppendsAll mid names' (file_name dir peer.name n ∷ [])) (name : List ℕ) (named : name ≡ peer.name) where
-    aimed_at : IsAimed p n run.last s run.entries.items a session
-    aimed_at = subst (λ (es : List Entry). IsAimed p n run.last s es a session) told aimed
+    aimed_at : IsAimed p n (last_in run) s run.entries.items a session
+    aimed_at = subst (λ (es : List Entry). IsAimed p n (last_in run) s es a session) told aimed
 
     file : IsFile (files (file_of command.dir x)) found.0
     file = subst (λ (f : List ℕ). IsFile (files f) found.0) name_is found.1
 
     on : IsVerdictOn (opened_with s.peer) session found.0 verdict
-    on = subst (λ (q : Peer). IsVerdictOn (opened_with q) session found.0 verdict) peer_is found.3
+    on = subst (λ (q : LastPeer). IsVerdictOn q.capabilities session found.0 verdict) peer_is found.3
 
     name_of : name ≡ s.peer.name
-    name_of = named ∙ ap (λ (q : Peer). q.name) peer_is
+    name_of = named ∙ ap (λ (q : LastPeer). q.name) peer_is
 
     pub broken_stops : (b : Breach) (stop : Stop) → verdict ≡ verdicts.Broken b → IsRefutedBy p n name b stop → IsStopped command files (AppendsAll names names') stop
     broken_stops b stop is h =
@@ -129,7 +161,7 @@ next_number p s before count is less =
     let one : s.sessions - before ≡ suc (s.sessions - (before + 1)) = omega (arith, is, less) in
     ap (λ (k : ℕ). sessions_from p s (before + 1) k) one
 
-pub no_number : (p : ℕ) (s : PeerState) (before count : ℕ) → s.sessions ≡ count → before ≡ count → sessions_from p s (before + 1) (s.sessions - before) ≡ []
+pub no_number : (p : ℕ) (s : PeerState) (before count : ℕ) → s.sessions ≡ count → count ≤ before → sessions_from p s (before + 1) (s.sessions - before) ≡ []
 no_number p s before count is all =
     let none : s.sessions - before ≡ 0 = omega (arith, is, all) in
     ap (λ (k : ℕ). sessions_from p s (before + 1) k) none
@@ -145,11 +177,11 @@ next_peer peers id inside =
     let h = peer_there peers id inside in
     (h.0, h.1, drop_more peers id h.0 (slice_get_within peers id h.0 h.1) ∙ ap (λ (z : PeerState). z ∷ drop (id + 1) peers) (get_or_from_slice_get peers id h.0 h.0 h.1))
 
-pub no_peer : (peers : List PeerState) (id : ℕ) → id ≡ length peers → drop id peers ≡ []
-no_peer [] zero is = refl
-no_peer [] (suc id) is = refl
-no_peer (s ∷ peers) zero is = absurd (omega (arith, is))
-no_peer (s ∷ peers) (suc id) is = no_peer peers id (omega (arith, is))
+pub no_peer : (peers : List PeerState) (id : ℕ) → length peers ≤ id → drop id peers ≡ []
+no_peer [] zero far = refl
+no_peer [] (suc id) far = refl
+no_peer (s ∷ peers) zero far = absurd (omega (arith, far))
+no_peer (s ∷ peers) (suc id) far = no_peer peers id (omega (arith, far))
 
 -- ---- where the files are told alike
 
@@ -184,11 +216,11 @@ module _ (command : AuditCommand) (told told' : Option (List FileText)) (same : 
       (subst (λ (xs : List SessionOf). IsAt command (file_told told) run names mid (xs ++ left) text) (next_number p s before count is less) h)
 
   -- the next peer
-  pub at_peer : (run : Run) (names mid : Option (List (List ℕ))) (id : ℕ) (s : PeerState) (text : List ℕ) → drop id run.last.peers ≡ s ∷ drop (id + 1) run.last.peers
-      → IsAt command (file_told told) run names mid (sessions_of_peers id (drop id run.last.peers)) text
-      → IsAt command (file_told told') run names mid (sessions_from id s 1 s.sessions ++ sessions_of_peers (id + 1) (drop (id + 1) run.last.peers)) text
+  pub at_peer : (run : Run) (names mid : Option (List (List ℕ))) (id : ℕ) (s : PeerState) (text : List ℕ) → drop id (last_in run).peers ≡ s ∷ drop (id + 1) (last_in run).peers
+      → IsAt command (file_told told) run names mid (sessions_of_peers id (drop id (last_in run).peers)) text
+      → IsAt command (file_told told') run names mid (sessions_from id s 1 s.sessions ++ sessions_of_peers (id + 1) (drop (id + 1) (last_in run).peers)) text
   at_peer run names mid id s text is h =
-      at_now run names mid (sessions_from id s 1 s.sessions ++ sessions_of_peers (id + 1) (drop (id + 1) run.last.peers)) text
+      at_now run names mid (sessions_from id s 1 s.sessions ++ sessions_of_peers (id + 1) (drop (id + 1) (last_in run).peers)) text
       (subst (λ (xs : List PeerState). IsAt command (file_told told) run names mid (sessions_of_peers id xs) text) is h)
 
 -- before the first session of a peer
@@ -199,7 +231,7 @@ at_begin command files run names mid p s left text h =
     subst (λ (k : ℕ). IsAt command files run names mid (sessions_from p s 1 k ++ left) text) all h
 
 -- behind the last
-pub at_end : (command : AuditCommand) (files : List ℕ → FileTold) (run : Run) (names mid : Option (List (List ℕ))) (p : ℕ) (s : PeerState) (before count : ℕ) (left : List SessionOf) (text : List ℕ) → s.sessions ≡ count → before ≡ count
+pub at_end : (command : AuditCommand) (files : List ℕ → FileTold) (run : Run) (names mid : Option (List (List ℕ))) (p : ℕ) (s : PeerState) (before count : ℕ) (left : List SessionOf) (text : List ℕ) → s.sessions ≡ count → count ≤ before
     → IsAt command files run names mid (sessions_from p s (before + 1) (s.sessions - before) ++ left) text → IsAt command files run names mid left text
 at_end command files run names mid p s before count left text is all h = subst (λ (xs : List SessionOf). IsAt command files run names mid (xs ++ left) text) (no_number p s before count is all) h
 
@@ -217,6 +249,10 @@ module _ (command : AuditCommand) (told told1 told2 : Option (List FileText)) (s
   pub has_later : HasEvents command (file_told told2) first events
   has_later = events_now command told told2 (same2 ∙ same1) first events has_now
 
+  -- memory ran out behind the report
+  pub starves_behind_report : (names3 : Option (List (List ℕ))) → AppendsAll names2 names3 (command.report ∷ []) → IsStopped command (file_told told) (AppendsAll names names3) stops.NoMemory
+  starves_behind_report names3 named3 = audits.IsStarved.Report first events has_now (more_names names names2 names3 (command.config ∷ command.events ∷ []) (command.report ∷ []) both_named named3)
+
   module _ (run : Run) (r : IsRun run) (is_first : run.first ≡ first) (are_events : run.events.items ≡ events) (told3 : Option (List FileText)) (same3 : told3 ≡ told2) (names3 : Option (List (List ℕ))) (named3 : AppendsAll names2 names3 (command.report ∷ []))
       (found : (report : List ℕ) × HasReport command (file_told told2) first events report × TellsAsMuch run.entries.items (told_by first events report)) where
     is_of : IsOf command (file_told told) found.0 run
@@ -227,8 +263,8 @@ module _ (command : AuditCommand) (told told1 told2 : Option (List FileText)) (s
           (subst (λ (es : List ℕ). TellsAsMuch run.entries.items (told_by first es found.0)) (sym are_events) found.2);
     }
 
-    pub begins : IsAt command (file_told told3) run names names3 (sessions_of run.last) []
-    begins = at_now command told told3 (same3 ∙ same2 ∙ same1) run names names3 (sessions_of run.last) []
+    pub begins : IsAt command (file_told told3) run names names3 (sessions_of (last_in run)) []
+    begins = at_now command told told3 (same3 ∙ same2 ∙ same1) run names names3 (sessions_of (last_in run)) []
         (at_first command (file_told told) run names names3 found.0 r is_of (more_names names names2 names3 (command.config ∷ command.events ∷ []) (command.report ∷ []) both_named named3))
 
     pub ends_right : (names4 : Option (List (List ℕ))) (text : List ℕ) → IsAt command (file_told told3) run names names4 [] text → IsRight command (file_told told) (AppendsAll names names4) (λ (certificate : List ℕ). text ≡ certificate)

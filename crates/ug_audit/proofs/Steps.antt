@@ -16,7 +16,7 @@ use Rattle.ug_audit.specs.Auditing as audits
 use Rattle.ug_audit.specs.declared.stop.Stop.{Stop}
 use Rattle.ug_audit.specs.declared.stop.Stop.TheVariants as stops
 use Rattle.ug_audit.specs.declared.run.Run.{Run}
-use Rattle.ug_audit.specs.Stopping.{IsFileStop, IsToldStop, IsRefutedBy, IsStopped, IsRun, IsOf, IsAt}
+use Rattle.ug_audit.specs.Stopping.{IsFileStop, IsToldStop, IsRefutedBy, IsStopped, last_in, IsRun, IsOf, IsAt}
 use Rattle.ug_audit.proofs.FilesTold.{more_names, same_names}
 
 -- ---- before the sessions
@@ -51,12 +51,12 @@ told_stop command files names mid names' w last events stop is before picked h =
 -- ---- at the first session
 
 pub at_first : (command : AuditCommand) (files : List ℕ → FileTold) (run : Run) (names names' : Option (List (List ℕ))) (report : List ℕ) → IsRun run → IsOf command files report run
-    → AppendsAll names names' (files_before command) → IsAt command files run names names' (sessions_of run.last) []
+    → AppendsAll names names' (files_before command) → IsAt command files run names names' (sessions_of (last_in run)) []
 at_first command files run names names' report is of picked = record {
   report = report;
   is_of = of;
   front = [];
-  heard = record { before = of.before; parts = ap sessions_of (sym is.last_is); right = refl };
+  heard = record { before = of.before; parts = refl; right = refl };
   picked = picked;
 }
 

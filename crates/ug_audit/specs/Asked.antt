@@ -1,5 +1,5 @@
 -- What is asked of the sessions of a peer.
-use Rattle.std.specs.Prelude.{◌≡◌, ℕ, suc, ◌+◌, ◌-◌, ◌≤◌, ◌==◌, ◌&&◌, List, [], ◌∷◌, ◌++◌, length, map, slice_get, Some}
+use Rattle.std.specs.Prelude.{◌≡◌, ℕ, Bool, suc, ◌+◌, ◌-◌, ◌≤◌, ◌==◌, ◌&&◌, List, [], ◌∷◌, ◌++◌, length, map, slice_get, Some}
 use Rattle.std.specs.List.Sorted.{IsPermutation, IsNonDecreasingBy}
 use Rattle.ug_types.specs.declared.mark.Mark.{Mark}
 use Rattle.ug_hearing.specs.Logs.{IsLog}
@@ -28,6 +28,17 @@ pub record IsAimed (p n : ℕ) (last : World) (s : PeerState) (told : List Entry
   pub lost : session.lost ≡ is_lost_in told p n
   pub is_open : session.is_open ≡ (s.up && (s.sessions == n))
   pub last_is : session.last ≡ last.version
+
+-- So it is, by the last version and whether it is open there.
+pub record IsAimedBy (p n last : ℕ) (is_open : Bool) (told : List Entry) (a : Asked) (session : Session) : Type 0 where
+  pub changes : session.course.changes ≡ a.session.course.changes
+  pub from : slice_get a.begun.items (n - 1) ≡ Some session.course.from
+  pub to : session.course.to ≡ end_of a.ended.items (n - 1) (last + 1)
+  pub syncs : IsPermutation (marks_to p n (marks_in told)) session.syncs.items
+  pub rise : IsNonDecreasingBy (λ (m : Mark). m.handed) session.syncs.items
+  pub lost : session.lost ≡ is_lost_in told p n
+  pub open_is : session.is_open ≡ is_open
+  pub last_is : session.last ≡ last
 
 -- No mark is of a version behind the last.
 abbrev pub AreWithin : ℕ → List Mark → Type 0

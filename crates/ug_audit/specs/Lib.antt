@@ -2,6 +2,7 @@ pub mod Files
 pub mod Sessions
 pub mod Auditing
 pub mod Right
+pub mod Last
 pub mod Stopping
 pub mod Heard
 pub mod HeardLaws

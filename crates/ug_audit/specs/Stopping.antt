@@ -5,6 +5,7 @@ use Rattle.ug_edge.specs.Told.{FileTold, AppendsAll}
 use Rattle.ug_pieces.specs.Lines.{lines_of, ended_from}
 use Rattle.ug_world.specs.World.{World}
 use Rattle.ug_timeline.specs.Timelines.{IsFirst}
+use Rattle.ug_timeline.specs.Histories.{AreTimelines}
 use Rattle.ug_session_rules.specs.declared.breach.Breach.{Breach}
 use Rattle.ug_session_rules.specs.Breaches.{kind_number}
 use Rattle.ug_audit_rules.specs.declared.entry.Entry.{Entry}
@@ -16,7 +17,8 @@ use Rattle.ug_command_line.specs.Words.{AuditCommand}
 use Rattle.ug_command_line.specs.declared.command.AuditWords.{AuditWords}
 use Rattle.ug_audit.specs.Files.{IsFile, IsWithin, IsPast, lines_within}
 use Rattle.ug_audit.specs.Sessions.{SessionOf}
-use Rattle.ug_audit.specs.Auditing.{last_of, told_by, files_to, StandsFor, HasReport, HasHeard, IsUnread, IsTooLong, IsStarved, IsUnclear, IsRefuted}
+use Rattle.ug_audit.specs.Auditing.{worlds_of, last_of, told_by, files_to, StandsFor, HasReport, HasHeard, IsUnread, IsTooLong, IsStarved, IsUnclear, IsRefuted}
+use Rattle.ug_audit.specs.Last.{IsLast}
 use Rattle.ug_audit.specs.declared.stop.Stop.{Stop}
 use Rattle.ug_audit.specs.declared.stop.Stop.TheVariants as stops
 use Rattle.ug_audit.specs.declared.run.Run.{Run}
@@ -87,11 +89,16 @@ IsStopped command files picks (stops.Unclear line) = IsUnclear command files pic
 IsStopped command files picks (stops.Refuted peer session breach text) =
     IsRefuted command files picks peer session (kind_number breach.kind) breach.message breach.key (λ (line : List ℕ). string_bytes text ≡ line)
 
--- The last world is that to which the events lead, which are few, from a first one.
+-- the world to which the events lead
+abbrev pub last_in : Run → World
+last_in run = last_of run.first run.events.items
+
+-- The events are few, and what is kept is of the worlds to which they lead from a first one.
 pub record IsRun (run : Run) : Type 0 where
   pub first : IsFirst run.first
   pub few : length (lines_of run.events.items) ≤ 2000000
-  pub last_is : run.last ≡ last_of run.first run.events.items
+  pub timelines : AreTimelines (worlds_of run.first run.events.items) (last_in run) run.timelines
+  pub last : IsLast (last_in run) run.last
 
 -- What is kept of the files before those of sessions is of these.
 pub record IsOf (command : AuditCommand) (files : List ℕ → FileTold) (report : List ℕ) (run : Run) : Type 0 where

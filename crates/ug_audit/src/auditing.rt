@@ -9,7 +9,7 @@ ghost use Rattle.ug_audit.specs.Stopping.{said, IsStopped};
 ghost use Rattle.ug_audit.specs.Right.{AreRight};
 
 use crate::ending::{end_right, end_stopped};
-use crate::events::{last_after, read_events};
+use crate::events::read_events;
 use crate::report::read_told;
 use crate::run::Run;
 use crate::settings::read_first;
@@ -20,6 +20,7 @@ use ug_edge::{Sink, Site, Source};
 use ug_input_laws::configurations_open;
 use ug_report::Status;
 use ug_short_text::ShortText;
+use ug_timeline::history_of;
 use ug_types::NoMemory;
 
 /// Runs `audit`. It reads the configuration, the events and the report of a run, and then its sessions, by peer in configured
@@ -90,19 +91,17 @@ fn certificate_of<E: Site>(
         Err(stop) => return Err(stop),
     };
     configurations_open();
-    let mut last = match last_after(alloc, &first, events.as_slice()) {
-        Ok(last) => last,
+    let (history, mut last) = match history_of(alloc, &first, events.as_slice()) {
+        Ok(found) => found,
         Err(NoMemory) => return Err(Stop::NoMemory),
     };
     let entries = match read_told(alloc, words, &mut last, site) {
         Ok(entries) => entries,
         Err(stop) => return Err(stop),
     };
-    let run = Run {
-        first,
-        events,
-        last,
-        entries,
+    let run = match Run::of(alloc, first, events, history, last, entries) {
+        Ok(run) => run,
+        Err(NoMemory) => return Err(Stop::NoMemory),
     };
     match run.certificate(alloc, words.dir, site) {
         Ok(text) => Ok(text),

@@ -1,11 +1,10 @@
 //! The events.
 
-ghost use Rattle.std.specs.Prelude.{◌≡◌, ◌≤◌, ◌<◌, ◌∷◌, [], ℕ, length, Option, List, Ok as Stands, OnOk, IfOk, IfErr, IsErrOf};
+ghost use Rattle.std.specs.Prelude.{◌≡◌, ◌∷◌, [], ℕ, Option, List, Ok as Stands, OnOk, IfOk, IfErr, IsErrOf};
 ghost use Rattle.ug_edge.specs.Told.{Rose, AppendsAll, file_told};
-ghost use Rattle.ug_pieces.specs.Lines.{lines_of};
 ghost use Rattle.ug_world.specs.World as worlds;
 ghost use Rattle.ug_audit.specs.Files.{IsFile, IsWithin, IsPast};
-ghost use Rattle.ug_audit.specs.Auditing.{StandsFor, HasEvents, last_of};
+ghost use Rattle.ug_audit.specs.Auditing.{StandsFor, HasEvents};
 ghost use Rattle.ug_audit.specs.Stopping.{said, IsStopped, IsFileStop};
 
 use crate::picking::pick;
@@ -15,9 +14,7 @@ use ug_command_line::AuditWords;
 use ug_edge::{Site, Source};
 use ug_lines::count_lines;
 use ug_pieces::{Halt, read_whole};
-use ug_timeline::last_world;
 use ug_types::{ByteList, NoMemory};
-use ug_world::World;
 
 /// The most bytes of a file of events, and the most lines.
 const MOST_BYTES: usize = 1_073_741_824;
@@ -74,15 +71,4 @@ fn read_text<E: Site>(alloc: Global, name: &str, site: &mut E) -> Result<ByteLis
         return Err(Stop::TooLong);
     }
     Ok(bytes)
-}
-
-/// The world to which all events lead.
-pub fn last_after(alloc: Global, first: &World, events: &[u8]) -> Result<World, NoMemory>
-    requires first { first.now.version ≡ 0 }
-    requires lines { length (lines_of events.now) ≤ 2000000 }
-    ensures last { IfOk result (λ last. last ≡ last_of first.now events.now) }
-{
-    let world = first.copy(alloc)?;
-    let last = last_world(alloc, world, events)?;
-    Ok(last)
 }

@@ -6,9 +6,8 @@ ghost use Rattle.ug_world.specs.declared.peer_state.PeerState as peers;
 ghost use Rattle.ug_audit.specs.Asked.{IsAsked};
 ghost use Rattle.ug_command_line.specs.Words as words;
 ghost use Rattle.ug_audit.specs.Sessions.{SessionOf, sessions_from, sessions_of};
-ghost use Rattle.ug_timeline.specs.Histories.{IsHistory};
-ghost use Rattle.ug_audit.specs.Auditing.{worlds_of, last_of};
-ghost use Rattle.ug_audit.specs.Stopping.{IsRun, IsAt, IsStopped};
+ghost use Rattle.ug_audit.specs.Auditing.{worlds_of};
+ghost use Rattle.ug_audit.specs.Stopping.{last_in, IsRun, IsAt, IsStopped};
 
 use crate::asked::Asked;
 use crate::certificate::add_session;
@@ -19,7 +18,6 @@ use crate::verdict::Verdict;
 use std::alloc::Global;
 use ug_edge::{Site, Source};
 use ug_short_text::ShortText;
-use ug_timeline::{History, history_of};
 use ug_types::{NoMemory, PeerId};
 
 impl Run {
@@ -32,10 +30,10 @@ impl Run {
     ) -> Result<ShortText, Stop>
         requires { IsRun self.now }
         ensures went { IfOk result (λ text. (command : words.AuditCommand) (names : Option (List (List ℕ))) → command.dir ≡ dir.now →
-            IsAt command (file_told (E.files site.old)) self.now names (E.picks site.old).names (sessions_of self.now.last) [] →
+            IsAt command (file_told (E.files site.old)) self.now names (E.picks site.old).names (sessions_of (last_in self.now)) [] →
             IsAt command (file_told (E.files site.old)) self.now names (E.picks site.new).names [] text) }
         ensures stopped { IfErr result (λ stop. (command : words.AuditCommand) (names : Option (List (List ℕ))) → command.dir ≡ dir.now →
-            IsAt command (file_told (E.files site.old)) self.now names (E.picks site.old).names (sessions_of self.now.last) [] →
+            IsAt command (file_told (E.files site.old)) self.now names (E.picks site.old).names (sessions_of (last_in self.now)) [] →
             IsStopped command (file_told (E.files site.old)) (AppendsAll names (E.picks site.new).names) stop) }
         ensures unread { IsErrOf result Stop.Read → Rose (E.faults site.old) (E.faults site.new) }
         ensures unharmed { (IsErrOf result Stop.Read → ⊥) → E.faults site.new ≡ E.faults site.old }
@@ -43,13 +41,9 @@ impl Run {
         ensures made { E.made site.new ≡ E.made site.old }
         ensures wire_faults { E.wire_faults site.new ≡ E.wire_faults site.old }
     {
-        let history = match history_of(alloc, &self.first, self.events.as_slice()) {
-            Ok(history) => history,
-            Err(NoMemory) => return Err(Stop::NoMemory),
-        };
         let mut text = ShortText::new(alloc);
-        for id in 0..self.last.peers() {
-            match self.hear_peer(alloc, dir, &history, id, site, &mut text) {
+        for id in 0..self.first.peers() {
+            match self.hear_peer(alloc, dir, id, site, &mut text) {
                 Ok(()) => {}
                 Err(stop) => return Err(stop),
             }
@@ -62,18 +56,16 @@ impl Run {
         &self,
         alloc: Global,
         dir: &str,
-        history: &History,
         id: PeerId,
         site: &mut E,
         text: &mut ShortText,
     ) -> Result<(), Stop>
         requires run { IsRun self.now }
-        requires history { IsHistory (worlds_of self.now.first self.now.events.items) (last_of self.now.first self.now.events.items) history.now }
-        requires id { id < length self.now.last.peers }
-        ensures went { OnOk result ((command : words.AuditCommand) (names : Option (List (List ℕ))) (s : peers.PeerState) (left : List SessionOf) → command.dir ≡ dir.now → slice_get self.now.last.peers id ≡ Some s →
+        requires id { id < length (last_in self.now).peers }
+        ensures went { OnOk result ((command : words.AuditCommand) (names : Option (List (List ℕ))) (s : peers.PeerState) (left : List SessionOf) → command.dir ≡ dir.now → slice_get (last_in self.now).peers id ≡ Some s →
             IsAt command (file_told (E.files site.old)) self.now names (E.picks site.old).names (sessions_from id s 1 s.sessions ++ left) text.old →
             IsAt command (file_told (E.files site.old)) self.now names (E.picks site.new).names left text.new) }
-        ensures stopped { IfErr result (λ stop. (command : words.AuditCommand) (names : Option (List (List ℕ))) (s : peers.PeerState) (left : List SessionOf) → command.dir ≡ dir.now → slice_get self.now.last.peers id ≡ Some s →
+        ensures stopped { IfErr result (λ stop. (command : words.AuditCommand) (names : Option (List (List ℕ))) (s : peers.PeerState) (left : List SessionOf) → command.dir ≡ dir.now → slice_get (last_in self.now).peers id ≡ Some s →
             IsAt command (file_told (E.files site.old)) self.now names (E.picks site.old).names (sessions_from id s 1 s.sessions ++ left) text.old →
             IsStopped command (file_told (E.files site.old)) (AppendsAll names (E.picks site.new).names) stop) }
         ensures unread { IsErrOf result Stop.Read → Rose (E.faults site.old) (E.faults site.new) }
@@ -82,15 +74,19 @@ impl Run {
         ensures made { E.made site.new ≡ E.made site.old }
         ensures wire_faults { E.wire_faults site.new ≡ E.wire_faults site.old }
     {
-        if self.last.session(id) == 0 {
+        let peer = self.last.peer(id);
+        if peer.sessions == 0 {
             return Ok(());
         }
-        let timeline = match history.timeline(alloc, &self.first, id, self.events.as_slice()) {
+        let timeline = match self
+            .timelines
+            .timeline(alloc, &self.first, id, self.events.as_slice())
+        {
             Ok(timeline) => timeline,
             Err(NoMemory) => return Err(Stop::NoMemory),
         };
         let mut asked = Asked::of(alloc, timeline);
-        for before in 0..self.last.session(id) {
+        for before in 0..peer.sessions {
             match self.hear_session(alloc, dir, id, before + 1, &mut asked, site, text) {
                 Ok(()) => {}
                 Err(stop) => return Err(stop),
@@ -111,16 +107,16 @@ impl Run {
         text: &mut ShortText,
     ) -> Result<(), Stop>
         requires run { IsRun self.now }
-        requires id { id < length self.now.last.peers }
+        requires id { id < length (last_in self.now).peers }
         requires some { 0 < number }
         requires had { number ≤ length asked.old.begun.items }
         ensures begun { asked.new.begun ≡ asked.old.begun }
         ensures asked { OnOk result (IsAsked id (worlds_of self.now.first self.now.events.items) asked.old → IsAsked id (worlds_of self.now.first self.now.events.items) asked.new) }
-        ensures went { OnOk result ((command : words.AuditCommand) (names : Option (List (List ℕ))) (s : peers.PeerState) (left : List SessionOf) → command.dir ≡ dir.now → slice_get self.now.last.peers id ≡ Some s →
+        ensures went { OnOk result ((command : words.AuditCommand) (names : Option (List (List ℕ))) (s : peers.PeerState) (left : List SessionOf) → command.dir ≡ dir.now → slice_get (last_in self.now).peers id ≡ Some s →
             IsAsked id (worlds_of self.now.first self.now.events.items) asked.old →
             IsAt command (file_told (E.files site.old)) self.now names (E.picks site.old).names (record { place = id; state = s; number = number } ∷ left) text.old →
             IsAt command (file_told (E.files site.old)) self.now names (E.picks site.new).names left text.new) }
-        ensures stopped { IfErr result (λ stop. (command : words.AuditCommand) (names : Option (List (List ℕ))) (s : peers.PeerState) (left : List SessionOf) → command.dir ≡ dir.now → slice_get self.now.last.peers id ≡ Some s →
+        ensures stopped { IfErr result (λ stop. (command : words.AuditCommand) (names : Option (List (List ℕ))) (s : peers.PeerState) (left : List SessionOf) → command.dir ≡ dir.now → slice_get (last_in self.now).peers id ≡ Some s →
             IsAsked id (worlds_of self.now.first self.now.events.items) asked.old →
             IsAt command (file_told (E.files site.old)) self.now names (E.picks site.old).names (record { place = id; state = s; number = number } ∷ left) text.old →
             IsStopped command (file_told (E.files site.old)) (AppendsAll names (E.picks site.new).names) stop) }
@@ -130,11 +126,13 @@ impl Run {
         ensures made { E.made site.new ≡ E.made site.old }
         ensures wire_faults { E.wire_faults site.new ≡ E.wire_faults site.old }
     {
-        match asked.aim(alloc, &self.entries, &self.last, id, number) {
+        let peer = self.last.peer(id);
+        let is_open = peer.is_up_with(number);
+        let version = self.last.version;
+        match asked.aim(alloc, &self.entries, version, is_open, id, number) {
             Ok(()) => {}
             Err(NoMemory) => return Err(Stop::NoMemory),
         }
-        let peer = self.last.peer(id);
         let verdict = match hear_file(alloc, dir, peer, number, &mut asked.session, site) {
             Ok(verdict) => verdict,
             Err(stop) => return Err(stop),

@@ -9,6 +9,7 @@ mod certificate;
 mod ending;
 mod events;
 mod hearing;
+mod last;
 mod laws;
 mod listener;
 mod picking;

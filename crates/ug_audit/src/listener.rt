@@ -22,16 +22,21 @@ pub struct Listener {
 
 impl Listener {
     /// A listener before any byte.
-    pub fn new(alloc: Global, capabilities: Capabilities, session: &Session) -> Listener
-        ensures heard { HasHeard capabilities session.now result [] }
-        ensures none { bytes_in result ≡ 0 }
+    pub fn new(
+        alloc: Global,
+        capabilities: Capabilities,
+        session: &Session,
+    ) -> Result<Listener, NoMemory>
+        ensures heard { IfOk result (λ listener. HasHeard capabilities session.now listener []) }
+        ensures none { IfOk result (λ listener. bytes_in listener ≡ 0) }
     {
-        Listener {
+        let judge = Judge::new(alloc, session)?;
+        Ok(Listener {
             alloc,
             reader: Reader::of(alloc, capabilities),
-            judge: Judge::new(alloc, session),
+            judge,
             faulty: false,
-        }
+        })
     }
 
     /// Hears the messages that the bytes have with this piece.

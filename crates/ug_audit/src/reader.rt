@@ -59,7 +59,10 @@ pub fn hear<E: Source>(
     ensures made { E.made source.new ≡ E.made source.old }
     ensures wire_faults { E.wire_faults source.new ≡ E.wire_faults source.old }
 {
-    let mut listener = Listener::new(alloc, capabilities, session);
+    let mut listener = match Listener::new(alloc, capabilities, session) {
+        Ok(listener) => listener,
+        Err(NoMemory) => return Err(Halt::Stopped(NoMemory)),
+    };
     match read_pieces(alloc, MOST_BYTES, source, &mut listener, session) {
         Ok(()) => {}
         Err(halt) => return Err(halt),

@@ -3,7 +3,6 @@
 ghost use Rattle.std.specs.Prelude.{◌≡◌, ◌≤◌, ◌<◌, ◌∷◌, [], ℕ, length, List, OnOk, IfOk, IfErr, IsErrOf};
 ghost use Rattle.std.specs.String.{string_bytes};
 ghost use Rattle.ug_edge.specs.Told.{Rose, AppendsAll, file_told};
-ghost use Rattle.ug_audit_rules.specs.Audited.{opened_with};
 ghost use Rattle.ug_audit.specs.Verdicts.{most_bytes, IsVerdictOn};
 ghost use Rattle.ug_audit.specs.Texts as texts;
 ghost use Rattle.ug_audit.specs.Files.{IsFile};
@@ -11,28 +10,28 @@ ghost use Rattle.ug_audit.specs.Sessions.{file_name};
 ghost use Rattle.ug_audit.specs.Stopping.{IsFileStop, IsRefutedBy};
 
 use crate::answers::refuted_text;
+use crate::last::LastPeer;
 use crate::picking::pick;
 use crate::reader::hear;
 use crate::stop::Stop;
 use crate::verdict::Verdict;
 use std::alloc::Global;
 use ug_edge::{Site, Source};
-use ug_outbound::Peer;
 use ug_pieces::Halt;
 use ug_session_rules::Breach;
-use ug_types::{Capabilities, NoMemory, PeerId};
+use ug_types::{NoMemory, PeerId};
 use ug_verdict::Session;
 
 /// What is found of a session of a peer, all of whose file is read.
 pub fn hear_file<E: Site>(
     alloc: Global,
     dir: &str,
-    peer: &Peer,
+    peer: &LastPeer,
     number: u32,
     session: &mut Session,
     site: &mut E,
 ) -> Result<Verdict, Stop>
-    ensures heard { IfOk result (λ verdict. (bytes : List ℕ) × IsFile (file_told (E.files site.old) (file_name dir.now peer.now.name number)) bytes × (length bytes ≤ most_bytes) × IsVerdictOn (opened_with peer.now) session.old bytes verdict) }
+    ensures heard { IfOk result (λ verdict. (bytes : List ℕ) × IsFile (file_told (E.files site.old) (file_name dir.now peer.now.name number)) bytes × (length bytes ≤ most_bytes) × IsVerdictOn peer.now.capabilities session.old bytes verdict) }
     ensures same { session.new ≡ session.old }
     ensures named { OnOk result (AppendsAll (E.picks site.old).names (E.picks site.new).names (file_name dir.now peer.now.name number ∷ [])) }
     ensures stopped { IfErr result (IsFileStop (file_told (E.files site.old) (file_name dir.now peer.now.name number)) (λ (bytes : List ℕ). most_bytes < length bytes)
@@ -50,7 +49,7 @@ pub fn hear_file<E: Site>(
         Ok(()) => {}
         Err(stop) => return Err(stop),
     }
-    match hear(alloc, opened_with(peer), session, site) {
+    match hear(alloc, peer.capabilities, session, site) {
         Ok(verdict) => Ok(verdict),
         Err(Halt::Read) => Err(Stop::Read),
         Err(Halt::TooLong) => Err(Stop::TooLong),
@@ -65,17 +64,6 @@ fn file_name(alloc: Global, dir: &str, peer: &str, number: u32) -> Result<String
     ensures { IfOk result (λ name. string_bytes name ≡ file_name dir.now peer.now number) }
 {
     Ok(format!(in alloc; "{dir}/{peer}.{number}")?)
-}
-
-/// What the sessions of a peer are opened with.
-fn opened_with(peer: &Peer) -> Capabilities
-    ensures { result ≡ opened_with peer.now }
-{
-    Capabilities {
-        family: peer.family,
-        add_path: peer.add_path,
-        extended: peer.extended,
-    }
 }
 
 /// A session isn't right: its first breach is told, where there is memory for it.

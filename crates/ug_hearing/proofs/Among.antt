@@ -1,5 +1,5 @@
 -- Keys among others.
-use Rattle.std.proofs.Common.{◌≡◌, ℕ, ◌==◌, ◌⊎◌, inl, inr, Bool, true, false, List, [], ◌∷◌, ◌++◌, refl, ◌∙◌, ap, subst, arith}
+use Rattle.std.proofs.Common.{◌≡◌, ℕ, zero, suc, ◌==◌, ◌⊎◌, inl, inr, Bool, true, false, List, [], ◌∷◌, ◌++◌, slice_get, Some, refl, sym, ◌∙◌, ap, subst, arith}
 use Rattle.std.specs.Prelude.{◌||◌, ◌&&◌}
 use Rattle.std.specs.List.{list_any}
 use Rattle.std.proofs.lemmas.Bool.Decides.{nat_tests}
@@ -56,3 +56,9 @@ or-second false b e = e
 
 pub among-last : (keys : List Key) (k q : Key) → among (keys ++ k ∷ []) q ≡ (among keys q || same_key q k)
 among-last keys k q = list_any-append (same_key q) keys (k ∷ []) ∙ ap (λ (b : Bool). list_any (same_key q) keys || b) (or_none (same_key q k))
+
+-- a key that has a place is among them
+pub among-placed : (keys : List Key) (i : ℕ) (k : Key) → slice_get keys i ≡ Some k → among keys k ≡ true
+among-placed [] i k there = absurd cc
+among-placed (x ∷ keys) zero k there = let same : x ≡ k = cc in or-first (same_key k x) (among keys k) (subst (λ (z : Key). same_key k z ≡ true) (sym same) (same-self k))
+among-placed (x ∷ keys) (suc i) k there = or-second (same_key k x) (among keys k) (among-placed keys i k there)

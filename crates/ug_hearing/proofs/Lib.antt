@@ -11,3 +11,6 @@ pub mod Taking
 pub mod Retold
 pub mod Begun
 pub mod Logged
+pub mod Ascending
+pub mod Paired
+pub mod Held

@@ -1,4 +1,4 @@
--- Keys of a map that are picked by a test.
+-- Keys that are chosen by a test, and keys of a map.
 use Rattle.std.proofs.Common.{◌≡◌, inl, inr, Bool, true, false, cond, List, [], ◌∷◌, ◌++◌, Some, refl, sym, ◌∙◌, ap, subst}
 use Rattle.std.specs.Prelude.{◌||◌, ◌&&◌, is_some}
 use Rattle.std.specs.Map.{keys_of}
@@ -7,7 +7,6 @@ use Rattle.std.specs.List.Sorted.{IsStrictlySortedBy}
 use Rattle.std.specs.declared.cmp.Ordering.{Ordering}
 use Rattle.std.specs.declared.cmp.Ordering.TheVariants.{Less, Equal, Greater}
 use Rattle.std.specs.Ordering.{ordering_reverse}
-use Rattle.std.proofs.lemmas.List.{map-append, append-nil}
 use Rattle.ug_types.specs.declared.key.Key.{Key}
 use Rattle.ug_types.specs.Keys.{same_key}
 use Rattle.ug_types.specs.Orders.{key_cmp, key_cmp_total}
@@ -32,32 +31,7 @@ or_some : (b : Bool) → (b || true) ≡ true
 or_some true = refl
 or_some false = refl
 
-module _ {X : Type 0} (test : Key → Bool) where
-  keys-last : (done : List (Key × X)) (e : Key × X) (q : Key) → among (keys_of (done ++ e ∷ [])) q ≡ (among (keys_of done) q || same_key q e.0)
-  keys-last done e q = ap (λ (ks : List Key). among ks q) (map-append (λ (x : Key × X). x.0) done (e ∷ [])) ∙ among-last (keys_of done) e.0 q
-
-  pub picked : (done : List (Key × X)) (e : Key × X) (keys : List Key) → ((q : Key) → among keys q ≡ (among (keys_of done) q && test q)) → test e.0 ≡ true
-      → (q : Key) → among (keys ++ e.0 ∷ []) q ≡ (among (keys_of (done ++ e ∷ [])) q && test q)
-  picked done e keys h is q = among-last keys e.0 q ∙ (by (same_key q e.0) refl ∙ ap (λ (b : Bool). b && test q) (sym (keys-last done e q)))
-    where
-      by : (b : Bool) → same_key q e.0 ≡ b → (among keys q || same_key q e.0) ≡ ((among (keys_of done) q || same_key q e.0) && test q)
-      by true same =
-          let yes : test q ≡ true = subst (λ (k : Key). test k ≡ true) (sym (same_is q e.0 same)) is in
-          ap (λ (b : Bool). among keys q || b) same ∙ (or_some (among keys q) ∙ sym (ap (λ (b : Bool). (among (keys_of done) q || b) && test q) same ∙ (ap (λ (b : Bool). b && test q) (or_some (among (keys_of done) q)) ∙ yes)))
-      by false differs =
-          ap (λ (b : Bool). among keys q || b) differs ∙ (or_none (among keys q) ∙ (h q ∙ sym (ap (λ (b : Bool). (among (keys_of done) q || b) && test q) differs ∙ ap (λ (b : Bool). b && test q) (or_none (among (keys_of done) q)))))
-
-  pub passed_by : (done : List (Key × X)) (e : Key × X) (keys : List Key) → ((q : Key) → among keys q ≡ (among (keys_of done) q && test q)) → test e.0 ≡ false
-      → (q : Key) → among keys q ≡ (among (keys_of (done ++ e ∷ [])) q && test q)
-  passed_by done e keys h is q = by (same_key q e.0) refl ∙ ap (λ (b : Bool). b && test q) (sym (keys-last done e q))
-    where
-      by : (b : Bool) → same_key q e.0 ≡ b → among keys q ≡ ((among (keys_of done) q || same_key q e.0) && test q)
-      by true same =
-          let no : test q ≡ false = subst (λ (k : Key). test k ≡ false) (sym (same_is q e.0 same)) is in
-          h q ∙ (ap (λ (b : Bool). among (keys_of done) q && b) no ∙ (and_false (among (keys_of done) q) ∙ sym (ap (λ (b : Bool). (among (keys_of done) q || same_key q e.0) && b) no ∙ and_false (among (keys_of done) q || same_key q e.0))))
-      by false differs = h q ∙ sym (ap (λ (b : Bool). (among (keys_of done) q || b) && test q) differs ∙ ap (λ (b : Bool). b && test q) (or_none (among (keys_of done) q)))
-
--- the same, of a list of keys
+-- keys of a list that are chosen by a test
 module _ (test : Key → Bool) (front left : List Key) (k : Key) (h : (q : Key) → among left q ≡ (among front q && test q)) where
   pub chosen : test k ≡ true → (q : Key) → among (left ++ k ∷ []) q ≡ (among (front ++ k ∷ []) q && test q)
   chosen is q = among-last left k q ∙ (by (same_key q k) refl ∙ ap (λ (b : Bool). b && test q) (sym (among-last front k q)))
@@ -85,15 +59,6 @@ among-there {X} (e ∷ entries) q = by (same_key q e.0) (among-there entries q)
     by : (b : Bool) → is_some (value_for entries q) ≡ among (keys_of entries) q → is_some (cond b (Some e.1) (value_for entries q)) ≡ (b || among (keys_of entries) q)
     by true rest = refl
     by false rest = rest
-
--- all keys that pass are picked in the end
-pub all-picked : {X : Type 0} (test : Key → Bool) (entries done : List (Key × X)) (keys : List Key) → done ++ [] ≡ entries → ((q : Key) → among keys q ≡ (among (keys_of done) q && test q))
-    → ((q : Key) → test q ≡ true → is_some (value_for entries q) ≡ true) → (q : Key) → among keys q ≡ test q
-all-picked {X} test entries done keys parts h there q = h q ∙ (ap (λ (es : List (Key × X)). among (keys_of es) q && test q) (sym (append-nil done) ∙ parts) ∙ by (test q) refl)
-  where
-    by : (b : Bool) → test q ≡ b → (among (keys_of entries) q && test q) ≡ test q
-    by true is = ap (λ (b : Bool). b && test q) (sym (among-there entries q) ∙ there q is)
-    by false is = ap (λ (b : Bool). among (keys_of entries) q && b) is ∙ (and_false (among (keys_of entries) q) ∙ sym is)
 
 all_there : (P : Key → Type 0) (keys : List Key) (q : Key) → AllByRecursion P keys → among keys q ≡ true → P q
 all_there P [] q h there = absurd (let e : false ≡ true = there in cc)

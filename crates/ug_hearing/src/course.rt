@@ -1,27 +1,39 @@
 //! What a session has to follow.
 
-ghost use Rattle.std.specs.Prelude.{◌≡◌, ◌≤◌, length, option_copied};
-ghost use Rattle.ug_hearing.specs.Courses.{changes_of, passed, value_in, start_of};
+ghost use Rattle.std.specs.Prelude.{◌≡◌, ◌≤◌, true, length, is_some};
+ghost use Rattle.std.specs.Map.{keys_of};
+ghost use Rattle.ug_hearing.specs.Keyed.{value_for, IsPlaceOf};
+ghost use Rattle.ug_hearing.specs.Courses.{changes_of, passed, start_of};
 
-use crate::key_map::KeyMap;
-use ug_climb::{Change, Standing, value_at};
-use ug_types::{Attrs, Key};
+use crate::key_list::KeyList;
+use ug_climb::{Change, Standing};
+use ug_types::Key;
 
 /// What a peer's private table was, version by version: for each key that ever had a route the changes of its value, whose
 /// places are versions. A session follows it from one version, where there is no route, up to another.
 #[derive(Drop)]
 pub struct Course {
-    pub changes: KeyMap<Vec<Change>>,
+    pub changes: KeyList<Vec<Change>>,
     pub from: u32,
     pub to: u32,
 }
 
 impl Course {
-    /// The changes of a key.
-    pub fn changes_of(&self, key: &Key) -> &[Change]
+    /// The place of a key among those that have changes; of another it is the one that was said to be near.
+    pub fn near(&self, near: usize, key: &Key) -> usize
+        ensures { is_some (value_for self.now.changes key.now) ≡ true → IsPlaceOf key.now (keys_of self.now.changes) result }
+    {
+        match self.changes.place(near, key) {
+            Some(place) => place,
+            None => near,
+        }
+    }
+
+    /// The changes of a key, which is looked for near a place.
+    pub fn changes_of(&self, near: usize, key: &Key) -> &[Change]
         ensures { result.now ≡ changes_of self.now.changes key.now }
     {
-        match self.changes.get(key) {
+        match self.changes.get(near, key) {
             Some(changes) => changes.as_slice(),
             None => &[],
         }
@@ -40,14 +52,6 @@ pub fn passed(changes: &[Change], version: u64) -> usize
         }
     }
     changes.len()
-}
-
-/// The value in the table of a version.
-pub fn value_in(changes: &[Change], version: u64) -> Option<&Attrs>
-    ensures { option_copied result ≡ value_in version changes.now }
-{
-    let next = passed(changes, version);
-    value_at(changes, next)
 }
 
 /// Where a session's climb begins.

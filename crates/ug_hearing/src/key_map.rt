@@ -1,6 +1,6 @@
 //! Values by key.
 
-ghost use Rattle.std.specs.Prelude.{◌≡◌, [], None, Some, IfOk, OnOk, OnErr, is_some, option_copied, if◌then◌else◌};
+ghost use Rattle.std.specs.Prelude.{◌≡◌, [], None, Some, length, IfOk, OnOk, OnErr, is_some, option_copied, if◌then◌else◌};
 ghost use Rattle.std.specs.List.Sorted.{IsStrictlySortedBy};
 ghost use Rattle.std.specs.Map.{keys_of};
 ghost use Rattle.ug_types.specs.declared.key.Key as routes;
@@ -10,7 +10,7 @@ ghost use Rattle.ug_hearing.specs.Keyed.{value_for, last_for};
 
 use std::alloc::Global;
 use std::collections::BTreeMap;
-use std::collections::btree_map::Iter;
+use std::collections::btree_map::{IntoIter, Iter};
 use std::marker::Model;
 use ug_types::{Key, NoMemory, comparison_laws};
 
@@ -93,8 +93,16 @@ impl<V: Drop> KeyMap<V> {
         self.entries.iter()
     }
 
+    /// The same, moved out of the map.
+    pub fn into_entries(self) -> IntoIter<Key, V>
+        ensures rest { result ≡ self }
+    {
+        self.entries.into_iter()
+    }
+
     /// How many keys there are, which ascend.
     pub fn len(&self) -> usize
+        ensures len { result ≡ length self.now }
         ensures ascending { IsStrictlySortedBy key_cmp (keys_of self.now) }
     {
         comparison_laws();

@@ -4,18 +4,23 @@
 
 mod course;
 mod hearing;
+mod key_list;
 mod key_map;
 mod laws;
 mod log;
 mod naming;
+mod placing;
 mod row;
+mod rows;
 mod standings;
 
-pub use course::{Course, passed, start, value_in};
+pub use course::{Course, passed, start};
 pub use hearing::Hearing;
+pub use key_list::KeyList;
 pub use key_map::KeyMap;
 pub use laws::log_goes_on;
 pub use log::Log;
 pub use naming::all_but;
 pub use row::{Moved, Row};
+pub use rows::Rows;
 pub use standings::Standings;

@@ -10,7 +10,7 @@ use std::alloc::Global;
 use ug_types::{Key, NoMemory};
 
 /// A map that has just these keys.
-fn set_of(alloc: Global, keys: &[Key]) -> Result<KeyMap<bool>, NoMemory>
+pub fn set_of(alloc: Global, keys: &[Key]) -> Result<KeyMap<bool>, NoMemory>
     ensures { IfOk result (λ set. (q : routes.Key) → is_some (value_for set q) ≡ among keys.now q) }
 {
     let mut set = KeyMap::new(alloc);

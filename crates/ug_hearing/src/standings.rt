@@ -1,7 +1,7 @@
 //! How the keys stand.
 
-ghost use Rattle.std.specs.Prelude.{◌≡◌, ◌≤◌, ◌<◌, ◌+◌, ◌==◌, ℕ, List, [], IfOk, OnOk, IfSome, IfNone, option_copied, length};
-ghost use Rattle.ug_climb.specs.Pasts.{Value, StandsIn, Climbs, value_before};
+ghost use Rattle.std.specs.Prelude.{◌≡◌, ◌<◌, ◌==◌, ℕ, List, [], IfOk, OnOk, IfSome, IfNone, option_copied};
+ghost use Rattle.ug_climb.specs.Pasts.{Value, StandsIn, Climbs};
 ghost use Rattle.ug_hearing.specs.Rows.{row_for, IsNoted};
 ghost use Rattle.ug_hearing.specs.Courses.{changes_of};
 ghost use Rattle.ug_hearing.specs.Visits.{IsVisit, NeverBelow};
@@ -11,40 +11,43 @@ ghost use Rattle.ug_hearing.specs.Passes.{ArePassed};
 ghost use Rattle.ug_hearing.specs.Heard.{is_stale_in};
 
 use crate::course::{Course, start};
-use crate::key_map::KeyMap;
 use crate::row::{Moved, Row};
+use crate::rows::Rows;
 use std::alloc::Global;
 use ug_climb::{Change, Standing, climb, value_at};
 use ug_types::{Attrs, Key, NoMemory};
 
-/// The rows of the keys that were named, their moves in order, and how many refreshes have begun.
+/// The rows of the keys that were named, their moves in order, and how many refreshes have begun. Beside that the place
+/// behind the key that was named last, near which the next one is looked for; what is answered doesn't depend on it.
 #[derive(Drop)]
 pub struct Standings {
-    pub rows: KeyMap<Row>,
+    pub rows: Rows,
     pub moves: Vec<Moved>,
     pub refreshes: u64,
+    pub near: usize,
 }
 
 impl Standings {
     /// Before any key is named.
-    pub fn new(alloc: Global) -> Standings
-        ensures rows { result.rows ≡ [] }
-        ensures moves { result.moves.items ≡ [] }
-        ensures refreshes { result.refreshes ≡ 0 }
+    pub fn new(alloc: Global, course: &Course) -> Result<Standings, NoMemory>
+        ensures rows { IfOk result (λ st. st.rows ≡ []) }
+        ensures moves { IfOk result (λ st. st.moves.items ≡ []) }
+        ensures refreshes { IfOk result (λ st. st.refreshes ≡ 0) }
     {
-        Standings {
-            rows: KeyMap::new(alloc),
+        Ok(Standings {
+            rows: Rows::new(alloc, &course.changes)?,
             moves: Vec::new(alloc),
             refreshes: 0,
-        }
+            near: 0,
+        })
     }
 
     /// The row of a key, whose changes these are, or the one that it begins with.
-    pub fn row(&self, course: &Course, changes: &[Change], key: &Key) -> Row
+    pub fn row(&self, course: &Course, near: usize, changes: &[Change], key: &Key) -> Row
         requires { changes.now ≡ changes_of course.now.changes key.now }
         ensures { result ≡ row_for self.now.rows course.now.changes course.now.from key.now }
     {
-        match self.rows.get(key) {
+        match self.rows.get(near, key) {
             Some(row) => *row,
             None => Row {
                 standing: start(changes, course.from),
@@ -52,15 +55,6 @@ impl Standings {
                 seen: 0,
             },
         }
-    }
-
-    /// What the key, whose changes these are, has by its row.
-    pub fn value<'a>(&self, course: &Course, changes: &'a [Change], key: &Key) -> Option<&'a Attrs>
-        requires { changes.now ≡ changes_of course.now.changes key.now }
-        ensures { option_copied result ≡ value_before (row_for self.now.rows course.now.changes course.now.from key.now).standing.next (changes_of course.now.changes key.now) }
-    {
-        let row = self.row(course, changes, key);
-        value_at(changes, row.standing.next)
     }
 
     /// The key has this value after the message: its row goes there. Answers whether it could.
@@ -73,15 +67,18 @@ impl Standings {
     ) -> Result<bool, NoMemory>
         ensures { IfOk result (IsVisit course.now.changes course.now.from course.now.to message key.now (option_copied value.entry) self.old self.new) }
     {
-        let changes = course.changes_of(key);
-        let row = self.row(course, changes, key);
+        let near = course.near(self.near, key);
+        self.near = near.saturating_add(1);
+        let changes = course.changes_of(near, key);
+        let row = self.row(course, near, changes, key);
         let seen = self.refreshes;
         let Some(standing) = climb_below(changes, row.standing, value, course.to) else {
-            self.rows.put(*key, Row { seen, ..row })?;
+            self.rows.put(near, *key, Row { seen, ..row })?;
             return Ok(false);
         };
         let moved = self.note(course, message, &row, standing)?;
         self.rows.put(
+            near,
             *key,
             Row {
                 standing,
@@ -112,13 +109,13 @@ impl Standings {
     }
 
     /// Whether the key's route was announced before the present refresh began.
-    fn is_stale(&self, course: &Course, key: &Key) -> bool
+    fn is_stale(&self, course: &Course, near: usize, key: &Key) -> bool
         ensures { result ≡ is_stale_in self.now.refreshes course.now.changes self.now.rows key.now }
     {
-        match self.rows.get(key) {
+        match self.rows.get(near, key) {
             Some(row) => {
                 row.seen < self.refreshes
-                    && value_at(course.changes_of(key), row.standing.next).is_some()
+                    && value_at(course.changes_of(near, key), row.standing.next).is_some()
             }
             None => false,
         }
@@ -129,8 +126,11 @@ impl Standings {
         ensures { IfOk result (λ keys. (q : routes.Key) → among keys.items q ≡ is_stale_in self.now.refreshes course.now.changes self.now.rows q) }
     {
         let mut keys = Vec::new(alloc);
-        for (key, _row) in self.rows.iter() {
-            if self.is_stale(course, key) {
+        let named = self.rows.named(alloc)?;
+        let mut near = 0;
+        for key in &named {
+            near = course.near(near, key);
+            if self.is_stale(course, near, key) {
                 keys.push(*key)?;
             }
         }

@@ -24,7 +24,7 @@ use Rattle.ug_world.specs.Private.{private_table}
 use Rattle.ug_world.specs.Worlds.{in_session}
 use Rattle.ug_world.proofs.Keeping.{down}
 use Rattle.ug_speaker.proofs.Peers.{Moved, peer_after, peers-after, next-of}
-use Rattle.ug_timeline.specs.declared.timeline.Timeline.{Timeline}
+use Rattle.ug_timeline.specs.declared.progress.Progress.{Progress}
 use Rattle.ug_timeline.specs.Touched.{keys_at}
 use Rattle.ug_timeline.specs.Timelines.{IsSpan, end_of}
 use Rattle.ug_timeline.specs.Standing.{over, StandsBy, StandsAt, IsMarked, IsNotedFor}
@@ -239,7 +239,7 @@ at_peer e p w w' s s' led is later =
 
 -- the sessions
 pub marked-comes :
-    (e : Happening) (p : ℕ) (ws : List World) (w w' : World) (s' : PeerState) (old new : Timeline)
+    (e : Happening) (p : ℕ) (ws : List World) (w w' : World) (s' : PeerState) (old new : Progress)
     → verdict w e ≡ None → w' ≡ after w e → StandsBy p ws w old → slice_get w'.peers p ≡ Some s'
     → new.begun.items ≡ (if nat_lt (length old.begun.items) s'.sessions then old.begun.items ++ (w'.version - 1) ∷ [] else old.begun.items)
     → new.ended.items ≡ (if not s'.up && nat_lt (length old.ended.items) (length new.begun.items) then old.ended.items ++ w'.version ∷ [] else old.ended.items)
@@ -268,7 +268,7 @@ marked-comes e p ws w w' s' old new accepted led h later begun ended =
     }
 
 pub comes :
-    (e : Happening) (p : ℕ) (ws : List World) (w w' : World) (s' : PeerState) (keys : List Key) (old new : Timeline)
+    (e : Happening) (p : ℕ) (ws : List World) (w w' : World) (s' : PeerState) (keys : List Key) (old new : Progress)
     → verdict w e ≡ None → w' ≡ after w e → StandsAt p ws w old
     → ((s : PeerState) → slice_get w.peers p ≡ Some s → slice_get w'.peers p ≡ Some s' → keys ≡ keys_at e s.peer w ++ keys_at e s'.peer w')
     → slice_get w'.peers p ≡ Some s' → IsNotedFor p w' keys old.log.changes new.log.changes
@@ -299,7 +299,7 @@ asked_for f (Some t) s keys e is = let one : t ≡ s = cc in let got : f t ≡ k
 
 -- noted, and then marked
 pub comes-by :
-    (e : Happening) (p : ℕ) (ws : List World) (w w' : World) (s' : PeerState) (keys : List Key) (old mid new : Timeline)
+    (e : Happening) (p : ℕ) (ws : List World) (w w' : World) (s' : PeerState) (keys : List Key) (old mid new : Progress)
     → verdict w e ≡ None → w' ≡ after w e → StandsAt p ws w old
     → ((s : PeerState) → slice_get w.peers p ≡ Some s → slice_get w'.peers p ≡ Some s' → keys ≡ keys_at e s.peer w ++ keys_at e s'.peer w')
     → slice_get w'.peers p ≡ Some s' → IsNotedFor p w' keys old.log.changes mid.log.changes → mid.begun ≡ old.begun → mid.ended ≡ old.ended → IsMarked s' w'.version mid new

@@ -32,17 +32,20 @@ use Rattle.ug_timeline.specs.declared.seat.Seat.{Seat}
 use Rattle.ug_timeline.specs.declared.touched.Touched.{Touched}
 use Rattle.ug_timeline.specs.declared.history.History.{History}
 use Rattle.ug_timeline.specs.declared.timeline.Timeline.{Timeline}
+use Rattle.ug_timeline.specs.declared.timelines.Timelines.{Timelines}
 use Rattle.ug_timeline.specs.declared.since.Since.{Since}
 use Rattle.ug_timeline.specs.Held.{held, last_held, IsRising}
+use Rattle.ug_timeline.specs.GroupLogs.{Outs, Entries, changes_in}
 use Rattle.ug_timeline.specs.Touched.{keys_touched}
 use Rattle.ug_timeline.specs.Lines.{IsAccepted, IsPassed}
 use Rattle.ug_timeline.specs.Timelines.{IsFirst, IsSpan, end_of, IsTimeline, HasSessions}
 use Rattle.ug_timeline.specs.Merges.{told_if, IsMerged, IsTold}
-use Rattle.ug_timeline.specs.Seats.{IsNew, IsLonger, IsTurned, group_at, outs_in, outs_at, IsSharing, IsSeatOf, AreGroups}
-use Rattle.ug_timeline.specs.Histories.{IsHistory, AreNotedFor, IsTurnedIf, AreTurnedFrom, AreTurned, AreNew}
+use Rattle.ug_timeline.specs.Seats.{IsNew, IsLonger, IsTurned, group_at, outs_in, outs_at, log_at, IsSharing, IsSeatOf, AreGroups}
+use Rattle.ug_timeline.specs.Histories.{IsHistory, AreTimelines, AreNotedFor, IsTurnedIf, AreTurnedFrom, AreTurned, AreNew}
 use Rattle.ug_timeline.proofs.Coming.{as-many, version-after, some_there}
 use Rattle.ug_timeline.proofs.Replayed.{before, sessions_begin, accepts}
 use Rattle.ug_timeline.proofs.GroupTables.{same-one, which-world, world-last, get-inside, Follows, Keeps, groups-go-on, groups-follow, longer-keeps, longer-groups, keeps-follow, keeps-on}
+use Rattle.ug_timeline.proofs.MergedKeys.{log-there}
 use Rattle.ug_timeline.proofs.SeatSteps.{seat-goes-on, seat-kept}
 
 plus_zero : (p : ℕ) → p + 0 ≡ p
@@ -210,11 +213,13 @@ noting-goes-on first w w' h h' line left more all is led goes r = record {
   last_is = ap (λ (x : World). last_world x more) led ∙ (sym (ap (last_world w) is) ∙ r.last_is);
 }
 
+pub noting-last : (first w : World) (h : History) (left all : List (Reads Saying)) → left ≡ [] → IsNotedSoFar first w h left all → w ≡ last_world first all
+noting-last first w h left all none r = sym (ap (last_world w) none) ∙ r.last_is
+
 pub noting-ends : (first w : World) (h : History) (left all : List (Reads Saying)) → left ≡ [] → IsNotedSoFar first w h left all → IsHistory (worlds first all) (last_world first all) h
 noting-ends first w h left all none r =
     let whole : r.ws ≡ worlds first all = sym (append-nil r.ws) ∙ (sym (ap (λ (ls : List (Reads Saying)). r.ws ++ accepted_worlds w ls) none) ∙ r.worlds_are) in
-    let last : w ≡ last_world first all = sym (ap (last_world w) none) ∙ r.last_is in
-    subst (λ (x : World). IsHistory (worlds first all) x h) last (subst (λ (xs : List World). IsHistory xs w h) whole r.at)
+    subst (λ (x : World). IsHistory (worlds first all) x h) (noting-last first w h left all none r) (subst (λ (xs : List World). IsHistory xs w h) whole r.at)
 
 -- ---- one peer
 
@@ -240,11 +245,11 @@ outs_rise ws groups (Some g) q some h = by (slice_get groups g) refl
     by None is = omega arith
     by (Some group) is = (h g group is).rising q
 
--- what a peer should have is told by its log
-pub timeline-is : (p : ℕ) (ws : List World) (w : World) (h : History) (seat : Seat) (t : Timeline) → IsHistory ws w h → slice_get h.seats.items p ≡ Some seat → seat.shared ≡ true
-    → ((q : Key) → IsTold seat.ends seat.ups.items (outs_at h.groups.items seat.group q) (changes_of t.log.changes q)) → t.begun.items ≡ seat.sessions.begun.items → t.ended.items ≡ seat.sessions.ended.items
+-- what a peer should have is told by its changes
+timeline_is : (p : ℕ) (ws : List World) (w : World) (h : History) (seat : Seat) (t : Timeline) → IsHistory ws w h → slice_get h.seats.items p ≡ Some seat → seat.shared ≡ true
+    → ((q : Key) → IsTold seat.ends seat.ups.items (outs_at h.groups.items seat.group q) (changes_of t.changes q)) → t.begun.items ≡ seat.sessions.begun.items → t.ended.items ≡ seat.sessions.ended.items
     → IsTimeline p ws t × HasSessions p w t
-timeline-is p ws w h seat t is there so told begun ended = (
+timeline_is p ws w h seat t is there so told begun ended = (
   record {
     log = log_is;
     spans = subst (λ (es : List ℕ). (i from : ℕ) → slice_get t.begun.items i ≡ Some from → IsSpan p (suc i) ws from (end_of es i (length ws))) (sym ended)
@@ -262,7 +267,7 @@ timeline-is p ws w h seat t is there so told begun ended = (
     some : 0 < length ws
     some = let size = ap (λ (xs : List World). length xs) is.parts ∙ length-append is.front (w ∷ []) in omega arith
 
-    log_is : IsLog t.log.changes (map (private_table p) ws)
+    log_is : IsLog t.changes (map (private_table p) ws)
     log_is q =
         told q (values_at q (map (private_table p) ws)) (subst (λ (n : ℕ). IsRising 1 seat.ups.items n) (sym (values_size p q ws)) sharing.rising)
         (subst (λ (n : ℕ). IsRising 1 (outs_at h.groups.items seat.group q) n) (sym (values_size p q ws)) (outs_rise ws h.groups.items seat.group q some is.groups))
@@ -270,3 +275,11 @@ timeline-is p ws w h seat t is there so told begun ended = (
       where
         at : (v : ℕ) → v < length ws → slice_get (values_at q (map (private_table p) ws)) v ≡ Some (told_if seat.ends (held v false seat.ups.items) (held v None (outs_at h.groups.items seat.group q)))
         at v less = let x = world_there ws v less in value_there p q ws v x.0 x.1 ∙ ap (λ (y : Value). Some y) (sharing.shown v x.0 q x.1)
+
+-- So it is behind all events.
+pub timeline-of : (p : ℕ) (ws : List World) (w : World) (ts : Timelines) (seat : Seat) (t : Timeline) → AreTimelines ws w ts → slice_get ts.seats.items p ≡ Some seat → seat.shared ≡ true
+    → ((q : Key) → IsTold seat.ends seat.ups.items (changes_in (log_at ts.logs.items seat.group) q) (changes_of t.changes q)) → t.begun.items ≡ seat.sessions.begun.items → t.ended.items ≡ seat.sessions.ended.items
+    → IsTimeline p ws t × HasSessions p w t
+timeline-of p ws w ts seat t are there so told begun ended =
+    timeline_is p ws w are.history seat t are.is (ap (λ (ss : Vec Seat). slice_get ss.items p) (sym are.seats_are) ∙ there) so
+    (λ q. subst (λ (outs : Outs). IsTold seat.ends seat.ups.items outs (changes_of t.changes q)) (ap (λ (logs : List Entries). changes_in (log_at logs seat.group) q) are.logs_are ∙ log-there are.history.groups.items seat.group q) (told q)) begun ended

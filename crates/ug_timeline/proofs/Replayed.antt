@@ -1,5 +1,5 @@
 -- A world after one line more, and after all.
-use Rattle.std.proofs.Common.{◌≡◌, ℕ, ◌+◌, ◌-◌, ◌<◌, ◌≤◌, Bool, List, [], ◌∷◌, ◌++◌, length, map, slice_get, Some, None, refl, sym, ◌∙◌, ap, subst, arith, append_assoc}
+use Rattle.std.proofs.Common.{◌≡◌, ℕ, suc, ◌+◌, ◌-◌, ◌<◌, ◌≤◌, Bool, List, [], ◌∷◌, ◌++◌, length, map, slice_get, Some, None, refl, sym, ◌∙◌, ap, subst, arith, append_assoc}
 use Rattle.std.specs.Prelude.{if◌then◌else◌}
 use Rattle.std.specs.Global.{Vec}
 use Rattle.std.proofs.lemmas.List.{append-nil}
@@ -15,9 +15,10 @@ use Rattle.ug_world.specs.After.{after}
 use Rattle.ug_world.specs.Private.{private_table}
 use Rattle.ug_world.specs.Worlds.{Outcome, Passes, Accepts, Refuses, judged, outcome, world_after, where_accepted, accepted_worlds, worlds, last_world}
 use Rattle.ug_world.proofs.Keeping.{down}
+use Rattle.ug_timeline.specs.declared.progress.Progress.{Progress}
 use Rattle.ug_timeline.specs.declared.timeline.Timeline.{Timeline}
 use Rattle.ug_timeline.specs.Lines.{IsAccepted, IsPassed}
-use Rattle.ug_timeline.specs.Timelines.{IsFirst, IsTimeline, HasSessions}
+use Rattle.ug_timeline.specs.Timelines.{IsFirst, IsSpan, end_of, IsTimeline, HasSessions}
 use Rattle.ug_timeline.specs.Standing.{StandsBy, StandsAt}
 use Rattle.ug_timeline.proofs.Spanning.{is_down}
 use Rattle.ug_timeline.proofs.Coming.{version-after, some_there}
@@ -31,10 +32,10 @@ accepts w line e is = ap (outcome w) is.said ∙ ap (judged w e) is.accepted
 pub led_to : (w w' : World) (line : Reads Saying) (e : Happening) → IsAccepted w line e → w' ≡ after w e → w' ≡ world_after w (outcome w line)
 led_to w w' line e is led = led ∙ sym (ap (world_after w) (accepts w line e is))
 
-pub goes_to : (p : ℕ) (ws : List World) (w w' : World) (t : Timeline) (line : Reads Saying) (e : Happening) → IsAccepted w line e → w' ≡ after w e → StandsAt p (ws ++ w' ∷ []) w' t → StandsAt p (ws ++ where_accepted (outcome w line) []) w' t
+pub goes_to : (p : ℕ) (ws : List World) (w w' : World) (t : Progress) (line : Reads Saying) (e : Happening) → IsAccepted w line e → w' ≡ after w e → StandsAt p (ws ++ w' ∷ []) w' t → StandsAt p (ws ++ where_accepted (outcome w line) []) w' t
 goes_to p ws w w' t line e is led h = subst (λ (xs : List World). StandsAt p (ws ++ xs) w' t) (ap (λ (x : World). x ∷ []) led ∙ sym (ap (λ (o : Outcome). where_accepted o []) (accepts w line e is))) h
 
-pub stays_there : (p : ℕ) (ws : List World) (w : World) (t : Timeline) (o : Outcome) → IsPassed w o → StandsAt p ws w t → StandsAt p (ws ++ where_accepted o []) w t
+pub stays_there : (p : ℕ) (ws : List World) (w : World) (t : Progress) (o : Outcome) → IsPassed w o → StandsAt p ws w t → StandsAt p (ws ++ where_accepted o []) w t
 stays_there p ws w t o is h = subst (λ (xs : List World). StandsAt p xs w t) (sym (ap (λ (xs : List World). ws ++ xs) (is.none []) ∙ append-nil ws)) h
 
 pub version-rises : (w w' : World) (e : Happening) → w' ≡ after w e → w'.version ≤ w.version + 1
@@ -43,7 +44,7 @@ version-rises w w' e led = let v = ap (λ (x : World). x.version) led ∙ versio
 -- ---- all lines
 
 -- These lines were passed of all, and these are left.
-pub record IsReplayed (p : ℕ) (first w : World) (t : Timeline) (left all : List (Reads Saying)) : Type 0 where
+pub record IsReplayed (p : ℕ) (first w : World) (t : Progress) (left all : List (Reads Saying)) : Type 0 where
   pub ws : List World
   pub at : StandsAt p ws w t
   pub worlds_are : ws ++ accepted_worlds w left ≡ worlds first all
@@ -54,7 +55,7 @@ before Passes xs = refl
 before (Accepts next) xs = refl
 before (Refuses refusal) xs = refl
 
-pub replays_on : (p : ℕ) (first w w' : World) (t t' : Timeline) (line : Reads Saying) (left more all : List (Reads Saying)) → left ≡ line ∷ more → w' ≡ world_after w (outcome w line)
+pub replays_on : (p : ℕ) (first w w' : World) (t t' : Progress) (line : Reads Saying) (left more all : List (Reads Saying)) → left ≡ line ∷ more → w' ≡ world_after w (outcome w line)
     → ((ws : List World) → StandsAt p ws w t → StandsAt p (ws ++ where_accepted (outcome w line) []) w' t') → IsReplayed p first w t left all → IsReplayed p first w' t' more all
 replays_on p first w w' t t' line left more all is led goes r = record {
   ws = r.ws ++ where_accepted (outcome w line) [];
@@ -71,7 +72,7 @@ nothing_told p w none entries is =
     subst (λ (es : List (Key × Vec Change)). IsLog es (map (private_table p) (w ∷ []))) (sym is)
     (λ key. (omega arith, λ n low less. (let zero_is : n ≡ 0 = omega (arith, less) in ap (λ (k : ℕ). slice_get (values_at key (map (private_table p) (w ∷ []))) k) zero_is ∙ ap (λ v. Some v) (none key))))
 
-pub sessions_begin : (p : ℕ) (first : World) (t : Timeline) (s : PeerState) → slice_get first.peers p ≡ Some s → IsFirst first → t.begun.items ≡ [] → t.ended.items ≡ [] → StandsBy p (first ∷ []) first t
+pub sessions_begin : (p : ℕ) (first : World) (t : Progress) (s : PeerState) → slice_get first.peers p ≡ Some s → IsFirst first → t.begun.items ≡ [] → t.ended.items ≡ [] → StandsBy p (first ∷ []) first t
 sessions_begin p first t s there is begun ended =
     let up = is.down p s there in
     let none_had = is.none p s there in
@@ -89,7 +90,7 @@ sessions_begin p first t s there is begun ended =
       distinct = is.distinct;
     }
 
-pub replay_begins : (p : ℕ) (first w : World) (t : Timeline) (all : List (Reads Saying)) → p < length first.peers → IsFirst first → w ≡ first → t.log.changes ≡ [] → t.begun.items ≡ [] → t.ended.items ≡ [] → IsReplayed p first w t all all
+pub replay_begins : (p : ℕ) (first w : World) (t : Progress) (all : List (Reads Saying)) → p < length first.peers → IsFirst first → w ≡ first → t.log.changes ≡ [] → t.begun.items ≡ [] → t.ended.items ≡ [] → IsReplayed p first w t all all
 replay_begins p first w t all inside is same log begun ended =
     let peer = some_there first.peers p inside in
     let up = is.down p peer.0 peer.1 in
@@ -100,12 +101,16 @@ replay_begins p first w t all inside is same log begun ended =
     in
     subst (λ (x : World). IsReplayed p first x t all all) (sym same) (record { ws = first ∷ []; at = start; worlds_are = refl; last_is = refl })
 
-pub replay_ends : (p : ℕ) (first w : World) (t : Timeline) (left all : List (Reads Saying)) → left ≡ [] → IsReplayed p first w t left all → IsTimeline p (worlds first all) t × HasSessions p (last_world first all) t
-replay_ends p first w t left all none r =
+pub replay_ends : (p : ℕ) (first w : World) (t : Progress) (end : Timeline) (left all : List (Reads Saying)) → left ≡ [] → end.changes ≡ t.log.changes → end.begun ≡ t.begun → end.ended ≡ t.ended → IsReplayed p first w t left all
+    → IsTimeline p (worlds first all) end × HasSessions p (last_world first all) end
+replay_ends p first w t end left all none changes begun ended r =
     let whole : r.ws ≡ worlds first all = sym (append-nil r.ws) ∙ (sym (ap (λ (ls : List (Reads Saying)). r.ws ++ accepted_worlds w ls) none) ∙ r.worlds_are) in
-    let last : w ≡ last_world first all = sym (ap (last_world w) none) ∙ r.last_is in (
-      subst (λ (xs : List World). IsTimeline p xs t) whole (record { log = r.at.log; spans = r.at.by.spans }),
-      subst (λ (x : World). HasSessions p x t) last (λ s there. r.at.by.begun ∙ ap (λ (u : PeerState). u.sessions) (same_state r.at.by.state s (sym r.at.by.there ∙ there))),
+    let last : w ≡ last_world first all = sym (ap (last_world w) none) ∙ r.last_is in
+    let spans = subst (λ (es : Vec ℕ). (i from : ℕ) → slice_get end.begun.items i ≡ Some from → IsSpan p (suc i) r.ws from (end_of es.items i (length r.ws))) (sym ended)
+    (subst (λ (bs : Vec ℕ). (i from : ℕ) → slice_get bs.items i ≡ Some from → IsSpan p (suc i) r.ws from (end_of t.ended.items i (length r.ws))) (sym begun) r.at.by.spans) in (
+      subst (λ (xs : List World). IsTimeline p xs end) whole (record { log = subst (λ (es : List (Key × Vec Change)). IsLog es (map (private_table p) r.ws)) (sym changes) r.at.log; spans = spans }),
+      subst (λ (x : World). HasSessions p x end) last
+          (λ s there. ap (λ (bs : Vec ℕ). length bs.items) begun ∙ (r.at.by.begun ∙ ap (λ (u : PeerState). u.sessions) (same_state r.at.by.state s (sym r.at.by.there ∙ there)))),
     )
   where
     same_state : (a b : PeerState) → Some a ≡ Some b → a ≡ b

@@ -1,5 +1,5 @@
 -- What each peer should have, over all worlds.
-use Rattle.std.specs.Prelude.{◌≡◌, ℕ, ◌+◌, Bool, true, false, List, [], ◌∷◌, ◌++◌, length, slice_get, Option, Some, None}
+use Rattle.std.specs.Prelude.{◌≡◌, ℕ, ◌+◌, Bool, true, false, List, [], ◌∷◌, ◌++◌, length, map, slice_get, Option, Some, None}
 use Rattle.ug_types.specs.declared.key.Key.{Key}
 use Rattle.ug_events.specs.Events.{Happening}
 use Rattle.ug_outbound.specs.Keys.{ends_of}
@@ -10,7 +10,8 @@ use Rattle.ug_timeline.specs.declared.touched.Touched.{Touched}
 use Rattle.ug_timeline.specs.declared.group.Group.{Group}
 use Rattle.ug_timeline.specs.declared.seat.Seat.{Seat}
 use Rattle.ug_timeline.specs.declared.history.History.{History}
-use Rattle.ug_timeline.specs.GroupLogs.{IsNotedAt}
+use Rattle.ug_timeline.specs.declared.timelines.Timelines.{Timelines}
+use Rattle.ug_timeline.specs.GroupLogs.{Entries, IsNotedAt}
 use Rattle.ug_timeline.specs.Seats.{IsNew, IsLonger, IsTurned, IsSeatOf, AreGroups}
 
 -- those of sessions with ADD-PATH, or without it
@@ -26,6 +27,17 @@ pub record IsHistory (ws : List World) (w : World) (h : History) : Type 0 where
   pub many : length h.seats.items ≡ length w.peers
   pub groups : AreGroups ws h.groups.items
   pub seats : (p : ℕ) (seat : Seat) → slice_get h.seats.items p ≡ Some seat → IsSeatOf p ws w h.groups.items seat
+
+-- what went out to the peers of a group key
+abbrev pub entries_of : Group → Entries
+entries_of group = group.log.changes
+
+-- The logs are those of a history, and so are the seats.
+pub record AreTimelines (ws : List World) (w : World) (t : Timelines) : Type 0 where
+  pub history : History
+  pub is : IsHistory ws w history
+  pub logs_are : t.logs.items ≡ map entries_of history.groups.items
+  pub seats_are : t.seats ≡ history.seats
 
 -- a group after what goes out to it was noted
 pub record IsNotedOf (w : World) (touched : Touched) (old new : Group) : Type 0 where

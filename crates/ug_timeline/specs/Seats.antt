@@ -1,5 +1,5 @@
 -- What is kept of one peer, and of the groups.
-use Rattle.std.specs.Prelude.{◌≡◌, ◌≢◌, ℕ, ◌<◌, ◌⊎◌, Bool, true, false, List, [], ◌∷◌, ◌++◌, length, slice_get, Option, Some, None}
+use Rattle.std.specs.Prelude.{◌≡◌, ◌≢◌, ℕ, ◌<◌, ◌⊎◌, Bool, true, false, List, [], ◌∷◌, ◌++◌, length, slice_get, Option, Some, None, unwrap_or}
 use Rattle.ug_types.specs.declared.key.Key.{Key}
 use Rattle.ug_types.specs.declared.route.PeerEnds.{PeerEnds}
 use Rattle.ug_outbound.specs.declared.key.GroupKey.{GroupKey}
@@ -11,7 +11,7 @@ use Rattle.ug_timeline.specs.declared.since.Since.{Since}
 use Rattle.ug_timeline.specs.declared.group.Group.{Group}
 use Rattle.ug_timeline.specs.declared.seat.Seat.{Seat}
 use Rattle.ug_timeline.specs.Held.{held, last_held, IsRising}
-use Rattle.ug_timeline.specs.GroupLogs.{Outs, changes_in, IsNotedAt, IsGroupLog}
+use Rattle.ug_timeline.specs.GroupLogs.{Outs, Entries, changes_in, IsNotedAt, IsGroupLog}
 use Rattle.ug_timeline.specs.Merges.{told_if}
 use Rattle.ug_timeline.specs.Standing.{StandsBy, IsMarked}
 
@@ -39,6 +39,11 @@ outs_in q (Some group) = changes_in group.log.changes q
 
 abbrev pub outs_at : List Group → Option ℕ → Key → Outs
 outs_at groups place q = outs_in q (group_at groups place)
+
+-- the log at a place among those of the groups
+abbrev pub log_at : List Entries → Option ℕ → Entries
+log_at logs None = []
+log_at logs (Some place) = unwrap_or (slice_get logs place) []
 
 -- There is a group, of this key.
 abbrev pub IsKeyed : GroupKey → Option Group → Type 0

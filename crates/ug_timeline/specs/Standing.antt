@@ -10,7 +10,7 @@ use Rattle.ug_world.specs.Names.{are_distinct}
 use Rattle.ug_world.specs.Kept.{peer_name}
 use Rattle.ug_world.specs.Private.{private_table}
 use Rattle.ug_world.specs.Worlds.{in_session}
-use Rattle.ug_timeline.specs.declared.timeline.Timeline.{Timeline}
+use Rattle.ug_timeline.specs.declared.progress.Progress.{Progress}
 use Rattle.ug_timeline.specs.Timelines.{IsSpan, end_of}
 
 -- how many sessions are over
@@ -18,7 +18,7 @@ abbrev pub over : PeerState → ℕ
 over s = if s.up then s.sessions - 1 else s.sessions
 
 -- These worlds came, the last of them `w`, and this is known of the sessions of the peer.
-pub record StandsBy (p : ℕ) (ws : List World) (w : World) (t : Timeline) : Type 0 where
+pub record StandsBy (p : ℕ) (ws : List World) (w : World) (t : Progress) : Type 0 where
   pub spans : (i from : ℕ) → slice_get t.begun.items i ≡ Some from → IsSpan p (suc i) ws from (end_of t.ended.items i (length ws))
   pub front : List World
   pub parts : ws ≡ front ++ w ∷ []
@@ -32,7 +32,7 @@ pub record StandsBy (p : ℕ) (ws : List World) (w : World) (t : Timeline) : Typ
   pub distinct : are_distinct (map peer_name w.peers) ≡ true
 
 -- So it is, and of what it should have.
-pub record StandsAt (p : ℕ) (ws : List World) (w : World) (t : Timeline) : Type 0 where
+pub record StandsAt (p : ℕ) (ws : List World) (w : World) (t : Progress) : Type 0 where
   pub log : IsLog t.log.changes (map (private_table p) ws)
   pub by : StandsBy p ws w t
 
@@ -41,7 +41,7 @@ abbrev pub IsNotedFor : ℕ → World → List Key → List (Key × Vec Change) 
 IsNotedFor p w keys old new = AreNoted w.version keys (map (private_table p w) keys) old new
 
 -- A session begins with the world of this version, or is over there, where the peer has had one more, or isn't up.
-pub record IsMarked (s : PeerState) (version : ℕ) (old new : Timeline) : Type 0 where
+pub record IsMarked (s : PeerState) (version : ℕ) (old new : Progress) : Type 0 where
   pub log : new.log ≡ old.log
   pub begun : new.begun.items ≡ (if nat_lt (length old.begun.items) s.sessions then old.begun.items ++ (version - 1) ∷ [] else old.begun.items)
   pub ended : new.ended.items ≡ (if not s.up && nat_lt (length old.ended.items) (length new.begun.items) then old.ended.items ++ version ∷ [] else old.ended.items)

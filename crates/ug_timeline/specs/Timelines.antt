@@ -35,7 +35,7 @@ abbrev pub end_of : List ℕ → ℕ → ℕ → ℕ
 end_of ended i all = unwrap_or (slice_get ended i) all
 
 pub record IsTimeline (p : ℕ) (ws : List World) (t : Timeline) : Type 0 where
-  pub log : IsLog t.log.changes (map (private_table p) ws)
+  pub log : IsLog t.changes (map (private_table p) ws)
   pub spans : (i from : ℕ) → slice_get t.begun.items i ≡ Some from → IsSpan p (suc i) ws from (end_of t.ended.items i (length ws))
 
 -- It knows of each session that the peer had.

@@ -1,6 +1,6 @@
-//! What each peer should have, in one pass over the events.
+//! What goes out to each group, in one pass over the events.
 
-ghost use Rattle.std.specs.Prelude.{◌≡◌, ◌≤◌, ◌<◌, ◌+◌, ◌∷◌, ◌++◌, [], List, None, length, slice_get, Some, true, IfOk, OnOk, IfSome};
+ghost use Rattle.std.specs.Prelude.{◌≡◌, ◌≤◌, ◌<◌, ◌+◌, ◌∷◌, ◌++◌, [], List, None, length, slice_get, Some, IfOk, OnOk};
 ghost use Rattle.ug_pieces.specs.Lines.{lines_of};
 ghost use Rattle.ug_events.specs.Events.{IsEvent};
 ghost use Rattle.ug_events.specs.Views.{event_of};
@@ -10,15 +10,13 @@ ghost use Rattle.ug_world.specs.Verdicts.{verdict};
 ghost use Rattle.ug_world.specs.After.{after};
 ghost use Rattle.ug_world.specs.Worlds.{worlds, last_world, outcome, world_after, where_accepted};
 ghost use Rattle.ug_timeline.specs.Lines.{said_in};
-ghost use Rattle.ug_timeline.specs.Timelines.{IsFirst, IsTimeline, HasSessions};
+ghost use Rattle.ug_timeline.specs.Timelines.{IsFirst};
 ghost use Rattle.ug_timeline.specs.Seats.{IsLonger};
 ghost use Rattle.ug_timeline.specs.Histories.{IsHistory, AreNotedFor, IsTurnedIf, AreTurned, AreNew};
 
 use crate::accepting::accepted;
 use crate::group::Group;
-use crate::replay::timeline_of;
 use crate::seat::{Seat, turn};
-use crate::timeline::Timeline;
 use crate::touched::Touched;
 use std::alloc::Global;
 use std::marker::Brand;
@@ -36,44 +34,6 @@ pub struct History {
 }
 
 impl History {
-    /// What a peer should have in the world of each version, and between which versions its sessions were: from what goes out
-    /// to its group, where that can be, and else worked out from the events for this peer alone.
-    pub fn timeline(
-        &self,
-        alloc: Global,
-        first: &World,
-        id: PeerId,
-        events: &[u8],
-    ) -> Result<Timeline, NoMemory>
-        requires id { id < length first.now.peers }
-        requires first { IsFirst first.now }
-        requires version { length (lines_of events.now) < 4294967295 }
-        requires history { IsHistory (worlds first.now (said_in events.now)) (last_world first.now (said_in events.now)) self.now }
-        ensures timeline { IfOk result (IsTimeline id (worlds first.now (said_in events.now))) }
-        ensures sessions { IfOk result (HasSessions id (last_world first.now (said_in events.now))) }
-    {
-        let Some(seat) = self.shared(id) else {
-            return timeline_of(alloc, first, id, events);
-        };
-        let timeline = seat.timeline(alloc, &self.groups)?;
-        Ok(timeline)
-    }
-
-    /// The seat of a peer that shares what goes out to its group.
-    fn shared(&self, id: PeerId) -> Option<&Seat>
-        ensures { IfSome result (λ seat. (slice_get self.now.seats.items id ≡ Some seat.now) × (seat.now.shared ≡ true)) }
-    {
-        let place = id as usize;
-        if place >= self.seats.len() {
-            return None;
-        }
-        let seat = &self.seats[place];
-        if !seat.shared {
-            return None;
-        }
-        Some(seat)
-    }
-
     /// The world goes on by a line, and what each peer should have with it.
     fn note_line<L: Ledger>(
         &mut self,
@@ -186,11 +146,13 @@ fn turn_if<L: Ledger>(
     Ok(())
 }
 
-/// What each peer should have, in the worlds to which the events lead from the first one.
-pub fn history_of(alloc: Global, first: &World, events: &[u8]) -> Result<History, NoMemory>
+/// What goes out to each group, and what is kept of each peer, in the worlds to which the events lead from the first one; and
+/// the last of these worlds.
+pub fn history_of(alloc: Global, first: &World, events: &[u8]) -> Result<(History, World), NoMemory>
     requires first { IsFirst first.now }
     requires version { length (lines_of events.now) < 4294967295 }
-    ensures { IfOk result (IsHistory (worlds first.now (said_in events.now)) (last_world first.now (said_in events.now))) }
+    ensures history { IfOk result (λ found. IsHistory (worlds first.now (said_in events.now)) (last_world first.now (said_in events.now)) found.0) }
+    ensures last { IfOk result (λ found. found.1 ≡ last_world first.now (said_in events.now)) }
 {
     counted::<Brand>(alloc, Blank::new(1), first, events)
 }
@@ -201,13 +163,14 @@ fn counted<L: Ledger>(
     blank: Blank,
     first: &World,
     events: &[u8],
-) -> Result<History, NoMemory>
+) -> Result<(History, World), NoMemory>
     requires name { blank.name ≡ L.name }
     requires parts { blank.parts ≡ L.parts }
     requires some { 0 < blank.parts }
     requires first { IsFirst first.now }
     requires version { length (lines_of events.now) < 4294967295 }
-    ensures { IfOk result (IsHistory (worlds first.now (said_in events.now)) (last_world first.now (said_in events.now))) }
+    ensures history { IfOk result (λ found. IsHistory (worlds first.now (said_in events.now)) (last_world first.now (said_in events.now)) found.0) }
+    ensures last { IfOk result (λ found. found.1 ≡ last_world first.now (said_in events.now)) }
 {
     let mut steps = Steps::<L>::new(blank);
     let mut world = first.copy(alloc)?;
@@ -220,7 +183,7 @@ fn counted<L: Ledger>(
         rest = behind;
         history.note_line(alloc, &mut reader, &mut world, line, &mut steps)?;
     }
-    Ok(history)
+    Ok((history, world))
 }
 
 /// A seat for each peer, before any event.

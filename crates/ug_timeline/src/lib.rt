@@ -10,15 +10,17 @@ mod keys;
 mod laws;
 mod merging;
 mod passing;
+mod progress;
 mod replay;
 mod routes;
 mod same_key;
 mod seat;
 mod since;
 mod timeline;
+mod timelines;
 mod touched;
 
 pub use history::{History, history_of};
 pub use laws::spans_are_courses;
-pub use replay::{last_world, timeline_of};
 pub use timeline::Timeline;
+pub use timelines::Timelines;

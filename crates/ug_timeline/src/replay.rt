@@ -6,7 +6,8 @@ ghost use Rattle.ug_world.specs.Worlds.{worlds, last_world};
 ghost use Rattle.ug_timeline.specs.Lines.{said_in};
 ghost use Rattle.ug_timeline.specs.Timelines.{IsFirst, IsTimeline, HasSessions};
 
-use crate::passing::{note_line, pass_line};
+use crate::passing::note_line;
+use crate::progress::Progress;
 use crate::timeline::Timeline;
 use std::alloc::Global;
 use std::marker::Brand;
@@ -15,21 +16,6 @@ use ug_events::LineReader;
 use ug_lines::next_line;
 use ug_types::{NoMemory, PeerId, Steps};
 use ug_world::World;
-
-/// The world to which lines of events lead.
-pub fn last_world(alloc: Global, first: World, events: &[u8]) -> Result<World, NoMemory>
-    requires { first.version + length (lines_of events.now) < 4294967295 }
-    ensures { IfOk result (λ last. last ≡ last_world first (said_in events.now)) }
-{
-    let mut world = first;
-    let mut reader = LineReader::new(alloc);
-    let mut rest = events;
-    while let Some((line, behind)) = next_line(rest) {
-        rest = behind;
-        pass_line(alloc, &mut reader, &mut world, line)?;
-    }
-    Ok(world)
-}
 
 /// What a peer should have in the world of each version, and between which versions its sessions were.
 pub fn timeline_of(
@@ -66,7 +52,7 @@ fn counted<L: Ledger>(
 {
     let mut steps = Steps::<L>::new(blank);
     let mut world = first.copy(alloc)?;
-    let mut timeline = Timeline::new(alloc);
+    let mut progress = Progress::new(alloc);
     let mut reader = LineReader::new(alloc);
     let mut rest = events;
     while let Some((line, behind)) = next_line(rest) {
@@ -77,9 +63,10 @@ fn counted<L: Ledger>(
             &mut world,
             id,
             line,
-            &mut timeline,
+            &mut progress,
             &mut steps,
         )?;
     }
+    let timeline = Timeline::of(alloc, progress)?;
     Ok(timeline)
 }

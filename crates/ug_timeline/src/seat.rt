@@ -1,6 +1,6 @@
 //! What is kept of one peer.
 
-ghost use Rattle.std.specs.Prelude.{◌≡◌, ◌<◌, Some, true, false, length, slice_get, IfOk, OnOk, IfSome};
+ghost use Rattle.std.specs.Prelude.{◌≡◌, ◌<◌, [], Some, true, false, length, slice_get, IfOk, OnOk, IfSome};
 ghost use Rattle.ug_types.specs.declared.key.Key as routes;
 ghost use Rattle.ug_events.specs.Views.{event_of};
 ghost use Rattle.ug_world.specs.declared.peer_state.PeerState as peers;
@@ -10,18 +10,20 @@ ghost use Rattle.ug_types.specs.Bytes.{same_bytes};
 ghost use Rattle.ug_timeline.specs.Held.{last_held};
 ghost use Rattle.ug_timeline.specs.GroupLogs.{changes_in};
 ghost use Rattle.ug_timeline.specs.Merges.{IsTold};
-ghost use Rattle.ug_timeline.specs.Seats.{IsNew, Rises, IsKeyed, IsSameOrNone, IsLonger, IsTurned, IsSeatedUp, outs_at};
+ghost use Rattle.ug_timeline.specs.Seats.{IsNew, Rises, IsKeyed, IsSameOrNone, IsLonger, IsTurned, IsSeatedUp, log_at};
 
 use crate::group::Group;
 use crate::group_log::GroupChange;
 use crate::merging::{Teller, merged};
+use crate::progress::Progress;
 use crate::same_key::are_same;
 use crate::since::Since;
 use crate::timeline::Timeline;
 use std::alloc::Global;
 use std::sync::ledger::Ledger;
+use ug_climb::Change;
 use ug_events::Event;
-use ug_hearing::{KeyMap, Log};
+use ug_hearing::{KeyList, KeyMap};
 use ug_outbound::{GroupKey, Peer, key_of};
 use ug_types::{Name, NoMemory, PeerEnds, PeerId, Steps};
 use ug_world::World;
@@ -31,7 +33,7 @@ use ug_world::World;
 #[derive(Drop)]
 pub struct Seat {
     pub ends: PeerEnds,
-    pub sessions: Timeline,
+    pub sessions: Progress,
     pub ups: Vec<Since<bool>>,
     pub group: Option<usize>,
     pub shared: bool,
@@ -44,7 +46,7 @@ impl Seat {
     {
         Seat {
             ends,
-            sessions: Timeline::new(alloc),
+            sessions: Progress::new(alloc),
             ups: Vec::new(alloc),
             group: None,
             shared: true,
@@ -66,48 +68,72 @@ impl Seat {
     }
 
     /// What the peer should have, of what goes out to its group, and its sessions.
-    pub fn timeline(&self, alloc: Global, groups: &[Group]) -> Result<Timeline, NoMemory>
-        ensures log { IfOk result (λ timeline. (q : routes.Key) → IsTold self.now.ends self.now.ups.items (outs_at groups.now self.now.group q) (changes_of timeline.log.changes q)) }
+    pub fn timeline(
+        &self,
+        alloc: Global,
+        logs: &[KeyList<Vec<GroupChange>>],
+    ) -> Result<Timeline, NoMemory>
+        ensures changes { IfOk result (λ timeline. (q : routes.Key) → IsTold self.now.ends self.now.ups.items (changes_in (log_at logs.now self.now.group) q) (changes_of timeline.changes q)) }
         ensures begun { IfOk result (λ timeline. timeline.begun.items ≡ self.now.sessions.begun.items) }
         ensures ended { IfOk result (λ timeline. timeline.ended.items ≡ self.now.sessions.ended.items) }
     {
-        let log = self.log(alloc, groups)?;
+        let changes = self.changes(alloc, logs)?;
         let begun = copy_all(alloc, &self.sessions.begun)?;
         let ended = copy_all(alloc, &self.sessions.ended)?;
-        Ok(Timeline { log, begun, ended })
+        Ok(Timeline {
+            changes,
+            begun,
+            ended,
+        })
     }
 
     /// What the peer should have, of what goes out to its group.
-    fn log(&self, alloc: Global, groups: &[Group]) -> Result<Log, NoMemory>
-        ensures { IfOk result (λ log. (q : routes.Key) → IsTold self.now.ends self.now.ups.items (outs_at groups.now self.now.group q) (changes_of log.changes q)) }
+    fn changes(
+        &self,
+        alloc: Global,
+        logs: &[KeyList<Vec<GroupChange>>],
+    ) -> Result<KeyList<Vec<Change>>, NoMemory>
+        ensures { IfOk result (λ changes. (q : routes.Key) → IsTold self.now.ends self.now.ups.items (changes_in (log_at logs.now self.now.group) q) (changes_of changes q)) }
     {
         let Some(place) = self.group else {
-            return Ok(Log::new(alloc));
+            let nothing = no_changes(alloc)?;
+            return Ok(nothing);
         };
-        if place >= groups.len() {
-            return Ok(Log::new(alloc));
+        if place >= logs.len() {
+            let nothing = no_changes(alloc)?;
+            return Ok(nothing);
         }
-        let log = self.log_of(alloc, &groups[place].log.changes)?;
-        Ok(log)
+        let changes = self.changes_of(alloc, &logs[place])?;
+        Ok(changes)
     }
 
-    /// The same, key by key.
-    fn log_of(&self, alloc: Global, outs_by_key: &KeyMap<Vec<GroupChange>>) -> Result<Log, NoMemory>
-        ensures { IfOk result (λ log. (q : routes.Key) → IsTold self.now.ends self.now.ups.items (changes_in outs_by_key.now q) (changes_of log.changes q)) }
+    /// The same, key by key. The keys are those of the group, in the same memory.
+    fn changes_of(
+        &self,
+        alloc: Global,
+        outs: &KeyList<Vec<GroupChange>>,
+    ) -> Result<KeyList<Vec<Change>>, NoMemory>
+        ensures { IfOk result (λ changes. (q : routes.Key) → IsTold self.now.ends self.now.ups.items (changes_in outs.now q) (changes_of changes q)) }
     {
-        let count = outs_by_key.len();
-        let mut pairs = Vec::with_capacity(alloc, count)?;
+        let keys = outs.keys().share()?;
+        let count = outs.len();
+        let mut values = Vec::with_capacity(alloc, count)?;
         let mut teller = Teller::new(self.ends);
         let ups = self.ups.as_slice();
-        for (key, outs) in outs_by_key.iter() {
-            let changes = merged(alloc, &mut teller, ups, outs.as_slice())?;
-            pairs.push((*key, changes))?;
+        for place in 0..count {
+            let (_, changes) = outs.at(place);
+            let told = merged(alloc, &mut teller, ups, changes.as_slice())?;
+            values.push(told)?;
         }
-        let changes_by_key = KeyMap::of_pairs(alloc, pairs)?;
-        Ok(Log {
-            changes: changes_by_key,
-        })
+        Ok(KeyList::over(keys, values))
     }
+}
+
+/// No changes of any key.
+fn no_changes(alloc: Global) -> Result<KeyList<Vec<Change>>, NoMemory>
+    ensures { IfOk result (λ changes. changes ≡ []) }
+{
+    KeyList::of_map(alloc, KeyMap::new(alloc))
 }
 
 /// Whether the peer was up last.

@@ -2,34 +2,27 @@
 use Rattle.std.proofs.Common.{◌≡◌, ◌⊎◌, inl, inr, ℕ, zero, suc, Bool, List, [], ◌∷◌, ◌++◌, map, reverse, slice_get, Some, refl, sym, ◌∙◌, ap, subst}
 use Rattle.std.specs.Prelude.{◌||◌}
 use Rattle.std.specs.List.{list_any}
-use Rattle.std.specs.List.Sorted.{IsStrictlySortedBy}
-use Rattle.std.specs.Map.{keys_of}
 use Rattle.std.proofs.lemmas.List.{map-append, reverse-reverse}
 use Rattle.ug_types.specs.declared.key.Key.{Key}
 use Rattle.ug_types.specs.Keys.{same_key}
-use Rattle.ug_types.specs.Orders.{key_cmp}
 use Rattle.ug_types.specs.Messages.{Message}
 use Rattle.ug_table_rules.specs.Tables.{Table, among}
 use Rattle.ug_climb.specs.Shifts.{Shift, shifts_from}
 use Rattle.ug_session_rules.specs.Certificates.{KeyClimb, AreClimbs}
-use Rattle.ug_hearing.specs.declared.row.Row.{Row}
 use Rattle.ug_hearing.specs.declared.course.Course.{Course}
 use Rattle.ug_hearing.specs.declared.standings.Standings.{Standings}
 use Rattle.ug_hearing.specs.Rows.{IsChain, row_for}
 use Rattle.ug_hearing.specs.Heard.{IsHeard}
-use Rattle.ug_hearing.proofs.Listed.{among-there}
 use Rattle.ug_verdict.specs.declared.climbs.Climb.{Climb}
 use Rattle.ug_verdict.specs.Climbed.{climb_of, IsBack, AreRowClimbs}
 
 abbrev key_of : KeyClimb → Key
 key_of k = k.key
 
-pub keys-last : (climbs : List Climb) (c : Climb) (done : List (Key × Row)) (e : Key × Row) → c.key ≡ e.0 → map (λ (k : KeyClimb). k.key) (map climb_of climbs) ≡ keys_of done
-    → map (λ (k : KeyClimb). k.key) (map climb_of (climbs ++ c ∷ [])) ≡ keys_of (done ++ e ∷ [])
-keys-last climbs c done e same h =
+pub keys-last : (climbs : List Climb) (c : Climb) (done : List Key) → map (λ (k : KeyClimb). k.key) (map climb_of climbs) ≡ done → map (λ (k : KeyClimb). k.key) (map climb_of (climbs ++ c ∷ [])) ≡ done ++ c.key ∷ []
+keys-last climbs c done h =
     ap (λ (xs : List KeyClimb). map (λ (k : KeyClimb). k.key) xs) (map-append climb_of climbs (c ∷ []))
-    ∙ (map-append (λ (k : KeyClimb). k.key) (map climb_of climbs) (climb_of c ∷ [])
-    ∙ (ap (λ (ks : List Key). ks ++ c.key ∷ []) h ∙ (ap (λ (k : Key). keys_of done ++ k ∷ []) same ∙ sym (map-append (λ (x : Key × Row). x.0) done (e ∷ [])))))
+    ∙ (map-append (λ (k : KeyClimb). k.key) (map climb_of climbs) (climb_of c ∷ []) ∙ ap (λ (ks : List Key). ks ++ c.key ∷ []) h)
 
 last-or : (xs : List KeyClimb) (x k : KeyClimb) (i : ℕ) → slice_get (xs ++ x ∷ []) i ≡ Some k → (slice_get xs i ≡ Some k) ⊎ (k ≡ x)
 last-or [] x k zero is = inr (sym (let e : Some x ≡ Some k = is in cc))
@@ -54,8 +47,8 @@ any_keys key (k ∷ climbs) = ap (λ (b : Bool). same_key key k.key || b) (any_k
 pub all-climbs : (st : Standings) (course : Course) (climbs : List KeyClimb) (past tables : List Table) (refreshing : Bool) (ms : List Message) → AreRowClimbs st course climbs
     → IsHeard course.changes course.from course.to past tables st refreshing ms → AreClimbs past ms climbs
 all-climbs st course climbs past tables refreshing ms h heard = record {
-  ascending = subst (λ (ks : List Key). IsStrictlySortedBy key_cmp ks) (sym h.keys) h.ascending;
-  named = λ key. any_keys key climbs ∙ (ap (λ (ks : List Key). among ks key) h.keys ∙ (sym (among-there st.rows key) ∙ heard.named key));
+  ascending = h.ascending;
+  named = λ key. any_keys key climbs ∙ (h.keys key ∙ heard.named key);
   each = λ i k is.
       let row = heard.rows k.key in
       record {

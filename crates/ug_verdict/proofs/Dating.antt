@@ -1,18 +1,19 @@
 -- Changes in the order of their versions.
-use Rattle.std.proofs.Common.{◌≡◌, inl, inr, ℕ, zero, suc, ◌+◌, ◌<◌, ◌≤◌, Bool, true, false, cond, List, [], ◌∷◌, ◌++◌, length, map, slice_get, get_or, Option, Some, None, refl, sym, ◌∙◌, ap, subst, arith}
+use Rattle.std.proofs.Common.{◌≡◌, inl, inr, ℕ, zero, suc, ◌+◌, ◌<◌, ◌≤◌, Bool, true, false, cond, List, [], ◌∷◌, ◌++◌, length, map, slice_get, get_or, Some, refl, sym, ◌∙◌, ap, subst, arith}
 use Rattle.std.specs.Global.{Vec}
 use Rattle.std.specs.List.{Contains}
+use Rattle.std.specs.Map.{keys_of}
 use Rattle.std.specs.List.Sorted.{IsPermutation, IsNonDecreasingBy}
 use Rattle.std.proofs.lemmas.Bool.{cases_lt}
 use Rattle.std.proofs.lemmas.List.Sorted.{Contains-permutation}
 use Rattle.ug_types.specs.declared.key.Key.{Key}
 use Rattle.ug_types.specs.Keys.{same_key}
 use Rattle.ug_climb.specs.declared.change.Change.{Change}
-use Rattle.ug_hearing.specs.Keyed.{value_for}
+use Rattle.ug_hearing.specs.Keyed.{value_for, IsPlaceOf}
 use Rattle.ug_hearing.specs.Courses.{changes_of, items_or_none}
 use Rattle.ug_hearing.proofs.Keys.{same_is}
 use Rattle.ug_verdict.specs.declared.dated.Dated.{Dated}
-use Rattle.ug_verdict.specs.Watched.{dated_at, dates_in, AreUpTo}
+use Rattle.ug_verdict.specs.Watched.{dated_at, dates_from}
 use Rattle.ug_verdict.proofs.Between.{got, within}
 
 same_some : {T : Type 0} (a b : T) → Some a ≡ Some b → a ≡ b
@@ -33,20 +34,31 @@ further : (xs ys : List Dated) (j : ℕ) (d : Dated) → slice_get ys j ≡ Some
 further [] ys j d is = (j, is)
 further (x ∷ xs) ys j d is = let rest = further xs ys j d is in (suc rest.0, rest.1)
 
-mapped : (key : Key) (cs : List Change) (i : ℕ) (c : Change) → slice_get cs i ≡ Some c → slice_get (map (dated_at key) cs) i ≡ Some (dated_at key c)
-mapped key [] i c is = absurd cc
-mapped key (x ∷ cs) zero c is = let same : x ≡ c = same_some x c is in ap (λ (y : Change). Some (dated_at key y)) same
-mapped key (x ∷ cs) (suc i) c is = mapped key cs i c is
+mapped : (n : ℕ) (cs : List Change) (i : ℕ) (c : Change) → slice_get cs i ≡ Some c → slice_get (map (dated_at n) cs) i ≡ Some (dated_at n c)
+mapped n [] i c is = absurd cc
+mapped n (x ∷ cs) zero c is = let same : x ≡ c = same_some x c is in ap (λ (y : Change). Some (dated_at n y)) same
+mapped n (x ∷ cs) (suc i) c is = mapped n cs i c is
 
 -- each change of each key is in the list of all
-pub all-in : (entries : List (Key × Vec Change)) (q : Key) (i : ℕ) (c : Change) → slice_get (changes_of entries q) i ≡ Some c → (j : ℕ) × (slice_get (dates_in entries) j ≡ Some (dated_at q c))
-all-in [] q i c is = absurd cc
-all-in (e ∷ entries) q i c is = by (same_key q e.0) refl is (λ is. all-in entries q i c is)
+pub all-in : (n : ℕ) (entries : List (Key × Vec Change)) (q : Key) (i : ℕ) (c : Change) → slice_get (changes_of entries q) i ≡ Some c
+    → (j : ℕ) × (p : ℕ) × (slice_get (dates_from n entries) j ≡ Some (dated_at (n + p) c)) × IsPlaceOf q (keys_of entries) p
+all-in n [] q i c is = absurd cc
+all-in n (e ∷ entries) q i c is = by (same_key q e.0) refl is (λ is. all-in (n + 1) entries q i c is)
   where
     by : (b : Bool) → same_key q e.0 ≡ b → slice_get (items_or_none (cond b (Some e.1) (value_for entries q))) i ≡ Some c
-        → (slice_get (changes_of entries q) i ≡ Some c → (j : ℕ) × (slice_get (dates_in entries) j ≡ Some (dated_at q c))) → (j : ℕ) × (slice_get (dates_in (e ∷ entries)) j ≡ Some (dated_at q c))
-    by true same is rest = (i, in_front (map (dated_at e.0) e.1.items) (dates_in entries) i (dated_at q c) (subst (λ (k : Key). slice_get (map (dated_at k) e.1.items) i ≡ Some (dated_at q c)) (same_is q e.0 same) (mapped q e.1.items i c is)))
-    by false other is rest = let there = rest is in further (map (dated_at e.0) e.1.items) (dates_in entries) there.0 (dated_at q c) there.1
+        → (slice_get (changes_of entries q) i ≡ Some c → (j : ℕ) × (p : ℕ) × (slice_get (dates_from (n + 1) entries) j ≡ Some (dated_at (n + 1 + p) c)) × IsPlaceOf q (keys_of entries) p)
+        → (j : ℕ) × (p : ℕ) × (slice_get (dates_from n (e ∷ entries)) j ≡ Some (dated_at (n + p) c)) × IsPlaceOf q (keys_of (e ∷ entries)) p
+    by true same is rest =
+        let here : n ≡ n + 0 = omega arith in (
+          i,
+          0,
+          subst (λ m. slice_get (dates_from n (e ∷ entries)) i ≡ Some (dated_at m c)) here (in_front (map (dated_at n) e.1.items) (dates_from (n + 1) entries) i (dated_at n c) (mapped n e.1.items i c is)),
+          ap Some (sym (same_is q e.0 same)),
+        )
+    by false other is rest =
+        let r = rest is in
+        let there = further (map (dated_at n) e.1.items) (dates_from (n + 1) entries) r.0 (dated_at (n + 1 + r.1) c) r.2 in
+        let on : n + 1 + r.1 ≡ n + suc r.1 = omega arith in (there.0, suc r.1, subst (λ m. slice_get (dates_from n (e ∷ entries)) there.0 ≡ Some (dated_at m c)) on there.1, r.3)
 
 contains : (xs : List Dated) (j : ℕ) (d : Dated) → slice_get xs j ≡ Some d → Contains xs d
 contains [] j d is = absurd cc

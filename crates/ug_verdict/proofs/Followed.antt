@@ -1,5 +1,5 @@
 -- What is watched, as it goes on.
-use Rattle.std.proofs.Common.{◌≡◌, ◌⊎◌, inl, inr, ℕ, zero, suc, ◌<◌, ◌≤◌, Bool, true, false, List, [], ◌∷◌, ◌++◌, slice_get, Option, Some, refl, sym, ◌∙◌, ap, subst, arith}
+use Rattle.std.proofs.Common.{◌≡◌, ◌⊎◌, inl, inr, ℕ, ◌<◌, ◌≤◌, Bool, true, false, List, slice_get, Option, Some, refl, sym, ◌∙◌, ap, subst, arith}
 use Rattle.std.specs.Prelude.{◌||◌, unwrap_or, Result, Ok, Err, OnOk}
 use Rattle.std.specs.Global.{Vec}
 use Rattle.std.proofs.lemmas.Bool.{cases_lt}
@@ -9,12 +9,12 @@ use Rattle.ug_climb.specs.declared.change.Change.{Change}
 use Rattle.ug_climb.specs.Pasts.{value_before}
 use Rattle.ug_hearing.specs.declared.row.Row.{Row}
 use Rattle.ug_hearing.specs.Keyed.{value_for}
-use Rattle.ug_hearing.specs.Courses.{changes_of, passed, value_in}
+use Rattle.ug_hearing.specs.Courses.{changes_of, value_in}
 use Rattle.ug_hearing.specs.Rows.{first_row}
 use Rattle.ug_verdict.specs.declared.dated.Dated.{Dated}
 use Rattle.ug_verdict.specs.declared.watch.Watch.{Watch}
 use Rattle.ug_verdict.specs.Differences.{IsSame}
-use Rattle.ug_verdict.specs.Watched.{dated_at, AreDates, AreUpTo, IsWatched, AllSame, AreMet}
+use Rattle.ug_verdict.specs.Watched.{IsDateOf, AreDates, AreUpTo, IsWatched, AllSame, AreMet}
 use Rattle.ug_verdict.specs.Naming.{KeepsDates, Loses, Names, Moves}
 use Rattle.ug_verdict.proofs.Dating.{not-beyond}
 use Rattle.ug_verdict.proofs.Versions.{between, same-version}
@@ -92,17 +92,17 @@ module _ (entries : List (Key × Vec Change)) (from : ℕ) where
           | inl level ↦ same-version rows entries from old.version version q level (w.same known q never)
           | inr there ↦
               (let listed = (w.dates dated).listed q there.0 there.1 there.2 in
-              at listed.0 there.1 listed.1 there.3 there.4)
+              at listed.0 there.1 listed.1 listed.2 listed.3 there.3 there.4)
         ]
       ]
         where
-          at : (j : ℕ) (c : Change) → slice_get old.dates.items j ≡ Some (dated_at q c) → old.version < c.place → c.place ≤ version → IsSame rows entries from version q
-          at j c is after up = elim (cases_lt j to) [
+          at : (j : ℕ) (c : Change) (d : Dated) → slice_get old.dates.items j ≡ Some d → IsDateOf entries q c d → old.version < c.place → c.place ≤ version → IsSame rows entries from version q
+          at j c d is date after up = elim (cases_lt j to) [
             | inl sooner ↦ elim (cases_lt j old.passed) [
-              | inl before ↦ (let few = w.passed j (dated_at q c) is before in absurd (omega arith))
-              | inr behind ↦ met.same j (dated_at q c) is behind sooner
+              | inl before ↦ (let few = w.passed j d is before in let same = date.version in absurd (omega (arith, few, same, after)))
+              | inr behind ↦ met.same j d is behind sooner q date.place
             ]
-            | inr far ↦ absurd (not-beyond old.dates.items version to j (dated_at q c) (w.dates dated).rise is far met.behind up)
+            | inr far ↦ absurd (not-beyond old.dates.items version to j d (w.dates dated).rise is far met.behind (subst (λ n. n ≤ version) (sym date.version) up))
           ]
 
       pub up-to-met : IsWatched rows entries from old → AreUpTo old.dates.items to version

@@ -10,3 +10,4 @@ pub mod Messages
 pub mod Ending
 pub mod Chains
 pub mod Climbing
+pub mod Walked

@@ -1,29 +1,36 @@
 -- What is known of all keys at one version, and how the next is met.
-use Rattle.std.specs.Prelude.{◌≡◌, ℕ, ◌<◌, ◌≤◌, false, true, List, [], ◌∷◌, ◌++◌, map, slice_get, Option, Some, None, IsSome}
+use Rattle.std.specs.Prelude.{◌≡◌, ℕ, ◌+◌, ◌<◌, ◌≤◌, false, true, List, [], ◌∷◌, ◌++◌, map, slice_get, Some}
 use Rattle.std.specs.Global.{Vec}
 use Rattle.std.specs.List.Sorted.{IsNonDecreasingBy}
+use Rattle.std.specs.Map.{keys_of}
 use Rattle.ug_types.specs.declared.key.Key.{Key}
 use Rattle.ug_types.specs.declared.mark.Mark.{Mark}
 use Rattle.ug_table_rules.specs.Tables.{among}
 use Rattle.ug_climb.specs.declared.change.Change.{Change}
 use Rattle.ug_hearing.specs.declared.row.Row.{Row}
+use Rattle.ug_hearing.specs.Keyed.{IsPlaceOf}
 use Rattle.ug_hearing.specs.Courses.{changes_of}
 use Rattle.ug_verdict.specs.declared.dated.Dated.{Dated}
 use Rattle.ug_verdict.specs.declared.watch.Watch.{Watch}
 use Rattle.ug_verdict.specs.Differences.{IsSame}
 use Rattle.ug_verdict.specs.Marked.{IsMarkIn}
 
-abbrev pub dated_at : Key → Change → Dated
-dated_at key c = record { version = c.place; key = key }
+abbrev pub dated_at : ℕ → Change → Dated
+dated_at place c = record { version = c.place; place = place }
 
--- the changes of all keys, each with its version
-abbrev pub dates_in : List (Key × Vec Change) → List Dated
-dates_in [] = []
-dates_in (e ∷ entries) = map (dated_at e.0) e.1.items ++ dates_in entries
+-- the changes of all keys, each with its version and the place of its key, which are counted from a number on
+abbrev pub dates_from : ℕ → List (Key × Vec Change) → List Dated
+dates_from n [] = []
+dates_from n (e ∷ entries) = map (dated_at n) e.1.items ++ dates_from (n + 1) entries
+
+-- It tells this change of this key.
+pub record IsDateOf (entries : List (Key × Vec Change)) (q : Key) (c : Change) (d : Dated) : Type 0 where
+  pub version : d.version ≡ c.place
+  pub place : IsPlaceOf q (keys_of entries) d.place
 
 -- Each change of each key is among these, and their versions do not fall.
 pub record AreDates (entries : List (Key × Vec Change)) (dates : List Dated) : Type 0 where
-  pub listed : (q : Key) (i : ℕ) (c : Change) → slice_get (changes_of entries q) i ≡ Some c → (j : ℕ) × (slice_get dates j ≡ Some (dated_at q c))
+  pub listed : (q : Key) (i : ℕ) (c : Change) → slice_get (changes_of entries q) i ≡ Some c → (j : ℕ) × (d : Dated) × (slice_get dates j ≡ Some d) × IsDateOf entries q c d
   pub rise : IsNonDecreasingBy (λ (d : Dated). d.version) dates
 
 -- The first of these are of versions up to this.
@@ -42,7 +49,7 @@ AllSame rows entries from version = (q : Key) → IsSame rows entries from versi
 
 -- Of the changes from one on those up to the version were looked at, and their keys are as in its table.
 pub record AreMet (rows : List (Key × Row)) (entries : List (Key × Vec Change)) (from version : ℕ) (dates : List Dated) (passed to : ℕ) : Type 0 where
-  pub same : (j : ℕ) (d : Dated) → slice_get dates j ≡ Some d → passed ≤ j → j < to → IsSame rows entries from version d.key
+  pub same : (j : ℕ) (d : Dated) → slice_get dates j ≡ Some d → passed ≤ j → j < to → (q : Key) → IsPlaceOf q (keys_of entries) d.place → IsSame rows entries from version q
   pub up_to : (j : ℕ) (d : Dated) → slice_get dates j ≡ Some d → passed ≤ j → j < to → d.version ≤ version
   pub behind : (d : Dated) → slice_get dates to ≡ Some d → version < d.version
 

@@ -44,9 +44,12 @@ impl Judge {
 fn climbs_of(alloc: Global, standings: &Standings, course: &Course) -> Result<Vec<Climb>, NoMemory>
     ensures { IfOk result (λ climbs. AreRowClimbs standings.now course.now (map climb_of climbs.items)) }
 {
-    let count = standings.rows.len();
-    let mut climbs = Vec::with_capacity(alloc, count)?;
-    for (key, row) in standings.rows.iter() {
+    let named = standings.rows.named(alloc)?;
+    let mut climbs = Vec::with_capacity(alloc, named.len())?;
+    let mut near = 0;
+    for key in &named {
+        near = course.near(near, key);
+        let row = standings.row(course, near, course.changes_of(near, key), key);
         let moves = moves_back(alloc, &standings.moves, row.moved)?;
         climbs.push(Climb { key: *key, moves })?;
     }

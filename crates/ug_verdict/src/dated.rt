@@ -1,8 +1,6 @@
-use ug_types::Key;
-
-/// A version from which on a key has another value.
+/// A version from which on a key has another value. The key is told by its place in the course.
 #[derive(Clone, Copy, Debug)]
 pub struct Dated {
     pub version: u32,
-    pub key: Key,
+    pub place: usize,
 }

@@ -1,14 +1,14 @@
 //! The changes of all keys in the order of their versions.
 
 ghost use Rattle.std.specs.Prelude.{◌≡◌, ◌++◌, map, IfOk, IfSome, OnOk};
-ghost use Rattle.ug_verdict.specs.Watched.{dated_at, dates_in, AreDates, AreUpTo, AreMet};
+ghost use Rattle.ug_verdict.specs.Watched.{dated_at, dates_from, AreDates, AreUpTo, AreMet};
 
 use crate::dated::Dated;
-use crate::differences::is_as_in;
+use crate::differences::is_as_at;
 use std::alloc::Global;
 use ug_climb::Change;
 use ug_hearing::{Course, Standings};
-use ug_types::{Key, NoMemory};
+use ug_types::NoMemory;
 
 /// The changes of all keys in the order of their versions.
 pub fn dates_of(alloc: Global, course: &Course) -> Result<Vec<Dated>, NoMemory>
@@ -25,23 +25,24 @@ pub fn dates_of(alloc: Global, course: &Course) -> Result<Vec<Dated>, NoMemory>
 
 /// The changes of all keys, key by key.
 fn dates_by_key(alloc: Global, course: &Course) -> Result<Vec<Dated>, NoMemory>
-    ensures { IfOk result (λ dates. dates.items ≡ dates_in course.now.changes) }
+    ensures { IfOk result (λ dates. dates.items ≡ dates_from 0 course.now.changes) }
 {
     let mut dates = Vec::new(alloc);
-    for (key, changes) in course.changes.iter() {
-        add_dates(&mut dates, key, changes)?;
+    for place in 0..course.changes.len() {
+        let (_key, changes) = course.changes.at(place);
+        add_dates(&mut dates, place, changes)?;
     }
     Ok(dates)
 }
 
-/// Adds the changes of a key.
-fn add_dates(dates: &mut Vec<Dated>, key: &Key, changes: &[Change]) -> Result<(), NoMemory>
-    ensures { OnOk result (dates.new.items ≡ dates.old.items ++ map (dated_at key.now) changes.now) }
+/// Adds the changes of the key at a place.
+fn add_dates(dates: &mut Vec<Dated>, place: usize, changes: &[Change]) -> Result<(), NoMemory>
+    ensures { OnOk result (dates.new.items ≡ dates.old.items ++ map (dated_at place) changes.now) }
 {
     for change in changes {
         dates.push(Dated {
             version: change.place,
-            key: *key,
+            place,
         })?;
     }
     Ok(())
@@ -73,7 +74,7 @@ pub fn met_up_to(
         if dates[i].version as u64 > version {
             return Some(i);
         }
-        if !is_as_in(standings, course, version, &dates[i].key) {
+        if !is_as_at(standings, course, version, dates[i].place) {
             return None;
         }
     }

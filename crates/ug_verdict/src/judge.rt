@@ -1,6 +1,6 @@
 //! A session judged message by message.
 
-ghost use Rattle.std.specs.Prelude.{◌≡◌, List, OnOk, [], ◌∷◌, ◌++◌};
+ghost use Rattle.std.specs.Prelude.{◌≡◌, List, IfOk, OnOk, [], ◌∷◌, ◌++◌};
 ghost use Rattle.ug_types.specs.Messages.{Message, message_of};
 ghost use Rattle.ug_table_rules.specs.Tables.{Table};
 ghost use Rattle.ug_verdict.specs.Marked.{IsWorst, AreMarksOf};
@@ -31,12 +31,13 @@ pub struct Judge {
 
 impl Judge {
     /// The judge of a session before its first message.
-    pub fn new(alloc: Global, session: &Session) -> Judge
-        ensures { (past : List Table) (tables : List Table) → IsSession session.now past tables → IsJudged session.now past tables result [] }
+    pub fn new(alloc: Global, session: &Session) -> Result<Judge, NoMemory>
+        ensures { IfOk result (λ judge. (past : List Table) (tables : List Table) → IsSession session.now past tables → IsJudged session.now past tables judge []) }
     {
+        let standings = Standings::new(alloc, &session.course)?;
         let mut judge = Judge {
             hearing: Hearing {
-                standings: Standings::new(alloc),
+                standings,
                 refreshing: false,
             },
             messages: 0,
@@ -46,7 +47,7 @@ impl Judge {
         };
         let to = marks_of(session, 0, 0);
         judge.look(session, to);
-        judge
+        Ok(judge)
     }
 
     /// The session's next message comes. 2^64 - 1 messages count as out of memory; after that nothing

@@ -40,9 +40,10 @@ pub fn worst_key(standings: &Standings, session: &Session, from: usize, to: usiz
         return None;
     }
     let span = span_of(session, from, to);
-    let _keys = session.course.changes.len();
-    for (key, _changes) in session.course.changes.iter() {
-        if differs_at_one(standings, session, from, to, span, key) {
+    let changes = &session.course.changes;
+    for place in 0..changes.len() {
+        let (key, _changes) = changes.at(place);
+        if differs_at_one(standings, session, from, to, span, place, key) {
             return Some(*key);
         }
     }
@@ -79,13 +80,14 @@ fn with_version(span: Span, version: u64) -> Span
     }
 }
 
-/// Whether the key differs, by its row, at one of these marks, whose versions are in the span.
+/// Whether the key, which is looked for near a place, differs by its row at one of these marks, whose versions are in the span.
 fn differs_at_one(
     standings: &Standings,
     session: &Session,
     from: usize,
     to: usize,
     span: Span,
+    near: usize,
     key: &Key,
 ) -> bool
     requires some { from < to }
@@ -96,17 +98,17 @@ fn differs_at_one(
 {
     let course = &session.course;
     let syncs = session.syncs.as_slice();
-    let changes = course.changes_of(key);
+    let changes = course.changes_of(near, key);
     let first = passed(changes, span.first);
     let last = passed(changes, span.last);
     if first == last {
-        return !is_as_in(standings, course, syncs[from].version, key);
+        return !is_as_in(standings, course, syncs[from].version, near, key);
     }
     for i in from..to {
         if i >= syncs.len() {
             return false;
         }
-        if !is_as_in(standings, course, syncs[i].version, key) {
+        if !is_as_in(standings, course, syncs[i].version, near, key) {
             return true;
         }
     }

@@ -1,4 +1,5 @@
 use Rattle.std.proofs.Common.{[], sym, subst}
+use Rattle.ug_pieces.specs.ReadingLaws.{TakesFront-none}
 use Rattle.ug_verdict.specs.declared.session.Session.{Session}
 use Rattle.ug_audit.specs.Heard.{HasHeard}
 use Rattle.ug_audit.specs.Verdicts.{IsVerdictOn, most_bytes}
@@ -6,19 +7,22 @@ use Rattle.ug_audit.proofs.Halting.{stop_of, same_of}
 use Rattle.ug_audit.proofs.reader.hear.Goals as goal
 
 pub returns-in-Err-clause-stopped : goal.returns-in-Err-clause-stopped
-returns-in-Err-clause-stopped g c =
-    let h = c.in-Err.ensures.halted in
-    record { read = h.read; taken = h.taken; so = stop_of c.in-Err.halt c.new-listener.result c.read_pieces.new.taker c.args.session.now c.read_pieces.new.context h.read h.so }
+returns-in-Err-clause-stopped g c = record { read = []; taken = TakesFront-none (g.E.Source.left c.args.source.now); so = tt }
 
-pub returns-in-Err-clause-same : goal.returns-in-Err-clause-same
-returns-in-Err-clause-same g c = let h = c.in-Err.ensures.halted in same_of c.in-Err.halt c.new-listener.result c.read_pieces.new.taker c.args.session.now c.read_pieces.new.context h.read h.so
+pub returns-in-Err-read_pieces-clause-stopped : goal.returns-in-Err-read_pieces-clause-stopped
+returns-in-Err-read_pieces-clause-stopped g c =
+    let h = c.in-Err-read_pieces.ensures.halted in
+    record { read = h.read; taken = h.taken; so = stop_of c.in-Err-read_pieces.halt c.in-Ok.listener c.read_pieces.new.taker c.args.session.now c.read_pieces.new.context h.read h.so }
+
+pub returns-in-Err-read_pieces-clause-same : goal.returns-in-Err-read_pieces-clause-same
+returns-in-Err-read_pieces-clause-same g c = let h = c.in-Err-read_pieces.ensures.halted in same_of c.in-Err-read_pieces.halt c.in-Ok.listener c.read_pieces.new.taker c.args.session.now c.read_pieces.new.context h.read h.so
 
 pub returns-in-Ok-verdict_of-clause-ok : goal.returns-in-Ok-verdict_of-clause-ok
 unfolding most_bytes
 returns-in-Ok-verdict_of-clause-ok g c =
-    let h = c.in-Ok.ensures.ok in
+    let h = c.in-Ok-read_pieces.ensures.ok in
     let same = h.so.2.0 in
-    let heard = h.so.2.1 c.args.capabilities [] c.new-listener.ensures.heard in
+    let heard = h.so.2.1 c.args.capabilities [] c.in-Ok.ensures.heard in
     record {
       read = h.read;
       taken = h.taken;

@@ -2,7 +2,7 @@ use Rattle.std.proofs.Common.{List, ℕ, length, map, ap, arith}
 use Rattle.ug_events.specs.Grammar.{line_of}
 use Rattle.ug_world.specs.World.{World}
 use Rattle.ug_timeline.specs.Lines.{said_in}
-use Rattle.ug_timeline.proofs.HistorySteps.{noting-begins, noting-goes-on, noting-ends}
+use Rattle.ug_timeline.proofs.HistorySteps.{noting-begins, noting-goes-on, noting-ends, noting-last}
 use Rattle.ug_timeline.proofs.history.counted.Goals as goal
 
 pub loop-line-init : goal.loop-line-init
@@ -27,6 +27,10 @@ loop-line-preserved g c =
       room = omega (arith, room, version, count);
     }
 
-pub returns : goal.returns
-returns g c =
+pub returns-clause-history : goal.returns-clause-history
+returns-clause-history g c =
     noting-ends c.args.first.now c.loop-line.world c.loop-line.history (said_in c.loop-line.rest.now) (said_in c.args.events.now) (ap (λ (ls : List (List ℕ)). map line_of ls) c.in_default.ensures.none) c.loop-line.invariant.noted
+
+pub returns-clause-last : goal.returns-clause-last
+returns-clause-last g c =
+    noting-last c.args.first.now c.loop-line.world c.loop-line.history (said_in c.loop-line.rest.now) (said_in c.args.events.now) (ap (λ (ls : List (List ℕ)). map line_of ls) c.in_default.ensures.none) c.loop-line.invariant.noted

@@ -13,7 +13,7 @@ loop-line-init g c =
     let zero_is = c.requires.first.version in
     let inside = c.requires.id in
     record {
-      replayed = replay_begins c.args.id c.args.first.now c.in_ok-world.world c.new-timeline.result (said_in c.args.events.now) c.requires.id c.requires.first same c.new-timeline.ensures.changes c.new-timeline.ensures.begun c.new-timeline.ensures.ended;
+      replayed = replay_begins c.args.id c.args.first.now c.in_ok-world.world c.new-progress.result (said_in c.args.events.now) c.requires.id c.requires.first same c.new-progress.ensures.changes c.new-progress.ensures.begun c.new-progress.ensures.ended;
       inside = omega (arith, peers, inside);
       room = omega (arith, version, zero_is);
     }
@@ -27,7 +27,7 @@ loop-line-preserved g c =
     let peers = c.in_ok-note_line.ensures.peers in
     let version = c.in_ok-note_line.ensures.version in
     record {
-      replayed = replays_on c.args.id c.args.first.now c.loop-line.world c.note_line.new.world c.loop-line.timeline c.note_line.new.timeline (line_of c.in-Some.line.now) (said_in c.loop-line.rest.now) (said_in c.in-Some.behind.now) (said_in c.args.events.now)
+      replayed = replays_on c.args.id c.args.first.now c.loop-line.world c.note_line.new.world c.loop-line.progress c.note_line.new.progress (line_of c.in-Some.line.now) (said_in c.loop-line.rest.now) (said_in c.in-Some.behind.now) (said_in c.args.events.now)
           (ap (λ (ls : List (List ℕ)). map line_of ls) some) c.in_ok-note_line.ensures.world c.in_ok-note_line.ensures.stands c.loop-line.invariant.replayed;
       inside = omega (arith, inside, peers);
       room = omega (arith, room, version, count);
@@ -35,4 +35,10 @@ loop-line-preserved g c =
 
 pub returns-clause-timeline : goal.returns-clause-timeline
 returns-clause-timeline g c =
-    (replay_ends c.args.id c.args.first.now c.loop-line.world c.loop-line.timeline (said_in c.loop-line.rest.now) (said_in c.args.events.now) (ap (λ (ls : List (List ℕ)). map line_of ls) c.in_default.ensures.none) c.loop-line.invariant.replayed).0
+    (replay_ends c.args.id c.args.first.now c.loop-line.world c.loop-line.progress c.in_ok-timeline.timeline (said_in c.loop-line.rest.now) (said_in c.args.events.now) (ap (λ (ls : List (List ℕ)). map line_of ls) c.in_default.ensures.none)
+    c.in_ok-timeline.ensures.changes c.in_ok-timeline.ensures.begun c.in_ok-timeline.ensures.ended c.loop-line.invariant.replayed).0
+
+pub returns-clause-sessions : goal.returns-clause-sessions
+returns-clause-sessions g c =
+    (replay_ends c.args.id c.args.first.now c.loop-line.world c.loop-line.progress c.in_ok-timeline.timeline (said_in c.loop-line.rest.now) (said_in c.args.events.now) (ap (λ (ls : List (List ℕ)). map line_of ls) c.in_default.ensures.none)
+    c.in_ok-timeline.ensures.changes c.in_ok-timeline.ensures.begun c.in_ok-timeline.ensures.ended c.loop-line.invariant.replayed).1

@@ -6,7 +6,7 @@ use Rattle.ug_timeline.proofs.replay.counted.Given as goal
 
 abbrev pub invariant-loop-line : goal.invariant-loop-line
 invariant-loop-line g l = record {
-  replayed : IsReplayed l.id l.first l.world l.timeline (said_in l.rest) (said_in l.events);
+  replayed : IsReplayed l.id l.first l.world l.progress (said_in l.rest) (said_in l.events);
   inside : l.id < length l.world.peers;
   room : l.world.version + length (lines_of l.rest) ≤ length (lines_of l.events);
 }

@@ -1,6 +1,6 @@
-use Rattle.std.proofs.Common.{◌≡◌, ◌++◌}
-use Rattle.ug_verdict.specs.Watched.{dates_in}
+use Rattle.std.proofs.Common.{◌≡◌, ◌++◌, drop}
+use Rattle.ug_verdict.specs.Watched.{dates_from}
 use Rattle.ug_verdict.proofs.dates.dates_by_key.Given as goal
 
-abbrev pub invariant-loop-key : goal.invariant-loop-key
-invariant-loop-key l = l.dates.items ++ dates_in l.key-iterator ≡ dates_in l.course.changes
+abbrev pub invariant-loop-place : goal.invariant-loop-place
+invariant-loop-place l = l.dates.items ++ dates_from l.place (drop l.place l.course.changes) ≡ dates_from 0 l.course.changes

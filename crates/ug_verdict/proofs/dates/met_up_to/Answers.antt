@@ -1,25 +1,31 @@
 use Rattle.std.proofs.Common.{◌≤◌, length, inl, inr, sym, subst, arith}
 use Rattle.std.proofs.lemmas.Bool.{cases_lt}
+use Rattle.std.specs.Map.{keys_of}
+use Rattle.ug_types.specs.declared.key.Key.{Key}
+use Rattle.ug_hearing.specs.Keyed.{IsPlaceOf}
 use Rattle.ug_verdict.specs.declared.dated.Dated.{Dated}
 use Rattle.ug_verdict.specs.Differences.{IsSame}
 use Rattle.ug_verdict.proofs.Between.{beyond}
 use Rattle.ug_verdict.proofs.Dating.{last-one}
 use Rattle.ug_verdict.proofs.dates.met_up_to.Goals as goal
 
+abbrev empty : Dated
+empty = record { version = 0; place = 0 }
+
 pub loop-i-preserved : goal.loop-i-preserved
 loop-i-preserved c = record {
   same = λ j d is low high. elim (cases_lt j c.loop-i.i) [
     | inl sooner ↦ c.loop-i.invariant.same j d is low sooner
     | inr far ↦
-        subst (λ (x : Dated). IsSame c.args.standings.now.rows c.args.course.now.changes c.args.course.now.from c.args.version x.key)
-        (sym (last-one c.args.dates.now c.loop-i.i j c.index-dates-i-in-loop-i.result d c.loop-i-test.true is high (λ less. omega (arith, less, far))))
-        (c.is_as_in.ensures.0 c.if-not-is_as_in.false)
+        subst (λ (x : Dated). (q : Key) → IsPlaceOf q (keys_of c.args.course.now.changes) x.place → IsSame c.args.standings.now.rows c.args.course.now.changes c.args.course.now.from c.args.version q)
+        (sym (last-one c.args.dates.now c.loop-i.i j empty d c.loop-i-test.true is high (λ less. omega (arith, less, far))))
+        (c.is_as_at.ensures c.if-not-is_as_at.false)
   ];
   up_to = λ j d is low high. elim (cases_lt j c.loop-i.i) [
     | inl sooner ↦ c.loop-i.invariant.up_to j d is low sooner
     | inr far ↦
         subst (λ (x : Dated). x.version ≤ c.args.version)
-        (sym (last-one c.args.dates.now c.loop-i.i j c.index-dates-i.result d c.loop-i-test.true is high (λ less. omega (arith, less, far)))) c.if-dates-i.false
+        (sym (last-one c.args.dates.now c.loop-i.i j empty d c.loop-i-test.true is high (λ less. omega (arith, less, far)))) c.if-dates-i.false
   ];
 }
 

@@ -1,4 +1,4 @@
-use Rattle.std.proofs.Common.{◌≡◌, ◌<◌, ◌∙◌, List, length, inl, inr, sym, ap, subst, arith}
+use Rattle.std.proofs.Common.{◌<◌, ◌∙◌, List, length, inl, inr, sym, ap, subst, arith}
 use Rattle.ug_types.specs.declared.mark.Mark.{Mark}
 use Rattle.ug_climb.specs.declared.change.Change.{Change}
 use Rattle.ug_hearing.specs.Courses.{passed}

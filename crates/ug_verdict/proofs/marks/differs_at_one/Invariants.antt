@@ -1,4 +1,3 @@
-use Rattle.ug_types.specs.declared.mark.Mark.{Mark}
 use Rattle.ug_verdict.specs.Marked.{IsSameAtAll}
 use Rattle.ug_verdict.proofs.marks.differs_at_one.Given as goal
 

@@ -1,4 +1,4 @@
-use Rattle.std.proofs.Common.{◌≡◌, ◌≢◌, ℕ, zero, suc, ◌≤◌, inl, inr, List, [], ◌∷◌, length, slice_get, Some, refl, sym, ◌∙◌, ap, subst, arith}
+use Rattle.std.proofs.Common.{◌≡◌, ◌≢◌, ℕ, ◌≤◌, inl, inr, List, slice_get, Some, refl, sym, ◌∙◌, ap, subst, arith}
 use Rattle.ug_types.specs.declared.mark.Mark.{Mark}
 use Rattle.ug_verdict.specs.Marked.{IsMarkIn, AreMarksOf}
 use Rattle.ug_verdict.proofs.Between.{got, last-mark, no-marks, beyond}
