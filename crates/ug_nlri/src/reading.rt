@@ -1,4 +1,4 @@
-ghost use Rattle.std.specs.Prelude.{◌≡◌, ◌≤◌, ◌++◌, true, length, drop, replicate, IfOk, MatchResult, Ok, Err};
+ghost use Rattle.std.specs.Prelude.{◌≡◌, ◌≤◌, [], ◌∷◌, ◌++◌, true, length, drop, replicate, IfOk, MatchResult, Ok, Err};
 ghost use Rattle.byteorder.specs.Endian.{big_number};
 ghost use Rattle.ug_types.specs.declared.family.Family.TheVariants.{V4};
 ghost use Rattle.ug_types.specs.Ip.{width_of};
@@ -73,9 +73,30 @@ fn prefix_from(family: Family, len: u8, bytes: &[u8]) -> Prefix
     Prefix::new(family, leading_number(bytes), len).unwrap()
 }
 
+/// Up to sixteen bytes as a number of 128 bits, left aligned. Most prefixes have up to four, which takes less time.
+fn leading_number(bytes: &[u8]) -> u128
+    requires { length bytes.now ≤ 16 }
+    ensures { result ≡ big_number 16 bytes.now }
+{
+    match bytes {
+        [a, b, c] => leading_four(*a, *b, *c, 0),
+        [a, b] => leading_four(*a, *b, 0, 0),
+        [a, b, c, d] => leading_four(*a, *b, *c, *d),
+        [a] => leading_four(*a, 0, 0, 0),
+        _ => leading_sixteen(bytes),
+    }
+}
+
+/// Four bytes as a number of 128 bits, left aligned.
+fn leading_four(a: u8, b: u8, c: u8, d: u8) -> u128
+    ensures { result ≡ big_number 16 (a ∷ b ∷ c ∷ d ∷ []) }
+{
+    (BigEndian::read_u32(&[a, b, c, d]) as u128) << 96
+}
+
 /// Up to sixteen bytes as a number of 128 bits, left aligned.
 #[tactic(auto, using(crate::proofs::Padding::padded))]
-fn leading_number(bytes: &[u8]) -> u128
+fn leading_sixteen(bytes: &[u8]) -> u128
     requires { length bytes.now ≤ 16 }
     ensures { result ≡ big_number 16 bytes.now }
 {

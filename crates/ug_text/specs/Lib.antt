@@ -7,3 +7,4 @@ pub mod Grouped
 pub mod Paths
 pub mod Lists
 pub mod Rows
+pub mod Fronted

@@ -1,22 +1,59 @@
 //! Addresses and prefixes as text.
 
-ghost use Rattle.std.specs.Prelude.{◌≡◌, ◌++◌, ◌≤◌, OnOk, false};
+ghost use Rattle.std.specs.Prelude.{◌≡◌, ◌+◌, ◌++◌, ◌≤◌, OnOk, false};
 ghost use Rattle.std.specs.String.{string_bytes};
 ghost use Rattle.std.specs.Fmt.{digits};
+ghost use Rattle.ug_types.specs.declared.family.Family.TheVariants.{V4, V6};
 ghost use Rattle.ug_text.specs.Texts.{dotted, leading, last_digit, grouped, four_groups, three_groups, group, group_text, bits_text, address_text, prefix_text};
 
+use crate::from_end::FromEnd;
 use ug_types::{Addr, Family, NoMemory, Prefix};
 
-/// Adds four numbers with points between, the high eight bits first.
+/// Adds four numbers with points between in front of the text, the high eight bits first.
 #[tactic(auto, unfolding(crate::specs::Texts::dotted))]
+fn put_dotted(text: &mut FromEnd, number: u32)
+    requires { 43 ≤ text.old.room }
+    ensures text { text.new.text ≡ dotted number ++ text.old.text }
+    ensures room { text.old.room ≤ text.new.room + 43 }
+{
+    text.put_number(number % 256);
+    text.put_byte(b'.');
+    text.put_number(number / 256 % 256);
+    text.put_byte(b'.');
+    text.put_number(number / 65536 % 256);
+    text.put_byte(b'.');
+    text.put_number(number / 16777216);
+}
+
+/// Adds four numbers with points between, the high eight bits first.
 pub fn write_dotted(out: &mut String, number: u32) -> Result<(), NoMemory>
     ensures { OnOk result (string_bytes out.new ≡ string_bytes out.old ++ dotted number) }
 {
-    let a = number / 16777216;
-    let b = number / 65536 % 256;
-    let c = number / 256 % 256;
-    let d = number % 256;
-    write!(out, "{a}.{b}.{c}.{d}")?;
+    let mut text = FromEnd::new();
+    put_dotted(&mut text, number);
+    out.push_str(text.as_str())?;
+    Ok(())
+}
+
+/// Adds the prefix of IPv4 in front of the text: four numbers with points between, a slash and the length.
+#[tactic(auto, unfolding(crate::specs::Texts::prefix_text))]
+pub fn put_ipv4_prefix(text: &mut FromEnd, prefix: Prefix)
+    requires family { prefix.family ≡ V4 }
+    requires room { 54 ≤ text.old.room }
+    ensures text { text.new.text ≡ prefix_text prefix ++ text.old.text }
+{
+    text.put_number(prefix.len as u32);
+    text.put_byte(b'/');
+    put_dotted(text, leading(prefix.bits));
+}
+
+fn write_ipv4_prefix(out: &mut String, prefix: Prefix) -> Result<(), NoMemory>
+    requires { prefix.family ≡ V4 }
+    ensures { OnOk result (string_bytes out.new ≡ string_bytes out.old ++ prefix_text prefix) }
+{
+    let mut text = FromEnd::new();
+    put_ipv4_prefix(&mut text, prefix);
+    out.push_str(text.as_str())?;
     Ok(())
 }
 
@@ -135,13 +172,23 @@ pub fn write_address(out: &mut String, address: Addr) -> Result<(), NoMemory>
     write_bits(out, address.family, address.bits)
 }
 
-/// Adds a prefix: its address, a slash and its length.
 #[tactic(auto, unfolding(crate::specs::Texts::prefix_text))]
-pub fn write_prefix(out: &mut String, prefix: Prefix) -> Result<(), NoMemory>
+fn write_ipv6_prefix(out: &mut String, prefix: Prefix) -> Result<(), NoMemory>
+    requires { prefix.family ≡ V6 }
     ensures { OnOk result (string_bytes out.new ≡ string_bytes out.old ++ prefix_text prefix) }
 {
     let len = prefix.len;
-    write_bits(out, prefix.family, prefix.bits)?;
+    write_grouped(out, prefix.bits)?;
     write!(out, "/{len}")?;
     Ok(())
+}
+
+/// Adds a prefix: its address, a slash and its length.
+pub fn write_prefix(out: &mut String, prefix: Prefix) -> Result<(), NoMemory>
+    ensures { OnOk result (string_bytes out.new ≡ string_bytes out.old ++ prefix_text prefix) }
+{
+    match prefix.family {
+        Family::V4 => write_ipv4_prefix(out, prefix),
+        Family::V6 => write_ipv6_prefix(out, prefix),
+    }
 }

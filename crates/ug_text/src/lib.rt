@@ -6,6 +6,7 @@ mod address;
 mod address_reader;
 mod attributes;
 mod cutting;
+mod from_end;
 mod ipv6_reader;
 mod list_reader;
 mod lists;

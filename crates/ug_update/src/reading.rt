@@ -152,7 +152,7 @@ fn routes_in(
     ensures exact { Gives (λ keys. keys.items) result (routes_in family add_path place bytes.now) }
     ensures within { IfErr result (IsWithin (place + length bytes.now)) }
 {
-    let mut keys = Vec::new(alloc);
+    let mut keys = Vec::with_capacity(alloc, bytes.len() / 4)?;
     let mut at = 0;
     while at < bytes.len() {
         let (_, rest) = bytes.split_at(at);

@@ -21,5 +21,5 @@ loop-at-preserved c =
 
 pub returns-in_err-key-clause-exact : goal.returns-in_err-key-clause-exact
 returns-in_err-key-clause-exact c =
-    let p = err_from_is_err_and c.from_residual.result c.from_residual.ensures.1 in
+    let p = err_from_is_err_and c.from_residual-in_err-key.result c.from_residual-in_err-key.ensures.1 in
     rw (p.1, p.2) (routes_stop c.args.family c.args.add_path c.args.place c.loop-at.at c.loop-at.keys.items (fault_of c.in_err-key.field-0.0) c.args.bytes.now c.split_at.result.1.now c.split_at.ensures.back (omega arith) c.loop-at.invariant.same c.in_err-key.ensures.exact)
