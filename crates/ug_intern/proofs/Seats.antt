@@ -183,10 +183,13 @@ module _ {T : Type 0} where
         let w = place_of (at slots id) x (sym (at_seen entries slots id) ∙ h) in
         subst (λ z. eq value z ≡ false) w.4 (all_at (λ e. eq value e.0 ≡ false) entries (none_passes_from_lookup (eq value) entries none) w.0.place w.2 w.3)
 
+    -- an entry with an equal value
+    pub entry_found : (value : T) (place : ℕ) (e : T × ℕ) → slice_get entries place ≡ Some e → eq value e.0 ≡ true → (x : Held T) × (held (pooled slots entries) e.1 ≡ Some x) × (eq value x.value ≡ true)
+    entry_found value place e p same =
+        let w = k.named place e p in (record { value = e.0; uses = w.0 }, at_seen entries slots e.1 ∙ ap (seen entries) w.1 ∙ ap (held_by w.0) p, same)
+
     pub found_at : (value : T) (id : ℕ) → lookup (eq value) entries ≡ Some id → (x : Held T) × (held (pooled slots entries) id ≡ Some x) × (eq value x.value ≡ true)
-    found_at value id some =
-        let f = place_from_lookup (eq value) entries id some in let w = k.named f.0 (f.1, id) f.2 in
-        (record { value = f.1; uses = w.0 }, at_seen entries slots id ∙ ap (seen entries) w.1 ∙ ap (held_by w.0) f.2, f.3)
+    found_at value id some = let f = place_from_lookup (eq value) entries id some in entry_found value f.0 (f.1, id) f.2 f.3
 
     pub none_of_new : (value : T) → IsNew eq (pooled slots entries) value → lookup (eq value) entries ≡ None
     none_of_new value fresh = by (lookup (eq value) entries) refl

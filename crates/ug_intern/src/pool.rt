@@ -119,10 +119,24 @@ impl<T: Eq + Hash + Drop> Pool<T> {
         ensures known { IfSome result (λ id. (x : Held T) × (held self.now id ≡ Some x) × (T.eq value.now x.value ≡ true)) }
         ensures none { IfNone result (IsNew T.eq self.now value.now) }
     {
+        if let Some(id) = self.find_last(value) {
+            return Some(id);
+        }
         match self.values.get(value) {
             Some(id) => Some(*id),
             None => None,
         }
+    }
+
+    /// The id of the last live value of the list, where this one is equal to it: values that come one after another are often
+    /// the same, and it needs no hash.
+    fn find_last(&self, value: &T) -> Option<AttrId>
+        ensures { IfSome result (λ id. (x : Held T) × (held self.now id ≡ Some x) × (T.eq value.now x.value ≡ true)) }
+    {
+        let Some((last, id)) = self.values.last() else {
+            return None;
+        };
+        if *value == *last { Some(*id) } else { None }
     }
 
     /// A new id for a value that is equal to no live one. Running out of memory, or of ids, changes nothing.

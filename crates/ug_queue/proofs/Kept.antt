@@ -115,9 +115,6 @@ pub no_none : (o : Option ℕ) → IsSome o → o ≡ None → ⊥
 no_none None h e = cc
 no_none (Some c) h e = cc
 
-pub some_none : (o : Option ℕ) (p : ℕ) → o ≡ None → o ≡ Some p → ⊥
-some_none o p e h = cc
-
 pub false_true : false ≡ true → ⊥
 false_true e = cc
 

@@ -1,7 +1,7 @@
 -- The packets that every member has passed, and what is left when they are gone.
-use Rattle.std.proofs.Common.{◌≡◌, ℕ, zero, suc, ◌+◌, ◌-◌, ◌<◌, ◌≤◌, inl, inr, Bool, cond, List, [], ◌∷◌, length, drop, slice_get, Some, None, refl, ap, ◌∙◌, arith, length-drop}
+use Rattle.std.proofs.Common.{◌≡◌, ℕ, zero, suc, ◌+◌, ◌-◌, ◌<◌, ◌≤◌, inl, inr, Bool, cond, List, [], ◌∷◌, length, drop, slice_get, Option, Some, None, refl, ap, ◌∙◌, arith, length-drop}
 use Rattle.std.proofs.Math.Seq.{drop-drop}
-use Rattle.std.specs.Prelude.{min}
+use Rattle.std.specs.Prelude.{min, IsSome}
 use Rattle.std.specs.Map.{lookup}
 use Rattle.std.specs.Ordering.{nat_cmp, match_ordering, is_eq}
 use Rattle.std.specs.declared.cmp.Ordering.{Ordering}
@@ -71,6 +71,11 @@ module _ {P : Type 0} where
       let packets : drop (passed q) q.packets ≡ q.packets = ap (λ k. drop k q.packets) e in
       let places : mapped (λ p. p - passed q) q.places ≡ q.places = mapped_same (λ p. p - passed q) (λ p. omega (arith, e)) q.places in
       λ i. record { packets = packets i; places = places i; limit = q.limit }
+
+  -- who has packets to take is a member
+  pub some_place : (packets : List P) (o : Option ℕ) → 0 < length (from_place packets o) → IsSome o
+  some_place packets None lt = absurd (omega (arith, lt))
+  some_place packets (Some p) lt = refl
 
   pub rest_from : (q : Queued P) (m p : ℕ) → place_of q m ≡ Some p → rest_of q m ≡ drop p q.packets
   rest_from q m p e = ap (from_place q.packets) e

@@ -1,10 +1,11 @@
 //! The packets and the members' cursors, before packets that nobody waits for are dropped.
-ghost use Rattle.std.specs.Prelude.{◌≡◌, ◌+◌, ◌-◌, ◌<◌, ◌≤◌, ◌^◌, ℕ, length, get_or, slice_get, slice_set, IfOk, OnOk, OnErr, IfErr, IsTrue, ◌↔◌, false, Some, None};
-ghost use Rattle.std.specs.Map.{keys_of};
+ghost use Rattle.std.specs.Prelude.{◌≡◌, ◌+◌, ◌-◌, ◌<◌, ◌≤◌, ◌%◌, ◌^◌, ℕ, length, get_or, slice_get, slice_set, IfOk, OnOk, OnErr, IfErr, IsTrue, ◌↔◌, false, Some, None, IsSome};
+ghost use Rattle.std.specs.Map.{keys_of, lookup};
+ghost use Rattle.std.specs.BTreeMap.{insert_entry};
 ghost use Rattle.std.specs.List.Sorted.{IsStrictlySortedBy};
 ghost use Rattle.std.specs.Ordering.{nat_cmp};
 ghost use Rattle.ug_queue.specs.Rests.{IsInside};
-ghost use Rattle.ug_queue.specs.Queues.{empty_queue, with_packet, with_member, without_member, past_next, without_first, place_of, rest_of, IsMember, passed, standing};
+ghost use Rattle.ug_queue.specs.Queues.{empty_queue, with_packet, with_member, without_member, past_next, without_first, place_of, rest_of, is_member, IsMember, passed, standing};
 
 use std::alloc::Global;
 use std::collections::{BTreeMap, VecDeque};
@@ -51,6 +52,22 @@ fn raise(waiting: &mut VecDeque<usize>, place: usize)
     ensures { waiting.new.items ≡ slice_set waiting.old.items place (get_or waiting.old.items place 0 + 1) }
 {
     waiting[place] += 1;
+}
+
+/// The member's cursor goes on by one, round the end of 64 bits. Where it was: one search finds it and changes it.
+fn go_on(cursors: &mut BTreeMap<PeerId, u64>, member: PeerId) -> u64
+    requires { IsSome (lookup (is_member member) cursors.old.entries) }
+    ensures was { lookup (is_member member) cursors.old.entries ≡ Some result }
+    ensures entries { cursors.new.entries ≡ insert_entry nat_cmp cursors.old.entries member ((result + 1) % 2 ^ 64) }
+    ensures ordered { IsStrictlySortedBy nat_cmp (keys_of cursors.new.entries) }
+    ensures small { result < 2 ^ 64 }
+{
+    let Some(cursor) = cursors.get_mut(&member) else {
+        unreachable!()
+    };
+    let was = *cursor;
+    *cursor = was.wrapping_add(1);
+    was
 }
 
 /// Makes the place of the front, where there is none yet.
@@ -203,14 +220,9 @@ impl<P> Line<P> {
         requires { 0 < length (rest_of self.old member) }
         ensures { self.new ≡ past_next self.old member }
     {
-        let place = self.place(member);
         let _members = self.cursors.len();
-        let Ok(_cursor) = self
-            .cursors
-            .insert(member, self.start.wrapping_add(place as u64 + 1))
-        else {
-            unreachable!()
-        };
+        let cursor = go_on(&mut self.cursors, member);
+        let place = cursor.wrapping_sub(self.start) as usize;
         lower(&mut self.waiting, place);
         raise(&mut self.waiting, place + 1);
     }

@@ -1,6 +1,6 @@
 //! A prefix in few bytes.
 
-ghost use Rattle.std.specs.Prelude.{◌≡◌, ◌+◌, ◌*◌, ◌^◌, Some, refl, IfOk};
+ghost use Rattle.std.specs.Prelude.{◌≡◌, ◌+◌, ◌*◌, ◌^◌, Some, refl, IfOk, IfSome};
 ghost use Rattle.std.specs.Ordering.{eq_by_cmp};
 ghost use Rattle.std.specs.Cmp as laws;
 ghost use Rattle.ug_types.specs.Keys.{prefix_cmp, prefix_cmp_total};
@@ -25,13 +25,13 @@ pub struct StoredPrefix {
 
 impl Model for StoredPrefix {
     ghost use Rattle.ug_types.specs.Ip.{IpPrefix, IsPrefix};
-    ghost use Rattle.ug_world.specs.Stored.{joined, wide};
+    ghost use Rattle.ug_world.specs.Stored.{joined, wide, AreHalves};
 
     ghost Value = { IpPrefix };
 
     ghost view = { λ p. record { family = p.family; bits = wide (joined p.first p.second) (joined p.third p.fourth); len = p.len } };
 
-    ghost invariant = { λ p. IsPrefix p.family (wide (joined p.first p.second) (joined p.third p.fourth)) p.len };
+    ghost invariant = { λ p. IsPrefix p.family (wide (joined p.first p.second) (joined p.third p.fourth)) p.len × AreHalves p.second p.third p.fourth };
 }
 
 /// The upper and the lower half of 64 bits.
@@ -78,6 +78,20 @@ impl StoredPrefix {
             family: prefix.family,
             len: prefix.len,
         }
+    }
+
+    /// The order where the leading bits of two prefixes of one family decide it, as they mostly do.
+    fn cmp_first(&self, other: &StoredPrefix) -> Option<Ordering>
+        ensures { IfSome result (λ order. order ≡ prefix_cmp self.now other.now) }
+    {
+        if self.family != other.family {
+            return None;
+        }
+        let order = self.first.cmp(&other.first);
+        if order.is_eq() {
+            return None;
+        }
+        Some(order)
     }
 
     /// The prefix as all see it.
@@ -143,6 +157,9 @@ impl Ord for StoredPrefix {
     ghost matches_eq = { λ a b. refl };
 
     fn cmp(&self, other: &Self) -> Ordering {
+        if let Some(order) = self.cmp_first(other) {
+            return order;
+        }
         comparison_laws();
         self.widen().cmp(&other.widen())
     }
