@@ -1,7 +1,6 @@
 -- A session that is aimed at is one of the run.
 use Rattle.std.proofs.Common.{◌≡◌, ℕ, suc, ◌+◌, ◌-◌, ◌<◌, inl, inr, Bool, List, [], ◌∷◌, length, map, slice_get, Option, None, sym, ap, subst, ◌∙◌, arith, length-append}
 use Rattle.std.specs.Prelude.{◌==◌, ◌&&◌, if◌then◌else◌}
-use Rattle.std.specs.Global.{Vec}
 use Rattle.std.proofs.lemmas.List.{length-map}
 use Rattle.ug_types.specs.declared.key.Key.{Key}
 use Rattle.ug_types.specs.declared.mark.Mark.{Mark}
@@ -64,7 +63,7 @@ swap-first past at xs ys lost last ms ending b there back h = record {
 same_count : (n : ℕ) → 0 < n → suc (n - 1) ≡ n
 same_count n some = omega (arith, some)
 
-follows : (es : List (Key × Vec Change)) (p n : ℕ) (ws : List World) (from to : ℕ) → 0 < n → IsLog es (map (private_table p) ws) → IsSpan p (suc (n - 1)) ws from to → IsCourse es from to (past p n ws) (map (private_table p) ws)
+follows : (es : List (Key × List Change)) (p n : ℕ) (ws : List World) (from to : ℕ) → 0 < n → IsLog es (map (private_table p) ws) → IsSpan p (suc (n - 1)) ws from to → IsCourse es from to (past p n ws) (map (private_table p) ws)
 follows es p n ws from to some log span = course es p n ws from to log (subst (λ (k : ℕ). IsSpan p k ws from to) (same_count n some) span)
 
 module _ (p n : ℕ) (ws : List World) (last : World) (s : PeerState) (told : List Entry) (a : Asked) (session : Session) (end : EndsWith ws last) (h : IsAimed p n last s told a session) where
@@ -78,7 +77,7 @@ module _ (p n : ℕ) (ws : List World) (last : World) (s : PeerState) (told : Li
 
   pub is_session : 0 < n → AreWithin last.version (marks_in told) → IsAsked p ws a → IsSession session (past p n ws) (map (private_table p) ws)
   is_session some within asked = record {
-    course = subst (λ (es : List (Key × Vec Change)). IsCourse es session.course.from session.course.to (past p n ws) (map (private_table p) ws)) (sym h.changes)
+    course = subst (λ (es : List (Key × List Change)). IsCourse es session.course.from session.course.to (past p n ws) (map (private_table p) ws)) (sym h.changes)
         (subst (λ (to : ℕ). IsCourse a.session.course.changes session.course.from to (past p n ws) (map (private_table p) ws))
         (ap (λ (k : ℕ). end_of a.ended.items (n - 1) k) count ∙ sym h.to)
         (follows a.session.course.changes p n ws session.course.from (end_of a.ended.items (n - 1) (length ws)) some asked.log (asked.spans (n - 1) session.course.from h.from)));

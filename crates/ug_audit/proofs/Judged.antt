@@ -20,10 +20,11 @@ use Rattle.ug_audit_rules.specs.declared.entry.Entry.TheVariants.{Passes, Sync, 
 use Rattle.ug_audit_rules.specs.Audited.{opened_with, mark_in, marks_in, is_lost_in, IsHeardRight, IsFirstBreach}
 use Rattle.ug_audit_rules.specs.Reports.{entry_by, entry_of, entries_of, mark_or, mark_said, loss_or, loss_said, peer_names_in, place_from, written_number, where_true, had_session}
 use Rattle.ug_report_reader.specs.Told.{TellsAsMuch}
+use Rattle.ug_session_rules.specs.Certificates.{KeyClimb}
 use Rattle.ug_verdict.specs.declared.session.Session.{Session}
-use Rattle.ug_verdict.specs.declared.climbs.Climb.{Climb}
+use Rattle.ug_verdict.specs.declared.judge.Judge.{Judge}
 use Rattle.ug_verdict.specs.Judged.{IsSession}
-use Rattle.ug_verdict.specs.Climbed.{climb_of}
+use Rattle.ug_verdict.specs.Climbed.{AreOfJudged}
 use Rattle.ug_audit.specs.declared.verdict.Verdict.{Verdict}
 use Rattle.ug_audit.specs.declared.verdict.Verdict.TheVariants as verdicts
 use Rattle.ug_audit.specs.Verdicts.{most_bytes, Agrees, IsVerdictOn}
@@ -147,18 +148,18 @@ module _ (run : Run) (report : List ℕ) (r : IsRun run) (tells : TellsAsMuch ru
   is_it : IsSession session (past p n ws) (map (private_table p) ws)
   is_it = is_session p n ws last s run.entries.items a session end aimed some within asked
 
-  pub certified : (bytes : List ℕ) (messages : ℕ) (climbs : Vec Climb) (text : List ℕ) → text ≡ session_text s.peer.name n messages (map climb_of climbs.items) → (v : IsVerdictOn (opened_with s.peer) session bytes (verdicts.Right messages climbs))
-      → IsReadAs (opened_with s.peer) bytes v.messages v.ending × IsCertified run.first run.events.items report x text v.messages v.ending
-  certified bytes messages climbs text is v =
+  pub certified : (bytes : List ℕ) (judge : Judge) (climbs : List KeyClimb) (text : List ℕ) → AreOfJudged judge climbs → text ≡ session_text s.peer.name n judge.messages climbs
+      → (v : IsVerdictOn (opened_with s.peer) session bytes (verdicts.Right judge)) → IsReadAs (opened_with s.peer) bytes v.messages v.ending × IsCertified run.first run.events.items report x text v.messages v.ending
+  certified bytes judge climbs text all is v =
       let found = v.agrees (past p n ws) (map (private_table p) ws) is_it in
-      let right = is_right p n ws last s run.entries.items a session end aimed v.messages v.ending found.1 in (
+      let right = is_right p n ws last s run.entries.items a session end aimed v.messages v.ending found.0 in (
         v.is,
         record {
           right = subst (λ (ms : List Mark). IsHeardRight ws last p n s ms (is_lost_in told p n) v.messages v.ending) tells.marks
               (subst (λ (b : Bool). IsHeardRight ws last p n s (marks_in run.entries.items) b v.messages v.ending) (tells.losses p n) right);
-          climbs = map climb_of climbs.items;
-          climbing = found.2;
-          text_is = is ∙ ap (λ (k : ℕ). session_text s.peer.name n k (map climb_of climbs.items)) found.0;
+          climbs = climbs;
+          climbing = all session (past p n ws) (map (private_table p) ws) v.messages is_it found.1 found.2;
+          text_is = is ∙ ap (λ (k : ℕ). session_text s.peer.name n k climbs) found.1.count;
         },
       )
 
@@ -173,9 +174,10 @@ module _ (run : Run) (report : List ℕ) (r : IsRun run) (tells : TellsAsMuch ru
       )
 
   module _ (command : AuditCommand) (files : List ℕ → FileTold) (bytes : List ℕ) (file : IsFile (files (file_of command.dir (record { place = p; state = s; number = n }))) bytes) (few : length bytes ≤ most_bytes) where
-    pub heard_right : (messages : ℕ) (climbs : Vec Climb) (text : List ℕ) → text ≡ session_text s.peer.name n messages (map climb_of climbs.items) → IsVerdictOn (opened_with s.peer) session bytes (verdicts.Right messages climbs)
+    pub heard_right : (judge : Judge) (climbs : List KeyClimb) (text : List ℕ) → AreOfJudged judge climbs → text ≡ session_text s.peer.name n judge.messages climbs
+        → IsVerdictOn (opened_with s.peer) session bytes (verdicts.Right judge)
         → IsHeard command files (record { place = p; state = s; number = n }) (IsCertified run.first run.events.items report (record { place = p; state = s; number = n }) text)
-    heard_right messages climbs text is v = (let h = certified bytes messages climbs text is v in record { bytes = bytes; file = file; within = few; messages = v.messages; ending = v.ending; read = h.0; it = h.1 })
+    heard_right judge climbs text all is v = (let h = certified bytes judge climbs text all is v in record { bytes = bytes; file = file; within = few; messages = v.messages; ending = v.ending; read = h.0; it = h.1 })
 
     pub heard_broken : (b : Breach) → IsVerdictOn (opened_with s.peer) session bytes (verdicts.Broken b)
         → IsHeard command files (record { place = p; state = s; number = n }) (IsBroken run.first run.events.items report (record { place = p; state = s; number = n }) b)

@@ -12,4 +12,5 @@ pub mod Halting
 pub mod Refuting
 pub mod Marks
 pub mod Worlds
+pub mod Writing
 pub mod Aims

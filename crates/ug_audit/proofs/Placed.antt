@@ -12,12 +12,12 @@ use Rattle.ug_session_rules.specs.declared.breach.Breach.{Breach}
 use Rattle.ug_audit_rules.specs.declared.entry.Entry.{Entry}
 use Rattle.ug_audit_rules.specs.Audited.{opened_with}
 use Rattle.ug_verdict.specs.declared.session.Session.{Session}
-use Rattle.ug_verdict.specs.declared.climbs.Climb.{Climb}
-use Rattle.ug_verdict.specs.Climbed.{climb_of}
+use Rattle.ug_verdict.specs.declared.judge.Judge.{Judge}
 use Rattle.ug_audit.specs.declared.verdict.Verdict.{Verdict}
 use Rattle.ug_audit.specs.declared.verdict.Verdict.TheVariants as verdicts
 use Rattle.ug_audit.specs.Verdicts.{most_bytes, IsVerdictOn}
 use Rattle.ug_audit.specs.Texts.{session_text}
+use Rattle.ug_audit.specs.Certified.{AddsSession}
 use Rattle.ug_audit.specs.declared.asked.Asked.{Asked}
 use Rattle.ug_audit.specs.Asked.{IsAsked, IsAimed, IsAimedBy}
 use Rattle.ug_command_line.specs.Words.{AuditCommand}
@@ -145,12 +145,12 @@ module _ (command : AuditCommand) (files : List ℕ → FileTold) (run : Run) (n
         (heard_broken run at.report r at.is_of.tells p n s a session some asked aimed_at command files found.0 file found.2 b (subst (λ (v : Verdict). IsVerdictOn (opened_with s.peer) session found.0 v) is on))
         (subst (λ (nm : List ℕ). IsRefutedBy p n nm b stop) name_of h)
 
-    pub right_goes_on : (messages : ℕ) (climbs : Vec Climb) (text' : List ℕ) → verdict ≡ verdicts.Right messages climbs → text' ≡ text ++ session_text name n messages (map climb_of climbs.items) → IsAt command files run names names' left text'
-    right_goes_on messages climbs text' is added =
-        let more = session_text s.peer.name n messages (map climb_of climbs.items) in
+    pub right_goes_on : (judge : Judge) (text' : List ℕ) → verdict ≡ verdicts.Right judge → AddsSession name n judge text text' → IsAt command files run names names' left text'
+    right_goes_on judge text' is h =
+        let more = session_text s.peer.name n judge.messages h.climbs in
         goes_on command files run names mid names' x left text at more text' (picked_is picked)
-        (heard_right run at.report r at.is_of.tells p n s a session some asked aimed_at command files found.0 file found.2 messages climbs more refl (subst (λ (v : Verdict). IsVerdictOn (opened_with s.peer) session found.0 v) is on))
-        (added ∙ ap (λ (nm : List ℕ). text ++ session_text nm n messages (map climb_of climbs.items)) name_of)
+        (heard_right run at.report r at.is_of.tells p n s a session some asked aimed_at command files found.0 file found.2 judge h.climbs more h.all refl (subst (λ (v : Verdict). IsVerdictOn (opened_with s.peer) session found.0 v) is on))
+        (h.added ∙ ap (λ (nm : List ℕ). text ++ session_text nm n judge.messages h.climbs) name_of)
 
 -- ---- all sessions
 

@@ -8,4 +8,5 @@ pub mod Heard
 pub mod HeardLaws
 pub mod Verdicts
 pub mod Texts
+pub mod Certified
 pub mod Asked

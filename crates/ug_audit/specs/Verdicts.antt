@@ -1,5 +1,5 @@
 -- What is found of a session.
-use Rattle.std.specs.Prelude.{◌≡◌, ℕ, ◌<◌, ◌≤◌, List, length, map, Option}
+use Rattle.std.specs.Prelude.{◌≡◌, ℕ, ◌<◌, ◌≤◌, List, length, Option, None}
 use Rattle.ug_types.specs.declared.memory.NoMemory.{NoMemory}
 use Rattle.ug_types.specs.declared.capabilities.Capabilities.{Capabilities}
 use Rattle.ug_types.specs.Messages.{Message}
@@ -9,10 +9,8 @@ use Rattle.ug_pieces.specs.declared.halt.Halt.{Halt}
 use Rattle.ug_pieces.specs.declared.halt.Halt.TheVariants as halts
 use Rattle.ug_session_rules.specs.declared.breach.Ending.{Ending}
 use Rattle.ug_session_rules.specs.Breaches.{IsReadAs, IsHeardRight, IsFirstBreach}
-use Rattle.ug_session_rules.specs.Certificates.{AreClimbs}
 use Rattle.ug_verdict.specs.declared.session.Session.{Session}
-use Rattle.ug_verdict.specs.Judged.{IsSession, table_in, last_table}
-use Rattle.ug_verdict.specs.Climbed.{climb_of}
+use Rattle.ug_verdict.specs.Judged.{IsSession, IsJudged, table_in, last_table}
 use Rattle.ug_audit.specs.declared.verdict.Verdict.{Verdict}
 use Rattle.ug_audit.specs.declared.verdict.Verdict.TheVariants as verdicts
 
@@ -20,10 +18,11 @@ use Rattle.ug_audit.specs.declared.verdict.Verdict.TheVariants as verdicts
 unfoldable pub most_bytes : ℕ
 most_bytes = 1073741824
 
--- What is found of these messages and what stands behind them: how they climbed, or the first breach.
+-- What is found of these messages and what stands behind them: that they are right, and the judge that stands behind them, or
+-- the first breach.
 abbrev pub Agrees : Session → List Table → List Table → List Message → Ending → Verdict → Type 0
-Agrees session past tables ms ending (verdicts.Right messages climbs) =
-    (messages ≡ length ms) × IsHeardRight past (table_in tables) session.syncs.items session.lost (last_table session tables) ms ending × AreClimbs past ms (map climb_of climbs.items)
+Agrees session past tables ms ending (verdicts.Right judge) =
+    IsHeardRight past (table_in tables) session.syncs.items session.lost (last_table session tables) ms ending × IsJudged session past tables judge ms × (judge.found ≡ None)
 Agrees session past tables ms ending (verdicts.Broken b) = IsFirstBreach past (table_in tables) session.syncs.items session.lost (last_table session tables) ms ending b
 
 -- The verdict on a session whose bytes these are.

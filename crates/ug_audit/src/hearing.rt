@@ -140,12 +140,10 @@ impl Run {
         let name = peer.name.text();
         match verdict {
             Verdict::Broken(breach) => Err(refuted(alloc, id, name, number, breach)),
-            Verdict::Right { messages, climbs } => {
-                match add_session(alloc, text, name, number, messages, &climbs) {
-                    Ok(()) => Ok(()),
-                    Err(NoMemory) => Err(Stop::NoMemory),
-                }
-            }
+            Verdict::Right(judge) => match add_session(alloc, text, name, number, &judge) {
+                Ok(()) => Ok(()),
+                Err(NoMemory) => Err(Stop::NoMemory),
+            },
         }
     }
 }

@@ -67,26 +67,20 @@ pub fn hear<E: Source>(
         Ok(()) => {}
         Err(halt) => return Err(halt),
     }
-    match verdict_of(alloc, &mut listener, session) {
+    match verdict_of(listener, session) {
         Ok(verdict) => Ok(verdict),
         Err(NoMemory) => Err(Halt::Stopped(NoMemory)),
     }
 }
 
 /// What is found of a session all of whose bytes came.
-fn verdict_of(
-    alloc: Global,
-    listener: &mut Listener,
-    session: &Session,
-) -> Result<Verdict, NoMemory>
-    ensures { IfOk result (λ verdict. (c : _) (stream : List ℕ) → HasHeard c session.now listener.old stream → IsVerdictOn c session.now stream verdict) }
+fn verdict_of(listener: Listener, session: &Session) -> Result<Verdict, NoMemory>
+    ensures { IfOk result (λ verdict. (c : _) (stream : List ℕ) → HasHeard c session.now listener stream → IsVerdictOn c session.now stream verdict) }
 {
+    let mut listener = listener;
     listener.settle(session)?;
     match listener.judge.end(session, listener.ending()) {
         Some(breach) => Ok(Verdict::Broken(breach)),
-        None => Ok(Verdict::Right {
-            messages: listener.judge.messages,
-            climbs: listener.judge.climbs(alloc, session)?,
-        }),
+        None => Ok(Verdict::Right(listener.judge)),
     }
 }

@@ -1,9 +1,9 @@
 use ug_session_rules::Breach;
-use ug_verdict::Climb;
+use ug_verdict::Judge;
 
-/// What is found of a session: how many messages it has and how its keys climbed, or its first breach.
-#[derive(Debug, Drop)]
+/// What is found of a session: the judge that stands behind its messages, which found no breach, or its first breach.
+#[derive(Drop)]
 pub enum Verdict {
-    Right { messages: u64, climbs: Vec<Climb> },
+    Right(Judge),
     Broken(Breach),
 }

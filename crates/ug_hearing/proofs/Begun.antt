@@ -1,7 +1,6 @@
 -- A session before its first message.
 use Rattle.std.proofs.Common.{◌≡◌, ℕ, zero, suc, ◌<◌, ◌≤◌, Bool, true, false, List, [], ◌∷◌, length, slice_get, drop, Some, None, refl, sym, ◌∙◌, ap, subst, arith}
 use Rattle.std.specs.Prelude.{nat_lt, is_some, if◌then◌else◌}
-use Rattle.std.specs.Global.{Vec}
 use Rattle.std.proofs.lemmas.Bool.Decides.{nat_tests}
 use Rattle.std.proofs.lemmas.List.{length-map}
 use Rattle.ug_types.specs.declared.key.Key.{Key}
@@ -46,7 +45,7 @@ stands-from xs cs n h less = subst (λ (v : Value). IsToldBy xs n v (drop (passe
 some_same : (a b : Value) → Some a ≡ Some b → a ≡ b
 some_same a b e = cc
 
-pub begun : (entries : List (Key × Vec Change)) (from to : ℕ) (past tables : List Table) (st : Standings) → IsCourse entries from to past tables → st.rows ≡ [] → IsHeard entries from to past tables st false []
+pub begun : (entries : List (Key × List Change)) (from to : ℕ) (past tables : List Table) (st : Standings) → IsCourse entries from to past tables → st.rows ≡ [] → IsHeard entries from to past tables st false []
 begun entries from to past tables st course none =
     let starts : (key : Key) → IsRow (values_at key past) (values_at key tables) (changes_of entries key) from to st.moves.items [] (first_row entries from key) = λ key.
     let size = length-map tables (λ (t : Table). t key) in

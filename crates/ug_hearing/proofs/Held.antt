@@ -1,17 +1,16 @@
 -- Keys that have a value at their place, and others beside them.
-use Rattle.std.proofs.Common.{◌≡◌, ℕ, zero, suc, ◌+◌, ◌<◌, Bool, true, false, cond, List, [], ◌∷◌, ◌++◌, length, replicate, slice_get, get_or, slice_set, drop, Option, Some, None, Result, Ok, Err, refl, sym, ◌∙◌, ap, subst, arith}
-use Rattle.std.specs.Prelude.{if◌then◌else◌, is_some, OnOk, OnErr, IfOk}
+use Rattle.std.proofs.Common.{◌≡◌, ℕ, zero, suc, Bool, true, false, cond, List, [], ◌∷◌, ◌++◌, length, replicate, slice_get, slice_set, Option, Some, None, Result, Ok, Err, refl, sym, ◌∙◌, ap, subst, arith}
+use Rattle.std.specs.Prelude.{if◌then◌else◌, ◌||◌, is_some, OnOk, OnErr, IfOk}
 use Rattle.std.specs.Map.{keys_of}
-use Rattle.std.specs.declared.cmp.Ordering.TheVariants.{Less}
-use Rattle.std.specs.List.{AllByRecursion}
 use Rattle.std.specs.List.Sorted.{IsStrictlySortedBy}
-use Rattle.std.proofs.lemmas.List.{drop_more}
+use Rattle.std.proofs.lemmas.List.Folds.{list_any-append}
 use Rattle.ug_types.specs.declared.key.Key.{Key}
 use Rattle.ug_types.specs.Keys.{same_key}
 use Rattle.ug_types.specs.Orders.{key_cmp}
 use Rattle.ug_table_rules.specs.Tables.{among}
 use Rattle.ug_hearing.specs.Keyed.{value_for, held_of, HasNoneOf}
-use Rattle.ug_hearing.proofs.Among.{same-self, same-sym, neither}
+use Rattle.ug_hearing.proofs.Among.{same-self, same-sym, neither, or-first, or-second}
+use Rattle.ug_hearing.proofs.Listed.{among-there}
 use Rattle.ug_hearing.proofs.Keys.{same_is}
 use Rattle.ug_hearing.proofs.Ascending.{not-less-self, less-by-place, some_same, placed}
 use Rattle.ug_hearing.proofs.Paired.{sorted-tail}
@@ -130,19 +129,13 @@ module _ {V : Type 0} where
   held-none (k ∷ keys) zero = refl
   held-none (k ∷ keys) (suc n) = held-none keys n
 
-  all_held : (P : Key → Type 0) (keys : List Key) (values : List (Option V)) → AllByRecursion P keys → AllByRecursion P (keys_of (held_of keys values))
-  all_held P [] values h = tt
-  all_held P (k ∷ keys) [] h = tt
-  all_held P (k ∷ keys) (None ∷ values) h = all_held P keys values h.1
-  all_held P (k ∷ keys) (Some v ∷ values) h = (h.0, all_held P keys values h.1)
-
-  -- those that have one ascend too
-  pub held-ascend : (keys : List Key) (values : List (Option V)) → IsStrictlySortedBy key_cmp keys → IsStrictlySortedBy key_cmp (keys_of (held_of keys values))
-  unfolding IsStrictlySortedBy
-  held-ascend [] values h = tt
-  held-ascend (k ∷ keys) [] h = tt
-  held-ascend (k ∷ keys) (None ∷ values) h = held-ascend keys values h.1
-  held-ascend (k ∷ keys) (Some v ∷ values) h = (all_held (λ y. key_cmp k y ≡ Less) keys values h.0, held-ascend keys values h.1)
+  -- whichever has a value is one of the keys, or has it beside them
+  pub held-among : (keys : List Key) (values : List (Option V)) (rest : List (Key × V)) (q : Key) → is_some (value_for (held_of keys values ++ rest) q) ≡ true → among (keys ++ keys_of rest) q ≡ true
+  held-among keys values rest q some = list_any-append (same_key q) keys (keys_of rest) ∙ by (among keys q) refl
+    where
+      by : (b : Bool) → among keys q ≡ b → (among keys q || among (keys_of rest) q) ≡ true
+      by true is = or-first (among keys q) (among (keys_of rest) q) is
+      by false out = or-second (among keys q) (among (keys_of rest) q) (sym (among-there rest q) ∙ (sym (ap (λ (o : Option V). is_some o) (held-out keys values rest q out)) ∙ some))
 
 pub by_result : {T E A B C : Type 0} (r : Result T E) → OnOk r A → OnErr r B → (A → C) → (B → C) → C
 by_result (Ok x) a b f g = f a
@@ -151,24 +144,6 @@ by_result (Err e) a b f g = g b
 pub ok_map : {T E A B : Type 0} (r : Result T E) → (A → B) → OnOk r A → OnOk r B
 ok_map (Ok x) f a = f a
 ok_map (Err e) f a = tt
-
--- one place more
-pub held-step : {V : Type 0} (keys : List Key) (values : List (Option V)) (i : ℕ) (k : Key) (o : Option V) (held all : List Key) → drop i keys ≡ k ∷ drop (i + 1) keys → drop i values ≡ o ∷ drop (i + 1) values
-    → held ++ keys_of (held_of (drop i keys) (drop i values)) ≡ all → held ++ keys_of (held_of (k ∷ drop (i + 1) keys) (o ∷ drop (i + 1) values)) ≡ all
-held-step keys values i k o held all key value h =
-    ap (λ (ks : List Key). held ++ keys_of (held_of ks (o ∷ drop (i + 1) values))) (sym key) ∙ (ap (λ (vs : List (Option _)). held ++ keys_of (held_of (drop i keys) vs)) (sym value) ∙ h)
-
-pub held-some : {V : Type 0} (k : Key) (o : Option V) (keys : List Key) (values : List (Option V)) → is_some o ≡ true → keys_of (held_of (k ∷ keys) (o ∷ values)) ≡ k ∷ keys_of (held_of keys values)
-held-some k (Some v) keys values is = refl
-held-some k None keys values is = absurd cc
-
-pub held-skip : {V : Type 0} (k : Key) (o : Option V) (keys : List Key) (values : List (Option V)) → is_some o ≡ false → keys_of (held_of (k ∷ keys) (o ∷ values)) ≡ keys_of (held_of keys values)
-held-skip k None keys values is = refl
-held-skip k (Some v) keys values is = absurd cc
-
-pub first-of-rest : {X : Type 0} (xs : List X) (i : ℕ) → i < length xs → (x : X) × (drop i xs ≡ x ∷ drop (i + 1) xs)
-first-of-rest [] i less = absurd (omega (arith, less))
-first-of-rest (x ∷ xs) i less = (get_or (x ∷ xs) i x, drop_more (x ∷ xs) i x less)
 
 pub empty : {X : Type 0} (xs : List X) → length xs ≡ 0 → xs ≡ []
 empty [] none = refl

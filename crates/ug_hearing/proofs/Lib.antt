@@ -14,3 +14,5 @@ pub mod Logged
 pub mod Ascending
 pub mod Paired
 pub mod Held
+pub mod Lying
+pub mod Mapped

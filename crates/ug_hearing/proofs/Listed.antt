@@ -1,5 +1,5 @@
 -- Keys that are chosen by a test, and keys of a map.
-use Rattle.std.proofs.Common.{◌≡◌, inl, inr, Bool, true, false, cond, List, [], ◌∷◌, ◌++◌, Some, refl, sym, ◌∙◌, ap, subst}
+use Rattle.std.proofs.Common.{◌≡◌, ℕ, inl, inr, Bool, true, false, cond, List, [], ◌∷◌, ◌++◌, Option, Some, None, refl, sym, ◌∙◌, ap, subst}
 use Rattle.std.specs.Prelude.{◌||◌, ◌&&◌, is_some}
 use Rattle.std.specs.Map.{keys_of}
 use Rattle.std.specs.List.{AllByRecursion}
@@ -11,6 +11,10 @@ use Rattle.ug_types.specs.declared.key.Key.{Key}
 use Rattle.ug_types.specs.Keys.{same_key}
 use Rattle.ug_types.specs.Orders.{key_cmp, key_cmp_total}
 use Rattle.ug_table_rules.specs.Tables.{among}
+use Rattle.ug_climb.specs.declared.change.Change.{Change}
+use Rattle.ug_hearing.specs.declared.row.Row.{Row}
+use Rattle.ug_hearing.specs.Courses.{changes_of}
+use Rattle.ug_hearing.specs.Heard.{is_stale_row, is_stale_in}
 use Rattle.ug_hearing.specs.Keyed.{value_for}
 use Rattle.ug_hearing.proofs.Keys.{same_is}
 use Rattle.ug_hearing.proofs.Among.{same-self, either, or-first, or-second, among-last}
@@ -51,6 +55,15 @@ module _ (test : Key → Bool) (front left : List Key) (k : Key) (h : (q : Key) 
           let fails : test q ≡ false = subst (λ (x : Key). test x ≡ false) (sym (same_is q k same)) is in
           h q ∙ (ap (λ (b : Bool). among front q && b) fails ∙ (and_false (among front q) ∙ sym (ap (λ (b : Bool). (among front q || same_key q k) && b) fails ∙ and_false (among front q || same_key q k))))
       by false differs = h q ∙ sym (ap (λ (b : Bool). (among front q || b) && test q) differs ∙ ap (λ (b : Bool). b && test q) (or_none (among front q)))
+
+-- of keys among which all are that have a row those are stale that are
+pub stale-all : (refreshes : ℕ) (entries : List (Key × List Change)) (rows : List (Key × Row)) (keys : List Key) (q : Key) → (is_some (value_for rows q) ≡ true → among keys q ≡ true)
+    → (among keys q && is_stale_in refreshes entries rows q) ≡ is_stale_in refreshes entries rows q
+stale-all refreshes entries rows keys q h = by (value_for rows q) h
+  where
+    by : (o : Option Row) → (is_some o ≡ true → among keys q ≡ true) → (among keys q && is_stale_row refreshes (changes_of entries q) o) ≡ is_stale_row refreshes (changes_of entries q) o
+    by None named = and_false (among keys q)
+    by (Some row) named = ap (λ (b : Bool). b && is_stale_row refreshes (changes_of entries q) (Some row)) (named refl)
 
 pub among-there : {X : Type 0} (entries : List (Key × X)) (q : Key) → is_some (value_for entries q) ≡ among (keys_of entries) q
 among-there [] q = refl

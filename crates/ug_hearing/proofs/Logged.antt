@@ -2,7 +2,6 @@
 use Rattle.std.proofs.Common.{◌≡◌, inl, inr, ℕ, zero, suc, List, [], ◌∷◌, ◌++◌, length, slice_get, Some, None, refl, sym, ◌∙◌, ap, subst, arith, length-append, Bool, true, false}
 use Rattle.std.proofs.lemmas.Bool.{cases_lt}
 use Rattle.std.proofs.lemmas.List.{map-append, length-map}
-use Rattle.std.specs.Global.{Vec}
 use Rattle.ug_types.specs.declared.key.Key.{Key}
 use Rattle.ug_types.specs.Keys.{same_key}
 use Rattle.ug_table_rules.specs.Tables.{Table, among}
@@ -11,7 +10,8 @@ use Rattle.ug_hearing.proofs.Among.{same-sym, either, neither, among-last}
 use Rattle.ug_table_rules.specs.Climbing.{values_at}
 use Rattle.ug_climb.specs.declared.change.Change.{Change}
 use Rattle.ug_climb.specs.Pasts.{Value, value_of, value_before, IsToldBy}
-use Rattle.ug_hearing.specs.Courses.{changes_of, items_or_none}
+use Rattle.ug_hearing.specs.Keyed.{items_or_none}
+use Rattle.ug_hearing.specs.Courses.{changes_of}
 use Rattle.ug_hearing.specs.Logs.{IsLog, AddsChange, IsNoted}
 
 get-more : (xs : List Value) (v w : Value) (i : ℕ) → slice_get xs i ≡ Some w → slice_get (xs ++ v ∷ []) i ≡ Some w
@@ -64,7 +64,7 @@ last_is [] = refl
 last_is (c ∷ cs) = behind_all c cs
 
 -- One table more: this key has a value in it, that was noted.
-pub noted-more : (entries entries' : List (Key × Vec Change)) (tables : List Table) (table : Table) (key : Key) → IsToldBy (values_at key tables) 0 None (changes_of entries key)
+pub noted-more : (entries entries' : List (Key × List Change)) (tables : List Table) (table : Table) (key : Key) → IsToldBy (values_at key tables) 0 None (changes_of entries key)
     → AddsChange (length tables) (table key) (changes_of entries key) (changes_of entries' key) → IsToldBy (values_at key (tables ++ table ∷ [])) 0 None (changes_of entries' key)
 noted-more entries entries' tables table key h adds =
     let all : values_at key (tables ++ table ∷ []) ≡ values_at key tables ++ table key ∷ [] = map-append (λ (t : Table). t key) tables (table ∷ []) in
@@ -80,7 +80,7 @@ noted-more entries entries' tables table key h adds =
     ])
 
 -- and a key that has what it had last needs no note
-pub kept-more : (entries : List (Key × Vec Change)) (tables : List Table) (table : Table) (key : Key) → IsToldBy (values_at key tables) 0 None (changes_of entries key)
+pub kept-more : (entries : List (Key × List Change)) (tables : List Table) (table : Table) (key : Key) → IsToldBy (values_at key tables) 0 None (changes_of entries key)
     → value_before (length (changes_of entries key)) (changes_of entries key) ≡ table key → IsToldBy (values_at key (tables ++ table ∷ [])) 0 None (changes_of entries key)
 kept-more entries tables table key h same = noted-more entries entries tables table key h (inl (refl, same))
 
@@ -92,7 +92,7 @@ some_same : (a b : Value) → Some a ≡ Some b → a ≡ b
 some_same a b e = cc
 
 -- a key that was noted has the table's value last
-pub noted-last : (entries : List (Key × Vec Change)) (tables : List Table) (table : Table) (key : Key) → IsToldBy (values_at key (tables ++ table ∷ [])) 0 None (changes_of entries key)
+pub noted-last : (entries : List (Key × List Change)) (tables : List Table) (table : Table) (key : Key) → IsToldBy (values_at key (tables ++ table ∷ [])) 0 None (changes_of entries key)
     → value_before (length (changes_of entries key)) (changes_of entries key) ≡ table key
 noted-last entries tables table key h =
     let all : values_at key (tables ++ table ∷ []) ≡ values_at key tables ++ table key ∷ [] = map-append (λ (t : Table). t key) tables (table ∷ []) in
@@ -103,11 +103,11 @@ noted-last entries tables table key h =
     (sym (told_last (values_at key tables ++ table key ∷ []) 0 None (changes_of entries key) told (length (values_at key tables)) (omega arith)) ∙ get-last (values_at key tables) (table key))
 
 -- how far a table was noted
-pub record IsNotedTo (front : List Key) (tables : List Table) (table : Table) (old now : List (Key × Vec Change)) : Type 0 where
+pub record IsNotedTo (front : List Key) (tables : List Table) (table : Table) (old now : List (Key × List Change)) : Type 0 where
   pub noted : (q : Key) → among front q ≡ true → IsToldBy (values_at q (tables ++ table ∷ [])) 0 None (changes_of now q)
   pub others : (q : Key) → among front q ≡ false → changes_of now q ≡ changes_of old q
 
-pub one-noted : (front : List Key) (k : Key) (tables : List Table) (table : Table) (old now new : List (Key × Vec Change)) → IsLog old tables → IsNotedTo front tables table old now
+pub one-noted : (front : List Key) (k : Key) (tables : List Table) (table : Table) (old now new : List (Key × List Change)) → IsLog old tables → IsNotedTo front tables table old now
     → IsNoted (length tables) k (table k) now new → IsNotedTo (front ++ k ∷ []) tables table old new
 one-noted front k tables table old now new log h n = record {
   noted = λ q there. by q (same_key k q) refl there;
@@ -131,7 +131,7 @@ one-noted front k tables table old now new log h n = record {
           | inr it ↦ absurd (let f = sym it ∙ (same-sym q k ∙ e) in cc)
         ]
 
-pub all-noted : (keys : List Key) (tables : List Table) (table : Table) (old new : List (Key × Vec Change)) → IsLog old tables → IsNotedTo keys tables table old new
+pub all-noted : (keys : List Key) (tables : List Table) (table : Table) (old new : List (Key × List Change)) → IsLog old tables → IsNotedTo keys tables table old new
     → ((q : Key) → among keys q ≡ false → value_before (length (changes_of old q)) (changes_of old q) ≡ table q) → IsLog new (tables ++ table ∷ [])
 all-noted keys tables table old new log h kept key = by (among keys key) refl
   where
@@ -139,5 +139,5 @@ all-noted keys tables table old new log h kept key = by (among keys key) refl
     by true e = h.noted key e
     by false e = subst (λ (cs : List Change). IsToldBy (values_at key (tables ++ table ∷ [])) 0 None cs) (sym (h.others key e)) (kept-more old tables table key (log key) (kept key e))
 
-pub none-noted : (tables : List Table) (table : Table) (old : List (Key × Vec Change)) → IsNotedTo [] tables table old old
+pub none-noted : (tables : List Table) (table : Table) (old : List (Key × List Change)) → IsNotedTo [] tables table old old
 none-noted tables table old = record { noted = λ q e. absurd (let f : false ≡ true = e in cc); others = λ q e. refl }

@@ -1,8 +1,7 @@
 -- A map's values, found by their keys.
 use Rattle.std.proofs.Common.{◌≡◌, Bool, true, false, cond, List, [], ◌∷◌, Option, Some, None, Ordering, refl, sym, ◌∙◌, ap}
 use Rattle.std.specs.Prelude.{if◌then◌else◌}
-use Rattle.std.specs.Map.{lookup, update, update_all}
-use Rattle.std.specs.Ordering.{eq_by_cmp}
+use Rattle.std.specs.Map.{lookup}
 use Rattle.std.specs.BTreeMap.{is_at}
 use Rattle.ug_types.specs.declared.key.Key.{Key}
 use Rattle.ug_types.specs.Keys.{same_key}
@@ -37,9 +36,3 @@ module _ {X : Type 0} (cmp : Key → Key → Ordering) (same : (a b : Key) → c
       sym (found-by new q)
       ∙ (h q
       ∙ (ap (λ (b : Bool). cond b None (lookup (is_at (cmp q)) old)) (tied_by cmp same key q) ∙ ap (λ (o : Option X). if same_key key q then None else o) (found-by old q)))
-
-  pub all-by : (f g : Key → Option X) → ((q : Key) → f q ≡ g q) → (pairs : List (Key × X)) (q : Key) → update_all (eq_by_cmp cmp) f pairs q ≡ update_all same_key g pairs q
-  all-by f g alike [] q = alike q
-  all-by f g alike (p ∷ pairs) q =
-      all-by (update (eq_by_cmp cmp) f p.0 (Some p.1)) (update same_key g p.0 (Some p.1))
-      (λ k. ap (λ (b : Bool). cond b (Some p.1) (f k)) (tied_by cmp same p.0 k) ∙ ap (λ (o : Option X). if same_key p.0 k then Some p.1 else o) (alike k)) pairs q

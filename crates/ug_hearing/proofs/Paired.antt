@@ -2,6 +2,8 @@
 use Rattle.std.proofs.Common.{◌≡◌, ℕ, zero, suc, Bool, true, false, cond, List, [], ◌∷◌, ◌++◌, length, slice_get, Option, Some, None, refl, sym, ◌∙◌, ap, subst, arith}
 use Rattle.std.specs.Prelude.{IfNone}
 use Rattle.std.specs.Map.{keys_of}
+use Rattle.std.specs.List.{sum_by}
+use Rattle.std.proofs.lemmas.List.Sums.{sum_by-cons}
 use Rattle.std.proofs.lemmas.Map.Keys.{sorted_tail as sorted-by-tail}
 use Rattle.std.specs.List.Sorted.{IsStrictlySortedBy}
 use Rattle.ug_types.specs.declared.key.Key.{Key}
@@ -66,3 +68,14 @@ module _ {V : Type 0} where
 pub none_map : {A B : Type 0} (place : Option ℕ) → (A → B) → IfNone place A → IfNone place B
 none_map None go h = go h
 none_map (Some x) go h = tt
+
+-- what the values come to together
+pub sum-paired : {V : Type 0} (size : V → ℕ) (keys : List Key) (values : List V) → length values ≡ length keys → sum_by (λ (e : Key × V). size e.1) (pairs_of keys values) ≡ sum_by size values
+sum-paired size [] [] same = refl
+sum-paired size [] (v ∷ values) same = absurd (omega (arith, same))
+sum-paired size (k ∷ keys) [] same = absurd (omega (arith, same))
+sum-paired {V} size (k ∷ keys) (v ∷ values) same =
+    let rest = sum-paired size keys values (omega (arith, same)) in
+    let one = sum_by-cons (λ (e : Key × V). size e.1) (k, v) (pairs_of keys values) in
+    let other = sum_by-cons size v values in
+    omega (arith, rest, one, other)

@@ -1,7 +1,6 @@
 -- One key more that was visited.
 use Rattle.std.proofs.Common.{◌≡◌, ℕ, suc, ◌⊎◌, inl, inr, Bool, true, false, List, [], ◌∷◌, ◌++◌, length, Option, refl, sym, ◌∙◌, ap, subst}
 use Rattle.std.specs.Prelude.{◌||◌, is_some, unwrap_or}
-use Rattle.std.specs.Global.{Vec}
 use Rattle.ug_types.specs.declared.key.Key.{Key}
 use Rattle.ug_types.specs.Keys.{same_key}
 use Rattle.ug_table_rules.specs.Tables.{Table, among}
@@ -22,7 +21,7 @@ abbrev pub IsPushed : Bool → Key → List Key → List Key → Type 0
 IsPushed true k failed failed' = failed' ≡ failed
 IsPushed false k failed failed' = failed' ≡ failed ++ k ∷ []
 
-module _ (entries : List (Key × Vec Change)) (from to message : ℕ) (front : List Key) (k : Key) (v : Value) (before failed failed' : List Key) (old st new : Standings) (could : Bool)
+module _ (entries : List (Key × List Change)) (from to message : ℕ) (front : List Key) (k : Key) (v : Value) (before failed failed' : List Key) (old st new : Standings) (could : Bool)
     (h : ArePassed entries from to message front v before failed old st) (visit : IsVisit entries from to message k v st new could) (pushed : IsPushed could k failed failed') where
   abbrev keys : List Key
   keys = front ++ k ∷ []
@@ -161,7 +160,7 @@ module _ (entries : List (Key × Vec Change)) (from to message : ℕ) (front : L
   }
 
 -- before the first key
-pub none-passed : (entries : List (Key × Vec Change)) (from to message : ℕ) (v : Value) (before : List Key) (old : Standings) → ArePassed entries from to message [] v before before old old
+pub none-passed : (entries : List (Key × List Change)) (from to message : ℕ) (v : Value) (before : List Key) (old : Standings) → ArePassed entries from to message [] v before before old old
 none-passed entries from to message v before old = record {
   refreshes = refl;
   named = λ q. sym (or_none (is_some (value_for old.rows q)));

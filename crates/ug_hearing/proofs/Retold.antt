@@ -1,13 +1,12 @@
 -- A pass over keys that are told in another way.
 use Rattle.std.proofs.Common.{◌≡◌, ℕ, List, subst}
-use Rattle.std.specs.Global.{Vec}
 use Rattle.ug_types.specs.declared.key.Key.{Key}
 use Rattle.ug_climb.specs.declared.change.Change.{Change}
 use Rattle.ug_climb.specs.Pasts.{Value}
 use Rattle.ug_hearing.specs.declared.standings.Standings.{Standings}
 use Rattle.ug_hearing.specs.Passes.{ArePassed}
 
-pub passed-as : (entries : List (Key × Vec Change)) (from to message n : ℕ) (keys keys' before before' : List Key) (v w : Value) (failed : List Key) (old new : Standings) → message ≡ n → keys ≡ keys' → before ≡ before' → v ≡ w
+pub passed-as : (entries : List (Key × List Change)) (from to message n : ℕ) (keys keys' before before' : List Key) (v w : Value) (failed : List Key) (old new : Standings) → message ≡ n → keys ≡ keys' → before ≡ before' → v ≡ w
     → ArePassed entries from to message keys v before failed old new → ArePassed entries from to n keys' w before' failed old new
 passed-as entries from to message n keys keys' before before' v w failed old new number same none value h =
     subst (λ (x : Value). ArePassed entries from to n keys' x before' failed old new) value

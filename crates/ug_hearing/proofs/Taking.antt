@@ -1,7 +1,6 @@
 -- What a message does to all rows.
 use Rattle.std.proofs.Common.{◌≡◌, ℕ, suc, ◌+◌, ◌≤◌, ◌⊎◌, inl, inr, Bool, true, false, List, [], ◌∷◌, ◌++◌, length, slice_get, Option, Some, None, refl, sym, ◌∙◌, ap, subst, arith}
 use Rattle.std.specs.Prelude.{◌||◌, ◌&&◌, not, nat_lt, is_some, unwrap_or, if◌then◌else◌}
-use Rattle.std.specs.Global.{Vec}
 use Rattle.std.specs.List.{list_any}
 use Rattle.std.proofs.lemmas.Bool.Decides.{nat_tests}
 use Rattle.std.proofs.lemmas.List.Folds.{list_any-append}
@@ -26,7 +25,7 @@ use Rattle.ug_hearing.proofs.Among.{or-second}
 use Rattle.ug_hearing.proofs.Going.{keeps}
 use Rattle.ug_hearing.proofs.Tables.{reading, reading-last, values-last, last-is, values-count}
 
-module _ (entries : List (Key × Vec Change)) (from to : ℕ) (past tables : List Table) (course : IsCourse entries from to past tables) where
+module _ (entries : List (Key × List Change)) (from to : ℕ) (past tables : List Table) (course : IsCourse entries from to past tables) where
   abbrev Row-of : Standings → Key → List Value → Type 0
   Row-of st key values = HasRow entries from to past tables st key values
 

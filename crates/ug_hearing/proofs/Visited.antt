@@ -1,7 +1,6 @@
 -- A key that was visited, and the others.
 use Rattle.std.proofs.Common.{◌≡◌, ℕ, suc, ◌<◌, ◌==◌, inl, inr, Bool, true, false, List, [], ◌∷◌, ◌++◌, length, drop, reverse, slice_get, Option, Some, None, sym, ◌∙◌, ap, subst, arith}
 use Rattle.std.specs.Prelude.{unwrap_or}
-use Rattle.std.specs.Global.{Vec}
 use Rattle.std.proofs.lemmas.Bool.{cases_lt}
 use Rattle.std.proofs.lemmas.Bool.Decides.{nat_tests}
 use Rattle.std.proofs.lemmas.List.{append-nil}
@@ -61,7 +60,7 @@ still_there tables changes s t v is h =
     let low = h.least.not_before in
     elim (cases_lt s.place t.place) [ inl less ↦ absurd (h.least.least s.place (omega arith) less is) | inr far ↦ omega arith ]
 
-module _ (entries : List (Key × Vec Change)) (from to message : ℕ) (key : Key) (v : Value) (old new : Standings) where
+module _ (entries : List (Key × List Change)) (from to message : ℕ) (key : Key) (v : Value) (old new : Standings) where
   grew : (could : Bool) → IsVisit entries from to message key v old new could → Grew old.moves.items new.moves.items
   grew true h = grew_noted (_ == _) old.moves.items new.moves.items message from (row_for old.rows entries from key) h.row h.went.2
   grew false h = record { more = []; is = h.went.1 ∙ sym (append-nil old.moves.items) }

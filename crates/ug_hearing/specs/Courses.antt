@@ -1,21 +1,16 @@
 -- What a session has to follow, told by changes.
-use Rattle.std.specs.Prelude.{◌≡◌, ℕ, suc, ◌-◌, ◌<◌, ◌≤◌, nat_lt, List, [], ◌∷◌, length, take, drop, slice_get, Option, Some, None, if◌then◌else◌}
-use Rattle.std.specs.Global.{Vec}
+use Rattle.std.specs.Prelude.{◌≡◌, ℕ, suc, ◌-◌, ◌<◌, ◌≤◌, nat_lt, List, [], ◌∷◌, length, take, drop, slice_get, Some, None, if◌then◌else◌}
 use Rattle.ug_types.specs.declared.key.Key.{Key}
 use Rattle.ug_table_rules.specs.Tables.{Table}
 use Rattle.ug_table_rules.specs.Climbing.{values_at}
 use Rattle.ug_climb.specs.declared.change.Change.{Change}
 use Rattle.ug_climb.specs.declared.change.Standing.{Standing}
 use Rattle.ug_climb.specs.Pasts.{Value, value_before, IsToldBy}
-use Rattle.ug_hearing.specs.Keyed.{value_for}
-
-abbrev pub items_or_none : Option (Vec Change) → List Change
-items_or_none None = []
-items_or_none (Some changes) = changes.items
+use Rattle.ug_hearing.specs.Keyed.{list_for}
 
 -- the changes of a key
-abbrev pub changes_of : List (Key × Vec Change) → Key → List Change
-changes_of entries key = items_or_none (value_for entries key)
+abbrev pub changes_of : List (Key × List Change) → Key → List Change
+changes_of entries key = list_for entries key
 
 -- how many changes there are up to a version
 unfoldable pub passed : ℕ → List Change → ℕ
@@ -32,7 +27,7 @@ start_of from changes = record { place = from; next = passed from changes }
 
 -- The changes tell what the tables have, one for each version; a session's past is a part of these tables, which begins with
 -- one without routes.
-pub record IsCourse (entries : List (Key × Vec Change)) (from to : ℕ) (past tables : List Table) : Type 0 where
+pub record IsCourse (entries : List (Key × List Change)) (from to : ℕ) (past tables : List Table) : Type 0 where
   pub told : (key : Key) → IsToldBy (values_at key tables) 0 None (changes_of entries key)
   pub part : (key : Key) → values_at key past ≡ take (to - from) (drop from (values_at key tables))
   pub begins : from < to

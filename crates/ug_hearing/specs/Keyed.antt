@@ -1,6 +1,6 @@
 -- Values by key.
 use Rattle.std.specs.Prelude.{◌≡◌, ◌<◌, ◌≤◌, ℕ, true, List, [], ◌∷◌, Option, Some, None, slice_get}
-use Rattle.std.specs.Map.{lookup, update_all}
+use Rattle.std.specs.Map.{lookup}
 use Rattle.ug_types.specs.declared.key.Key.{Key}
 use Rattle.ug_types.specs.Keys.{same_key}
 use Rattle.ug_table_rules.specs.Tables.{among}
@@ -9,9 +9,14 @@ use Rattle.ug_table_rules.specs.Tables.{among}
 abbrev pub value_for : {V : Type 0} → List (Key × V) → Key → Option V
 value_for entries key = lookup (same_key key) entries
 
--- the last of the values that pairs have for a key
-abbrev pub last_for : {V : Type 0} → List (Key × V) → Key → Option V
-last_for pairs = update_all same_key (λ _. None) pairs
+-- the items of a list, where there is one
+abbrev pub items_or_none : {T : Type 0} → Option (List T) → List T
+items_or_none None = []
+items_or_none (Some items) = items
+
+-- the list of a key
+abbrev pub list_for : {T : Type 0} → List (Key × List T) → Key → List T
+list_for entries key = items_or_none (value_for entries key)
 
 -- keys, each with the value at its place
 abbrev pub pairs_of : {V : Type 0} → List Key → List V → List (Key × V)

@@ -1,4 +1,5 @@
 pub mod Keyed
+pub mod Lists
 pub mod Courses
 pub mod Rows
 pub mod Visits

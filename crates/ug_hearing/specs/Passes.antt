@@ -1,6 +1,5 @@
 -- What a message does to the rows of the keys that it names.
 use Rattle.std.specs.Prelude.{◌≡◌, ℕ, suc, ◌⊎◌, Bool, true, false, ◌||◌, List, [], ◌∷◌, ◌++◌, length, is_some}
-use Rattle.std.specs.Global.{Vec}
 use Rattle.ug_types.specs.declared.key.Key.{Key}
 use Rattle.ug_table_rules.specs.Tables.{Table, among}
 use Rattle.ug_table_rules.specs.Climbing.{ClimbsFrom, values_at}
@@ -11,7 +10,7 @@ use Rattle.ug_hearing.specs.Keyed.{value_for}
 use Rattle.ug_hearing.specs.Courses.{changes_of, IsCourse}
 use Rattle.ug_hearing.specs.Rows.{IsRow, row_for}
 
-module _ (entries : List (Key × Vec Change)) (from to : ℕ) (past tables : List Table) where
+module _ (entries : List (Key × List Change)) (from to : ℕ) (past tables : List Table) where
   -- The key's row is right for these values.
   abbrev pub HasRow : Standings → Key → List Value → Type 0
   HasRow st key values = IsRow (values_at key past) (values_at key tables) (changes_of entries key) from to st.moves.items values (row_for st.rows entries from key)
@@ -34,7 +33,7 @@ module _ (entries : List (Key × Vec Change)) (from to : ℕ) (past tables : Lis
       → (among before key ≡ true) ⊎ ((among keys key ≡ true) × ((HasRow old key values ⊎ HasRow old key (values ++ v ∷ [])) → CantClimb key (values ++ v ∷ [])))
 
 -- All these keys were visited, with this value.
-pub record ArePassed (entries : List (Key × Vec Change)) (from to message : ℕ) (keys : List Key) (v : Value) (before failed : List Key) (old new : Standings) : Type 0 where
+pub record ArePassed (entries : List (Key × List Change)) (from to message : ℕ) (keys : List Key) (v : Value) (before failed : List Key) (old new : Standings) : Type 0 where
   pub refreshes : new.refreshes ≡ old.refreshes
   pub named : (q : Key) → is_some (value_for new.rows q) ≡ (is_some (value_for old.rows q) || among keys q)
   pub seen : (q : Key) → among keys q ≡ true → (row_for new.rows entries from q).seen ≡ new.refreshes

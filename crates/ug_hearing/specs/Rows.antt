@@ -1,6 +1,5 @@
 -- How a key stands in a session.
 use Rattle.std.specs.Prelude.{◌≡◌, ℕ, suc, ◌+◌, ◌-◌, ◌<◌, ◌≤◌, Bool, true, false, List, [], ◌∷◌, ◌++◌, length, reverse, slice_get, Some, None, unwrap_or}
-use Rattle.std.specs.Global.{Vec}
 use Rattle.ug_types.specs.declared.key.Key.{Key}
 use Rattle.ug_table_rules.specs.Climbing.{ClimbsTo}
 use Rattle.ug_climb.specs.declared.change.Change.{Change}
@@ -35,11 +34,11 @@ pub record IsRow (past tables : List Value) (changes : List Change) (from to : �
   pub now : value_before row.standing.next changes ≡ last_value None values
 
 -- the row of a key that nothing named
-abbrev pub first_row : List (Key × Vec Change) → ℕ → Key → Row
+abbrev pub first_row : List (Key × List Change) → ℕ → Key → Row
 first_row entries from key = record { standing = start_of from (changes_of entries key); moved = 0; seen = 0 }
 
 -- the row of a key
-abbrev pub row_for : List (Key × Row) → List (Key × Vec Change) → ℕ → Key → Row
+abbrev pub row_for : List (Key × Row) → List (Key × List Change) → ℕ → Key → Row
 row_for rows entries from key = unwrap_or (value_for rows key) (first_row entries from key)
 
 -- A move is noted where there is one.

@@ -1,6 +1,5 @@
 -- What a message does to the row of a key that it names.
 use Rattle.std.specs.Prelude.{◌≡◌, ◌≢◌, ℕ, ◌<◌, ◌≤◌, ◌==◌, Bool, true, false, List, slice_get, Some}
-use Rattle.std.specs.Global.{Vec}
 use Rattle.ug_types.specs.declared.key.Key.{Key}
 use Rattle.ug_types.specs.Keys.{same_key}
 use Rattle.ug_climb.specs.declared.change.Change.{Change}
@@ -25,7 +24,7 @@ Went false changes from to message v old new row t =
     ((tables : List Value) → StandsIn tables changes row.standing → NeverBelow tables row.standing.place to v) × (new ≡ old) × (t.standing ≡ row.standing) × (t.moved ≡ row.moved)
 
 -- A key was visited, and no other.
-pub record IsVisit (entries : List (Key × Vec Change)) (from to message : ℕ) (key : Key) (v : Value) (old new : Standings) (could : Bool) : Type 0 where
+pub record IsVisit (entries : List (Key × List Change)) (from to message : ℕ) (key : Key) (v : Value) (old new : Standings) (could : Bool) : Type 0 where
   pub row : Row
   pub there : value_for new.rows key ≡ Some row
   pub seen : row.seen ≡ new.refreshes

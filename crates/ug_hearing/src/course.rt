@@ -5,7 +5,7 @@ ghost use Rattle.std.specs.Map.{keys_of};
 ghost use Rattle.ug_hearing.specs.Keyed.{value_for, IsPlaceOf};
 ghost use Rattle.ug_hearing.specs.Courses.{changes_of, passed, start_of};
 
-use crate::key_list::KeyList;
+use crate::key_lists::KeyLists;
 use ug_climb::{Change, Standing};
 use ug_types::Key;
 
@@ -13,7 +13,7 @@ use ug_types::Key;
 /// places are versions. A session follows it from one version, where there is no route, up to another.
 #[derive(Drop)]
 pub struct Course {
-    pub changes: KeyList<Vec<Change>>,
+    pub changes: KeyLists<Change>,
     pub from: u32,
     pub to: u32,
 }
@@ -33,10 +33,7 @@ impl Course {
     pub fn changes_of(&self, near: usize, key: &Key) -> &[Change]
         ensures { result.now ≡ changes_of self.now.changes key.now }
     {
-        match self.changes.get(near, key) {
-            Some(changes) => changes.as_slice(),
-            None => &[],
-        }
+        self.changes.of(near, key)
     }
 }
 

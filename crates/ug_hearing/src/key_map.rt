@@ -1,12 +1,12 @@
 //! Values by key.
 
-ghost use Rattle.std.specs.Prelude.{◌≡◌, [], None, Some, length, IfOk, OnOk, OnErr, is_some, option_copied, if◌then◌else◌};
+ghost use Rattle.std.specs.Prelude.{◌≡◌, [], None, Some, length, OnOk, OnErr, is_some, option_copied, if◌then◌else◌};
 ghost use Rattle.std.specs.List.Sorted.{IsStrictlySortedBy};
 ghost use Rattle.std.specs.Map.{keys_of};
 ghost use Rattle.ug_types.specs.declared.key.Key as routes;
 ghost use Rattle.ug_types.specs.Keys.{same_key};
 ghost use Rattle.ug_types.specs.Orders.{key_cmp};
-ghost use Rattle.ug_hearing.specs.Keyed.{value_for, last_for};
+ghost use Rattle.ug_hearing.specs.Keyed.{value_for};
 
 use std::alloc::Global;
 use std::collections::BTreeMap;
@@ -36,17 +36,6 @@ impl<V: Drop> KeyMap<V> {
     {
         KeyMap {
             entries: BTreeMap::new(alloc),
-        }
-    }
-
-    /// The keys of these pairs, each with the last of its values. It is built at once, without a search for each of the keys.
-    pub fn of_pairs(alloc: Global, pairs: Vec<(Key, V)>) -> Result<KeyMap<V>, NoMemory>
-        ensures { IfOk result (λ map. (q : routes.Key) → value_for map q ≡ last_for pairs.items q) }
-    {
-        comparison_laws();
-        match BTreeMap::from_iter(alloc, pairs) {
-            Ok(entries) => Ok(KeyMap { entries }),
-            Err(_) => Err(NoMemory),
         }
     }
 

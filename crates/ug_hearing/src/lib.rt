@@ -4,9 +4,11 @@
 
 mod course;
 mod hearing;
-mod key_list;
+mod key_lists;
 mod key_map;
 mod laws;
+mod list_map;
+mod lists;
 mod log;
 mod naming;
 mod placing;
@@ -16,9 +18,10 @@ mod standings;
 
 pub use course::{Course, passed, start};
 pub use hearing::Hearing;
-pub use key_list::KeyList;
-pub use key_map::KeyMap;
+pub use key_lists::KeyLists;
 pub use laws::log_goes_on;
+pub use list_map::ListMap;
+pub use lists::Lists;
 pub use log::Log;
 pub use naming::all_but;
 pub use row::{Moved, Row};

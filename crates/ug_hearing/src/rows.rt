@@ -1,15 +1,15 @@
 //! The rows of the keys that a session named.
 
-ghost use Rattle.std.specs.Prelude.{◌≡◌, [], ◌++◌, length, replicate, None, Some, IfOk, OnOk, OnErr, is_some, option_copied, if◌then◌else◌};
+ghost use Rattle.std.specs.Prelude.{◌≡◌, true, [], ◌++◌, length, replicate, None, Some, IfOk, OnOk, OnErr, is_some, option_copied, if◌then◌else◌};
 ghost use Rattle.std.specs.List.Sorted.{IsStrictlySortedBy};
 ghost use Rattle.std.specs.Map.{keys_of};
 ghost use Rattle.ug_types.specs.declared.key.Key as routes;
 ghost use Rattle.ug_types.specs.Keys.{same_key};
 ghost use Rattle.ug_types.specs.Orders.{key_cmp};
 ghost use Rattle.ug_table_rules.specs.Tables.{among};
-ghost use Rattle.ug_hearing.specs.Keyed.{value_for, held_of};
+ghost use Rattle.ug_hearing.specs.Keyed.{value_for};
 
-use crate::key_list::KeyList;
+use crate::key_lists::KeyLists;
 use crate::key_map::KeyMap;
 use crate::naming::set_of;
 use crate::placing::place_among;
@@ -43,11 +43,11 @@ impl Model for Rows {
 }
 
 impl Rows {
-    /// No rows. Those of the keys of a list have a place each.
-    pub fn new<V: Drop>(alloc: Global, list: &KeyList<V>) -> Result<Rows, NoMemory>
+    /// No rows. Those of the keys that have lists have a place each.
+    pub fn new<T: Drop>(alloc: Global, lists: &KeyLists<T>) -> Result<Rows, NoMemory>
         ensures { IfOk result (λ rows. rows ≡ []) }
     {
-        let keys = list.keys().share()?;
+        let keys = lists.keys().share()?;
         let known = no_rows(alloc, keys.get().len())?;
         Ok(Rows {
             keys,
@@ -80,17 +80,17 @@ impl Rows {
         }
     }
 
-    /// The keys that have a row, which ascend.
-    pub fn named(&self, alloc: Global) -> Result<Vec<Key>, NoMemory>
-        ensures named { IfOk result (λ keys. (q : routes.Key) → among keys.items q ≡ is_some (value_for self.now q)) }
+    /// Keys that ascend, and among which are all that have a row. They take no memory where none has one but those that were
+    /// known before.
+    pub fn keys(&self, alloc: Global) -> Result<Shared<Vec<Key>>, NoMemory>
+        ensures named { IfOk result (λ keys. (q : routes.Key) → is_some (value_for self.now q) ≡ true → among keys.items q ≡ true) }
         ensures ascending { IfOk result (λ keys. IsStrictlySortedBy key_cmp keys.items) }
     {
-        let mut named = held_keys(alloc, self.keys.get(), &self.known)?;
         if self.others.len() == 0 {
-            return Ok(named);
+            return self.keys.share();
         }
-        add_keys(&mut named, &self.others)?;
-        in_order(alloc, &named)
+        let keys = with_others(alloc, self.keys.get(), &self.others)?;
+        Shared::new(alloc, keys)
     }
 }
 
@@ -115,18 +115,18 @@ fn add_keys<V: Drop>(keys: &mut Vec<Key>, map: &KeyMap<V>) -> Result<(), NoMemor
     Ok(())
 }
 
-/// Those of the keys that have a row at their place.
-fn held_keys(alloc: Global, keys: &[Key], known: &[Option<Row>]) -> Result<Vec<Key>, NoMemory>
-    requires { length known.now ≡ length keys.now }
-    ensures { IfOk result (λ held. held.items ≡ keys_of (held_of keys.now known.now)) }
+/// The keys and those of a map, each once, in their order.
+fn with_others<V: Drop>(
+    alloc: Global,
+    keys: &[Key],
+    others: &KeyMap<V>,
+) -> Result<Vec<Key>, NoMemory>
+    ensures named { IfOk result (λ all. (q : routes.Key) → among all.items q ≡ among (keys.now ++ keys_of others.now) q) }
+    ensures ascending { IfOk result (λ all. IsStrictlySortedBy key_cmp all.items) }
 {
-    let mut held = Vec::with_capacity(alloc, keys.len())?;
-    for i in 0..keys.len() {
-        if known[i].is_some() {
-            held.push(keys[i])?;
-        }
-    }
-    Ok(held)
+    let mut all = Vec::from_slice(alloc, keys)?;
+    add_keys(&mut all, others)?;
+    in_order(alloc, &all)
 }
 
 /// The same keys, each once, in their order.

@@ -1,6 +1,6 @@
 //! How the keys stand.
 
-ghost use Rattle.std.specs.Prelude.{◌≡◌, ◌<◌, ◌==◌, ℕ, List, [], IfOk, OnOk, IfSome, IfNone, option_copied};
+ghost use Rattle.std.specs.Prelude.{◌≡◌, ◌<◌, ◌==◌, ◌&&◌, ℕ, List, [], IfOk, OnOk, IfSome, IfNone, option_copied};
 ghost use Rattle.ug_climb.specs.Pasts.{Value, StandsIn, Climbs};
 ghost use Rattle.ug_hearing.specs.Rows.{row_for, IsNoted};
 ghost use Rattle.ug_hearing.specs.Courses.{changes_of};
@@ -125,16 +125,28 @@ impl Standings {
     pub fn stale_keys(&self, alloc: Global, course: &Course) -> Result<Vec<Key>, NoMemory>
         ensures { IfOk result (λ keys. (q : routes.Key) → among keys.items q ≡ is_stale_in self.now.refreshes course.now.changes self.now.rows q) }
     {
-        let mut keys = Vec::new(alloc);
-        let named = self.rows.named(alloc)?;
+        let all = self.rows.keys(alloc)?;
+        self.stale_among(alloc, course, all.get())
+    }
+
+    /// The same of some keys.
+    fn stale_among(
+        &self,
+        alloc: Global,
+        course: &Course,
+        keys: &[Key],
+    ) -> Result<Vec<Key>, NoMemory>
+        ensures { IfOk result (λ stale. (q : routes.Key) → among stale.items q ≡ (among keys.now q && is_stale_in self.now.refreshes course.now.changes self.now.rows q)) }
+    {
+        let mut stale = Vec::new(alloc);
         let mut near = 0;
-        for key in &named {
+        for key in keys {
             near = course.near(near, key);
             if self.is_stale(course, near, key) {
-                keys.push(*key)?;
+                stale.push(*key)?;
             }
         }
-        Ok(keys)
+        Ok(stale)
     }
 
     /// Notes the move of a row, where there is one, and answers the number of its last.

@@ -1,5 +1,5 @@
 -- What bytes stand for, one behind the other.
-use Rattle.std.proofs.Common.{◌≡◌, ℕ, ◌+◌, ◌≤◌, ◌<◌, slice_index_or, List, [], ◌∷◌, ◌++◌, length, take, drop, sym, ap, ◌∙◌, subst, arith, take-add, length-append, length-drop, Option}
+use Rattle.std.proofs.Common.{◌≡◌, ℕ, ◌+◌, ◌≤◌, ◌<◌, slice_index_or, List, [], ◌∷◌, ◌++◌, length, take, drop, sym, ap, ◌∙◌, subst, arith, take-add, length-append, length-drop, append_assoc, Option}
 use Rattle.std.specs.List.{flat_map}
 use Rattle.std.proofs.lemmas.Grind.{flat_map-append, common_steps}
 use Rattle.std.proofs.lemmas.List.{append-nil, take-append-drop}
@@ -9,19 +9,26 @@ use Rattle.ug_pieces.specs.Reporting.{AppendsFront}
 use Rattle.ug_pieces.specs.AppendingLaws.{AppendsPiece-more, AppendsFront-more, AppendsFront-longer}
 use Rattle.ug_short_text.specs.Codes.{code_text, codes_text, IsFirst}
 
-pub codes_more : (codes text rest : List ℕ) (at code size : ℕ) → codes_text codes ≡ take at text → rest ≡ drop at text → IsFirst code rest → size ≡ length (code_text code) → codes_text (codes ++ code ∷ []) ≡ take (at + size) text
-codes_more codes text rest at code size so is h long =
+pub codes_more : (codes text rest before : List ℕ) (at code size : ℕ) → codes_text codes ≡ before ++ take at text → rest ≡ drop at text → IsFirst code rest → size ≡ length (code_text code)
+    → codes_text (codes ++ code ∷ []) ≡ before ++ take (at + size) text
+codes_more codes text rest before at code size so is h long =
     let word = code_text code in
     let same : take size rest ≡ word = ap (λ (n : ℕ). take n rest) long ∙ ap (λ (xs : List ℕ). take (length word) xs) h.parts ∙ take-append_seam word h.rest in
     let one : codes_text (code ∷ []) ≡ word = append-nil word in
     let all : take (at + size) text ≡ take at text ++ take size rest = take-add at size text ∙ ap (λ (xs : List ℕ). take at text ++ take size xs) (sym is) in
-    flat_map-append code_text codes (code ∷ []) ∙ ap (λ (xs : List ℕ). xs ++ codes_text (code ∷ [])) so ∙ ap (λ (xs : List ℕ). take at text ++ xs) (one ∙ sym same) ∙ sym all
+    flat_map-append code_text codes (code ∷ [])
+    ∙ (ap (λ (xs : List ℕ). xs ++ codes_text (code ∷ [])) so
+    ∙ (append_assoc before (take at text) (codes_text (code ∷ [])) ∙ ap (λ (xs : List ℕ). before ++ xs) (ap (λ (xs : List ℕ). take at text ++ xs) (one ∙ sym same) ∙ sym all)))
 
 pub codes_within : (text rest : List ℕ) (at code size : ℕ) → at ≤ length text → rest ≡ drop at text → IsFirst code rest → size ≡ length (code_text code) → at + size ≤ length text
 codes_within text rest at code size le is h long =
     let a : length rest ≡ length (code_text code) + length h.rest = ap length h.parts ∙ length-append (code_text code) h.rest in
     let b = ap length is ∙ length-drop at text in
     omega (arith, a, b, le, long)
+
+-- what was begun becomes a part, and one more is added behind it
+pub parts_more : (parts begun closed front all old text : List ℕ) → parts ++ begun ≡ old → closed ≡ begun → front ≡ parts ++ closed → all ≡ front ++ text → all ++ [] ≡ old ++ text
+parts_more parts begun closed front all old text opened same one two = append-nil all ∙ (two ∙ ap (λ (xs : List ℕ). xs ++ text) (one ∙ (ap (λ (xs : List ℕ). parts ++ xs) same ∙ opened)))
 
 -- ---- what was written
 

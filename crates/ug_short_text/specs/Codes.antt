@@ -1,5 +1,5 @@
 -- What stands for a text that is kept in few bytes.
-use Rattle.std.specs.Prelude.{◌≡◌, ◌++◌, ℕ, ◌+◌, ◌-◌, ◌/◌, ◌%◌, ◌==◌, nat_lt, List, [], ◌∷◌, if◌then◌else◌, codes}
+use Rattle.std.specs.Prelude.{◌≡◌, ◌++◌, ℕ, ◌+◌, ◌-◌, ◌/◌, ◌%◌, ◌==◌, nat_lt, Bool, List, [], ◌∷◌, if◌then◌else◌, codes}
 use Rattle.std.specs.List.{flat_map}
 use Rattle.ug_short_text.specs.declared.short.Part.{Part}
 
@@ -27,8 +27,12 @@ code_text c =
 abbrev pub codes_text : List ℕ → List ℕ
 codes_text cs = flat_map code_text cs
 
+-- what bytes that may be short stand for
+abbrev pub bytes_text : Bool → List ℕ → List ℕ
+bytes_text is_short bytes = if is_short then codes_text bytes else bytes
+
 abbrev pub part_text : Part → List ℕ
-part_text p = if p.is_short then codes_text p.bytes.items else p.bytes.items
+part_text p = bytes_text p.is_short p.bytes.items
 
 -- The text begins with what the byte stands for.
 pub record IsFirst (c : ℕ) (text : List ℕ) : Type 0 where

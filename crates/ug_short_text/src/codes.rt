@@ -1,30 +1,34 @@
 //! The bytes that stand for a text.
 
-ghost use Rattle.std.specs.Prelude.{◌≡◌, ◌++◌, ◌∷◌, [], ℕ, List, IsTrue, IfSome, IfOk};
+ghost use Rattle.std.specs.Prelude.{◌≡◌, ◌++◌, ◌∷◌, [], ℕ, List, IsTrue, IsFalse, IfSome, IfOk};
 ghost use Rattle.ug_short_text.specs.Codes.{code_text, codes_text, IsFirst};
 
 use crate::code::{
     CLIMB, DIGIT_AND_AT, DIGIT_AND_DOT, ID, ID_ZERO, LAST_ZERO, NEXT_CLIMB, TWO_DIGITS,
 };
 use crate::spelling::size_of;
-use std::alloc::Global;
 use ug_types::NoMemory;
 
-/// The bytes that stand for a text, where it is all of ASCII.
-pub fn codes_of(alloc: Global, text: &[u8]) -> Result<Option<Vec<u8>>, NoMemory>
-    ensures { IfOk result (λ found. IfSome found (λ codes. codes_text codes.items ≡ text.now)) }
+/// Adds the bytes that stand for a text, where it is all of ASCII, and answers whether it is; where it isn't nothing is added.
+pub fn add_codes(codes: &mut Vec<u8>, text: &[u8]) -> Result<bool, NoMemory>
+    ensures added { IfOk result (λ whole. IsTrue whole → codes_text codes.new.items ≡ codes_text codes.old.items ++ text.now) }
+    ensures none { IfOk result (λ whole. IsFalse whole → codes.new.items ≡ codes.old.items) }
 {
-    let mut codes = Vec::new(alloc);
+    let before = codes.len();
     let mut at = 0;
     while at < text.len() {
         let (_, rest) = text.split_at(at);
-        let Some(code) = first_code(rest) else {
-            return Ok(None);
+        let code = match first_code(rest) {
+            Some(code) => code,
+            None => {
+                codes.truncate(before);
+                return Ok(false);
+            }
         };
         codes.push(code)?;
         at += size_of(code);
     }
-    Ok(Some(codes))
+    Ok(true)
 }
 
 /// A byte that stands for the front of a text.

@@ -4,9 +4,9 @@ ghost use Rattle.std.specs.Prelude.{◌≡◌, ◌++◌, [], OnOk, OnErr, IfOk};
 ghost use Rattle.std.specs.List.{flat_map};
 ghost use Rattle.ug_edge.specs.Told.{Rose, AppendsPiece};
 ghost use Rattle.ug_pieces.specs.Reporting.{AppendsFront};
-ghost use Rattle.ug_short_text.specs.Codes.{part_text};
+ghost use Rattle.ug_short_text.specs.Codes.{part_text, bytes_text};
 
-use crate::codes::codes_of;
+use crate::codes::add_codes;
 use crate::spelling::write_spelled;
 use std::alloc::Global;
 use std::marker::Model;
@@ -24,20 +24,22 @@ pub struct Part {
     pub bytes: Shared<Vec<u8>>,
 }
 
-/// A text that is kept in few bytes. Contracts see the text.
+/// A text that is kept in few bytes: its parts, and behind them the bytes that stand for what was added since. Contracts see
+/// the text.
 #[derive(Drop)]
 pub struct ShortText {
     parts: Vec<Part>,
+    begun: Vec<u8>,
 }
 
 impl Model for ShortText {
-    ghost use Rattle.std.specs.Prelude.{ℕ, List};
+    ghost use Rattle.std.specs.Prelude.{ℕ, List, ◌++◌};
     ghost use Rattle.std.specs.List.{flat_map};
-    ghost use Rattle.ug_short_text.specs.Codes.{part_text};
+    ghost use Rattle.ug_short_text.specs.Codes.{part_text, codes_text};
 
     ghost Value = { List ℕ };
 
-    ghost view = { λ t. flat_map part_text t.parts.items };
+    ghost view = { λ t. flat_map part_text t.parts.items ++ codes_text t.begun.items };
 }
 
 impl ShortText {
@@ -47,46 +49,32 @@ impl ShortText {
     {
         ShortText {
             parts: Vec::new(alloc),
+            begun: Vec::new(alloc),
         }
     }
 
-    /// Adds a part.
+    /// Adds to the text. What isn't all of ASCII is a part of its own.
     pub fn add(&mut self, alloc: Global, text: &[u8]) -> Result<(), NoMemory>
         ensures { OnOk result (self.new ≡ self.old ++ text.now) }
     {
-        let part = self.part(alloc, text)?;
-        self.parts.push(part)?;
+        let whole = add_codes(&mut self.begun, text)?;
+        if whole {
+            return Ok(());
+        }
+        add_part(alloc, &mut self.parts, true, &self.begun)?;
+        self.begun.clear();
+        add_part(alloc, &mut self.parts, false, text)?;
         Ok(())
     }
 
-    /// The part that stands for a text.
-    fn part(&self, alloc: Global, text: &[u8]) -> Result<Part, NoMemory>
-        ensures { IfOk result (λ part. part_text part ≡ text.now) }
+    /// What was added since the last part becomes a part, which takes as much memory as it has bytes, or none where an equal
+    /// one is near. The text stays as it is.
+    pub fn close(&mut self, alloc: Global) -> Result<(), NoMemory>
+        ensures { OnOk result (self.new ≡ self.old) }
     {
-        match codes_of(alloc, text)? {
-            Some(codes) => Ok(Part {
-                is_short: true,
-                bytes: self.shared(alloc, &codes)?,
-            }),
-            None => Ok(Part {
-                is_short: false,
-                bytes: self.shared(alloc, text)?,
-            }),
-        }
-    }
-
-    /// These bytes, shared with the part near the end that has equal ones.
-    fn shared(&self, alloc: Global, bytes: &[u8]) -> Result<Shared<Vec<u8>>, NoMemory>
-        ensures { IfOk result (λ shared. shared.items ≡ bytes.now) }
-    {
-        let count = self.parts.len();
-        for place in count.saturating_sub(NEAR)..count {
-            let part = &self.parts[place];
-            if part.bytes.get().as_slice() == bytes {
-                return part.bytes.share();
-            }
-        }
-        Shared::new(alloc, Vec::from_slice(alloc, bytes)?)
+        add_part(alloc, &mut self.parts, true, &self.begun)?;
+        self.begun.clear();
+        Ok(())
     }
 
     /// Writes the text a piece after another, where no call fails. It takes no memory.
@@ -96,8 +84,43 @@ impl ShortText {
         ensures failed { OnErr result (Rose (K.faults report.old) (K.faults report.new)) }
         ensures unharmed { OnOk result (K.faults report.new ≡ K.faults report.old) }
     {
-        write_parts(report, &self.parts)
+        match write_parts(report, &self.parts) {
+            Ok(()) => {}
+            Err(Failed) => return Err(Failed),
+        }
+        match write_spelled(report, &self.begun) {
+            Ok(()) => Ok(()),
+            Err(Failed) => Err(Failed),
+        }
     }
+}
+
+/// Adds a part: the bytes of a text, or those that stand for it.
+fn add_part(
+    alloc: Global,
+    parts: &mut Vec<Part>,
+    is_short: bool,
+    bytes: &[u8],
+) -> Result<(), NoMemory>
+    ensures { OnOk result (flat_map part_text parts.new.items ≡ flat_map part_text parts.old.items ++ bytes_text is_short bytes.now) }
+{
+    let bytes = shared(alloc, parts, bytes)?;
+    parts.push(Part { is_short, bytes })?;
+    Ok(())
+}
+
+/// These bytes, shared with the part near the end that has equal ones.
+fn shared(alloc: Global, parts: &[Part], bytes: &[u8]) -> Result<Shared<Vec<u8>>, NoMemory>
+    ensures { IfOk result (λ shared. shared.items ≡ bytes.now) }
+{
+    let count = parts.len();
+    for place in count.saturating_sub(NEAR)..count {
+        let part = &parts[place];
+        if part.bytes.get().as_slice() == bytes {
+            return part.bytes.share();
+        }
+    }
+    Shared::new(alloc, Vec::from_slice(alloc, bytes)?)
 }
 
 /// Writes parts, one behind the other.

@@ -38,7 +38,7 @@ version-after e w = refl
 
 -- ---- the log
 
-log_more : (e : Happening) (p : ℕ) (ws front : List World) (w w' : World) (s s' : PeerState) (keys : List Key) (old new : List (Key × Vec Change))
+log_more : (e : Happening) (p : ℕ) (ws front : List World) (w w' : World) (s s' : PeerState) (keys : List Key) (old new : List (Key × List Change))
     → ws ≡ front ++ w ∷ [] → w.version ≡ length front → w' ≡ after w e → slice_get w.peers p ≡ Some s → slice_get w'.peers p ≡ Some s' → s' ≡ peer_after e s → keys ≡ keys_at e s.peer w ++ keys_at e s'.peer w'
     → IsLog old (map (private_table p) ws) → IsNotedFor p w' keys old new → IsLog new (map (private_table p) (ws ++ w' ∷ []))
 log_more e p ws front w w' s s' keys old new parts version led is later is_next keys_are log noted =

@@ -1,6 +1,5 @@
 -- A session follows the tables of its worlds.
 use Rattle.std.proofs.Common.{◌≡◌, ℕ, ◌-◌, List, [], ◌∷◌, ◌++◌, length, map, take, drop, slice_get, Some, None, refl, sym, ◌∙◌, ap, arith, length-append}
-use Rattle.std.specs.Global.{Vec}
 use Rattle.std.proofs.lemmas.List.{map-append, length-map}
 use Rattle.ug_types.specs.declared.key.Key.{Key}
 use Rattle.ug_table_rules.specs.Tables.{Table}
@@ -75,7 +74,7 @@ module _ (p n : ℕ) (ws : List World) (from to : ℕ) (s : IsSpan p n ws from t
       let ns = values_at key (map (private_table p) s.behind) in
       ap (λ (k : ℕ). slice_get (values_at key (map (private_table p) ws)) k) from_size ∙ ap (λ (vs : List Value). slice_get vs (length os)) all ∙ at_front os (hs ++ ns) (private_table p s.first key) ∙ ap (λ (v : Value). Some v) (s.empty key)
 
-pub course : (entries : List (Key × Vec Change)) (p n : ℕ) (ws : List World) (from to : ℕ) → IsLog entries (map (private_table p) ws) → IsSpan p n ws from to → IsCourse entries from to (past p n ws) (map (private_table p) ws)
+pub course : (entries : List (Key × List Change)) (p n : ℕ) (ws : List World) (from to : ℕ) → IsLog entries (map (private_table p) ws) → IsSpan p n ws from to → IsCourse entries from to (past p n ws) (map (private_table p) ws)
 course entries p n ws from to log s =
     let size = length-map ws (private_table p) in
     let outer = ap (λ (xs : List World). length xs) s.parts ∙ length-append s.before (s.first ∷ (s.inside ++ s.behind)) in

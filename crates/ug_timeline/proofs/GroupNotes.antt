@@ -13,7 +13,6 @@ use Rattle.ug_world.specs.Touches.{is_about}
 use Rattle.ug_world.specs.declared.peer_state.PeerState.{PeerState}
 use Rattle.ug_hearing.proofs.Keys.{same_is}
 use Rattle.ug_hearing.proofs.Among.{same-self, same-sym, or-second, among-last}
-use Rattle.ug_timeline.specs.declared.since.Since.{Since}
 use Rattle.ug_timeline.specs.declared.group.Group.{Group}
 use Rattle.ug_timeline.specs.declared.seat.Seat.{Seat}
 use Rattle.ug_timeline.specs.declared.touched.Touched.{Touched}

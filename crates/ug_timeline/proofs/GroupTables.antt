@@ -19,13 +19,12 @@ use Rattle.ug_world.proofs.Keeping.{kept}
 use Rattle.ug_world.proofs.Relisting.{neither}
 use Rattle.ug_speaker.proofs.PathKeys.{path_among, path_in_routes}
 use Rattle.ug_speaker.proofs.SameKeys.{prefix-is}
-use Rattle.ug_timeline.specs.declared.since.Since.{Since}
 use Rattle.ug_timeline.specs.declared.group.Group.{Group}
 use Rattle.ug_timeline.specs.declared.touched.Touched.{Touched}
-use Rattle.ug_timeline.specs.Held.{held, last_held, IsRising}
+use Rattle.ug_timeline.specs.Held.{held, IsRising}
 use Rattle.ug_timeline.specs.Touched.{keys_touched}
 use Rattle.ug_timeline.specs.GroupLogs.{Outs, Entries, changes_in, Adds, AddsWhere, IsNotedAt, IsGroupLog}
-use Rattle.ug_timeline.specs.Seats.{IsBegun, IsLonger, AreGroups}
+use Rattle.ug_timeline.specs.Seats.{IsLonger, AreGroups}
 use Rattle.ug_timeline.specs.Histories.{keys_for, IsNotedOf, AreNotedFor}
 use Rattle.ug_timeline.proofs.Holding.{rising-wider, rising-added, held-before, held-at, held-last}
 

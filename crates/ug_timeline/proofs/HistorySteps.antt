@@ -9,7 +9,6 @@ use Rattle.std.proofs.lemmas.Option.{slice_get-map}
 use Rattle.ug_types.specs.declared.key.Key.{Key}
 use Rattle.ug_table_rules.specs.Tables.{Table}
 use Rattle.ug_table_rules.specs.Climbing.{values_at}
-use Rattle.ug_climb.specs.declared.change.Change.{Change}
 use Rattle.ug_climb.specs.Pasts.{Value}
 use Rattle.ug_hearing.specs.Courses.{changes_of}
 use Rattle.ug_hearing.specs.Logs.{IsLog}
@@ -23,8 +22,7 @@ use Rattle.ug_world.specs.World.{World}
 use Rattle.ug_world.specs.Verdicts.{verdict}
 use Rattle.ug_world.specs.After.{after}
 use Rattle.ug_world.specs.Private.{private_table}
-use Rattle.ug_world.specs.Touches.{is_about}
-use Rattle.ug_world.specs.Worlds.{Outcome, outcome, world_after, where_accepted, accepted_worlds, worlds, last_world}
+use Rattle.ug_world.specs.Worlds.{outcome, world_after, where_accepted, accepted_worlds, worlds, last_world}
 use Rattle.ug_world.proofs.Keeping.{down}
 use Rattle.ug_speaker.proofs.Peers.{peer_after, peers-after}
 use Rattle.ug_timeline.specs.declared.group.Group.{Group}
@@ -37,13 +35,12 @@ use Rattle.ug_timeline.specs.declared.since.Since.{Since}
 use Rattle.ug_timeline.specs.Held.{held, last_held, IsRising}
 use Rattle.ug_timeline.specs.GroupLogs.{Outs, Entries, changes_in}
 use Rattle.ug_timeline.specs.Touched.{keys_touched}
-use Rattle.ug_timeline.specs.Lines.{IsAccepted, IsPassed}
 use Rattle.ug_timeline.specs.Timelines.{IsFirst, IsSpan, end_of, IsTimeline, HasSessions}
-use Rattle.ug_timeline.specs.Merges.{told_if, IsMerged, IsTold}
-use Rattle.ug_timeline.specs.Seats.{IsNew, IsLonger, IsTurned, group_at, outs_in, outs_at, log_at, IsSharing, IsSeatOf, AreGroups}
+use Rattle.ug_timeline.specs.Merges.{told_if, IsTold}
+use Rattle.ug_timeline.specs.Seats.{IsNew, outs_in, outs_at, log_at, IsSharing, IsSeatOf, AreGroups}
 use Rattle.ug_timeline.specs.Histories.{IsHistory, AreTimelines, AreNotedFor, IsTurnedIf, AreTurnedFrom, AreTurned, AreNew}
 use Rattle.ug_timeline.proofs.Coming.{as-many, version-after, some_there}
-use Rattle.ug_timeline.proofs.Replayed.{before, sessions_begin, accepts}
+use Rattle.ug_timeline.proofs.Replayed.{before, sessions_begin}
 use Rattle.ug_timeline.proofs.GroupTables.{same-one, which-world, world-last, get-inside, Follows, Keeps, groups-go-on, groups-follow, longer-keeps, longer-groups, keeps-follow, keeps-on}
 use Rattle.ug_timeline.proofs.MergedKeys.{log-there}
 use Rattle.ug_timeline.proofs.SeatSteps.{seat-goes-on, seat-kept}

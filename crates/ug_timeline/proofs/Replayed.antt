@@ -67,9 +67,9 @@ replays_on p first w w' t t' line left more all is led goes r = record {
   last_is = ap (λ (x : World). last_world x more) led ∙ (sym (ap (last_world w) is) ∙ r.last_is);
 }
 
-nothing_told : (p : ℕ) (w : World) → ((key : Key) → private_table p w key ≡ None) → (entries : List (Key × Vec Change)) → entries ≡ [] → IsLog entries (map (private_table p) (w ∷ []))
+nothing_told : (p : ℕ) (w : World) → ((key : Key) → private_table p w key ≡ None) → (entries : List (Key × List Change)) → entries ≡ [] → IsLog entries (map (private_table p) (w ∷ []))
 nothing_told p w none entries is =
-    subst (λ (es : List (Key × Vec Change)). IsLog es (map (private_table p) (w ∷ []))) (sym is)
+    subst (λ (es : List (Key × List Change)). IsLog es (map (private_table p) (w ∷ []))) (sym is)
     (λ key. (omega arith, λ n low less. (let zero_is : n ≡ 0 = omega (arith, less) in ap (λ (k : ℕ). slice_get (values_at key (map (private_table p) (w ∷ []))) k) zero_is ∙ ap (λ v. Some v) (none key))))
 
 pub sessions_begin : (p : ℕ) (first : World) (t : Progress) (s : PeerState) → slice_get first.peers p ≡ Some s → IsFirst first → t.begun.items ≡ [] → t.ended.items ≡ [] → StandsBy p (first ∷ []) first t
@@ -108,7 +108,7 @@ replay_ends p first w t end left all none changes begun ended r =
     let last : w ≡ last_world first all = sym (ap (last_world w) none) ∙ r.last_is in
     let spans = subst (λ (es : Vec ℕ). (i from : ℕ) → slice_get end.begun.items i ≡ Some from → IsSpan p (suc i) r.ws from (end_of es.items i (length r.ws))) (sym ended)
     (subst (λ (bs : Vec ℕ). (i from : ℕ) → slice_get bs.items i ≡ Some from → IsSpan p (suc i) r.ws from (end_of t.ended.items i (length r.ws))) (sym begun) r.at.by.spans) in (
-      subst (λ (xs : List World). IsTimeline p xs end) whole (record { log = subst (λ (es : List (Key × Vec Change)). IsLog es (map (private_table p) r.ws)) (sym changes) r.at.log; spans = spans }),
+      subst (λ (xs : List World). IsTimeline p xs end) whole (record { log = subst (λ (es : List (Key × List Change)). IsLog es (map (private_table p) r.ws)) (sym changes) r.at.log; spans = spans }),
       subst (λ (x : World). HasSessions p x end) last
           (λ s there. ap (λ (bs : Vec ℕ). length bs.items) begun ∙ (r.at.by.begun ∙ ap (λ (u : PeerState). u.sessions) (same_state r.at.by.state s (sym r.at.by.there ∙ there)))),
     )

@@ -1,5 +1,5 @@
 -- What is kept of a peer, after one event more.
-use Rattle.std.proofs.Common.{◌≡◌, ◌≢◌, ℕ, zero, suc, ◌+◌, ◌<◌, ◌≤◌, ◌⊎◌, inl, inr, Bool, true, false, List, [], ◌∷◌, ◌++◌, length, slice_get, Option, Some, None, refl, sym, ◌∙◌, ap, subst, arith, length-append}
+use Rattle.std.proofs.Common.{◌≡◌, ℕ, suc, ◌+◌, ◌<◌, ◌⊎◌, inl, inr, Bool, true, false, List, [], ◌∷◌, ◌++◌, length, slice_get, Option, Some, None, refl, sym, ◌∙◌, ap, subst, arith, length-append}
 use Rattle.std.specs.Prelude.{if◌then◌else◌}
 use Rattle.std.specs.Option.{option_map}
 use Rattle.ug_types.specs.Bytes.{same_bytes}
@@ -9,7 +9,6 @@ use Rattle.ug_types.specs.declared.route.PeerEnds.{PeerEnds}
 use Rattle.ug_rewrite.specs.NextHops.{told_to}
 use Rattle.ug_outbound.specs.declared.key.GroupKey.{GroupKey}
 use Rattle.ug_outbound.specs.Keys.{ends_of}
-use Rattle.ug_climb.specs.Pasts.{Value}
 use Rattle.ug_events.specs.Events.{Happening, ComesUp, GoesDown, HasPaths, HasNone, HasPolicy, HasEntries, AsksAgain, SendsRequest, SendsList}
 use Rattle.ug_world.specs.declared.peer_state.PeerState.{PeerState}
 use Rattle.ug_world.specs.World.{World, key_in}
@@ -17,17 +16,16 @@ use Rattle.ug_world.specs.Verdicts.{verdict}
 use Rattle.ug_world.specs.After.{after, changed_peer, come_up, gone_down, refiltered, with_orf, with_policy}
 use Rattle.ug_world.specs.Private.{private_table, wanted}
 use Rattle.ug_world.specs.Touches.{is_about}
-use Rattle.ug_world.proofs.Keeping.{shared, down, others}
+use Rattle.ug_world.proofs.Keeping.{shared, down}
 use Rattle.ug_speaker.proofs.Peers.{peer_after, peers-after}
 use Rattle.ug_timeline.specs.declared.since.Since.{Since}
 use Rattle.ug_timeline.specs.declared.group.Group.{Group}
 use Rattle.ug_timeline.specs.declared.seat.Seat.{Seat}
 use Rattle.ug_timeline.specs.Held.{held, last_held, IsRising}
-use Rattle.ug_timeline.specs.GroupLogs.{changes_in, IsGroupLog}
 use Rattle.ug_timeline.specs.Merges.{told_if}
 use Rattle.ug_timeline.specs.Seats.{Rises, group_at, outs_in, outs_at, IsKeyed, IsSeatedUp, IsTurned, IsSharing, IsSeatOf, AreGroups}
 use Rattle.ug_timeline.specs.Standing.{StandsBy}
-use Rattle.ug_timeline.proofs.Coming.{marked-comes, version-after}
+use Rattle.ug_timeline.proofs.Coming.{marked-comes}
 use Rattle.ug_timeline.proofs.Holding.{rising-wider, rising-added, held-before, held-last, last-added}
 use Rattle.ug_timeline.proofs.GroupTables.{same-one, which-world, Follows, Keeps}
 

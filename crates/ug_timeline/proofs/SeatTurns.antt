@@ -1,11 +1,10 @@
 -- What is kept of a peer goes on with a world.
-use Rattle.std.proofs.Common.{◌≡◌, ℕ, ◌<◌, ◌⊎◌, inl, inr, Bool, true, false, List, [], ◌∷◌, ◌++◌, slice_get, Option, Some, None, refl, sym, ◌∙◌, ap, subst}
+use Rattle.std.proofs.Common.{◌≡◌, ◌⊎◌, inl, inr, Bool, true, false, List, Option, Some, sym, ◌∙◌, ap}
 use Rattle.std.specs.Option.{option_map}
 use Rattle.ug_policy.specs.declared.list_entry.ListEntry.{ListEntry}
 use Rattle.ug_outbound.specs.declared.settings.Local.{Local}
 use Rattle.ug_outbound.specs.declared.policy.Policy.{Policy}
 use Rattle.ug_outbound.specs.declared.peer.Peer.{Peer}
-use Rattle.ug_outbound.specs.declared.key.GroupKey.{GroupKey}
 use Rattle.ug_outbound.specs.Keys.{group_key_of}
 use Rattle.ug_world.specs.declared.peer_state.PeerState.{PeerState}
 use Rattle.ug_world.specs.World.{World, policy_named, key_in}

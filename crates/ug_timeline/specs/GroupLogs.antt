@@ -1,11 +1,10 @@
 -- What the peers of a group key should have, version by version.
 use Rattle.std.specs.Prelude.{◌≡◌, ◌≢◌, ℕ, ◌<◌, ◌≤◌, ◌⊎◌, Bool, true, false, List, [], ◌∷◌, ◌++◌, length, slice_get, Option, Some, None}
-use Rattle.std.specs.Global.{Vec}
 use Rattle.ug_types.specs.declared.key.Key.{Key}
 use Rattle.ug_types.specs.declared.route.OutAttrs.{OutAttrs}
 use Rattle.ug_types.specs.Keys.{same_key}
 use Rattle.ug_table_rules.specs.Tables.{among}
-use Rattle.ug_hearing.specs.Keyed.{value_for}
+use Rattle.ug_hearing.specs.Keyed.{list_for}
 use Rattle.ug_world.specs.World.{World}
 use Rattle.ug_world.specs.Private.{wanted}
 use Rattle.ug_outbound.specs.declared.key.GroupKey.{GroupKey}
@@ -17,15 +16,11 @@ abbrev pub Outs : Type 0
 Outs = List (Since (Option OutAttrs))
 
 abbrev pub Entries : Type 0
-Entries = List (Key × Vec (Since (Option OutAttrs)))
-
-abbrev pub outs_or_none : Option (Vec (Since (Option OutAttrs))) → Outs
-outs_or_none None = []
-outs_or_none (Some changes) = changes.items
+Entries = List (Key × Outs)
 
 -- the changes of a key
 abbrev pub changes_in : Entries → Key → Outs
-changes_in entries key = outs_or_none (value_for entries key)
+changes_in entries key = list_for entries key
 
 -- A change is added where the value is another than the last.
 abbrev pub Adds : ℕ → Option OutAttrs → Outs → Outs → Type 0

@@ -1,6 +1,5 @@
 -- How far a timeline has come.
 use Rattle.std.specs.Prelude.{◌≡◌, ℕ, suc, ◌-◌, ◌<◌, nat_lt, ◌&&◌, not, true, List, [], ◌∷◌, ◌++◌, length, map, filter, slice_get, Some, if◌then◌else◌}
-use Rattle.std.specs.Global.{Vec}
 use Rattle.ug_types.specs.declared.key.Key.{Key}
 use Rattle.ug_climb.specs.declared.change.Change.{Change}
 use Rattle.ug_hearing.specs.Logs.{IsLog, AreNoted}
@@ -37,7 +36,7 @@ pub record StandsAt (p : ℕ) (ws : List World) (w : World) (t : Progress) : Typ
   pub by : StandsBy p ws w t
 
 -- What the peer should have under these keys was noted.
-abbrev pub IsNotedFor : ℕ → World → List Key → List (Key × Vec Change) → List (Key × Vec Change) → Type 0
+abbrev pub IsNotedFor : ℕ → World → List Key → List (Key × List Change) → List (Key × List Change) → Type 0
 IsNotedFor p w keys old new = AreNoted w.version keys (map (private_table p w) keys) old new
 
 -- A session begins with the world of this version, or is over there, where the peer has had one more, or isn't up.

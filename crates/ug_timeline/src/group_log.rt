@@ -1,14 +1,12 @@
 //! What the peers of a group key should have, version by version.
 
-ghost use Rattle.std.specs.Prelude.{◌≡◌, [], ◌++◌, ◌∷◌, None, Some, false, IsTrue, IfOk, OnOk, ◌↔◌, option_copied};
-ghost use Rattle.ug_types.specs.declared.key.Key as routes;
-ghost use Rattle.ug_types.specs.Keys.{same_key};
+ghost use Rattle.std.specs.Prelude.{◌≡◌, [], None, IsTrue, IfOk, OnOk, ◌↔◌, option_copied};
 ghost use Rattle.ug_timeline.specs.Held.{last_held};
-ghost use Rattle.ug_timeline.specs.GroupLogs.{changes_in, Adds, IsSet};
+ghost use Rattle.ug_timeline.specs.GroupLogs.{IsSet};
 
 use crate::since::Since;
 use std::alloc::Global;
-use ug_hearing::KeyMap;
+use ug_hearing::ListMap;
 use ug_types::{Key, NoMemory, OutAttrs, Shared, value_laws};
 
 /// What goes out under a key from a version on.
@@ -17,7 +15,7 @@ pub type GroupChange = Since<Option<Shared<OutAttrs>>>;
 /// The changes of what goes out, key by key. Equal values that are noted one behind the other are shared.
 #[derive(Drop)]
 pub struct GroupLog {
-    pub changes: KeyMap<Vec<GroupChange>>,
+    pub changes: ListMap<GroupChange>,
     pub last: Option<Shared<OutAttrs>>,
 }
 
@@ -27,7 +25,7 @@ impl GroupLog {
         ensures { result.changes ≡ [] }
     {
         GroupLog {
-            changes: KeyMap::new(alloc),
+            changes: ListMap::new(alloc),
             last: None,
         }
     }
@@ -42,35 +40,11 @@ impl GroupLog {
     ) -> Result<(), NoMemory>
         ensures { OnOk result (IsSet version key.now value self.old.changes self.new.changes) }
     {
-        if is_last(self.changes_of(key), &value) {
+        if is_last(self.changes.of(key), &value) {
             return Ok(());
         }
         let value = self.shared(alloc, value)?;
-        let mut changes = self.take_out(alloc, key)?;
-        changes.push(Since { version, value })?;
-        self.changes.put(*key, changes)?;
-        Ok(())
-    }
-
-    /// The changes of a key.
-    pub fn changes_of(&self, key: &Key) -> &[GroupChange]
-        ensures { result.now ≡ changes_in self.now.changes key.now }
-    {
-        match self.changes.get(key) {
-            Some(changes) => changes.as_slice(),
-            None => &[],
-        }
-    }
-
-    /// Takes out the changes of a key.
-    fn take_out(&mut self, alloc: Global, key: &Key) -> Result<Vec<GroupChange>, NoMemory>
-        ensures changes { IfOk result (λ changes. changes.items ≡ changes_in self.old.changes key.now) }
-        ensures others { (q : routes.Key) → same_key key.now q ≡ false → changes_in self.new.changes q ≡ changes_in self.old.changes q }
-    {
-        match self.changes.remove(key) {
-            Some(changes) => Ok(changes),
-            None => Ok(Vec::with_capacity(alloc, 1)?),
-        }
+        self.changes.add(alloc, *key, Since { version, value })
     }
 
     /// The value, shared with the one before it where that is equal.

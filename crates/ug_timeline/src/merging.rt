@@ -91,17 +91,18 @@ impl Teller {
     }
 }
 
-/// The changes of what the peer should have, of when it was up and of what goes out.
-pub fn merged(
+/// The changes of what the peer should have, of when it was up and of what goes out, in the place of those that were there.
+pub fn merge(
     alloc: Global,
     teller: &mut Teller,
     ups: &[Since<bool>],
     outs: &[GroupChange],
-) -> Result<Vec<Change>, NoMemory>
-    ensures merged { IfOk result (λ changes. IsTold teller.old.ends ups.now outs.now changes.items) }
+    changes: &mut Vec<Change>,
+) -> Result<(), NoMemory>
+    ensures merged { OnOk result (IsTold teller.old.ends ups.now outs.now changes.new.items) }
     ensures ends { teller.new.ends ≡ teller.old.ends }
 {
-    let mut changes = Vec::with_capacity(alloc, 1)?;
+    changes.clear();
     let mut up = false;
     let mut out = None;
     let mut ups_left = ups;
@@ -110,9 +111,9 @@ pub fn merged(
         (up, ups_left) = pass_up(at, up, ups_left);
         (out, outs_left) = pass_out(at, out, outs_left);
         let value = teller.tell_if(alloc, up, out)?;
-        add(&mut changes, at, value)?;
+        add(changes, at, value)?;
     }
-    Ok(changes)
+    Ok(())
 }
 
 /// Whether the peer is up in a version, where it was so before it, and the changes behind it.

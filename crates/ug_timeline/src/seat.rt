@@ -14,7 +14,7 @@ ghost use Rattle.ug_timeline.specs.Seats.{IsNew, Rises, IsKeyed, IsSameOrNone, I
 
 use crate::group::Group;
 use crate::group_log::GroupChange;
-use crate::merging::{Teller, merged};
+use crate::merging::{Teller, merge};
 use crate::progress::Progress;
 use crate::same_key::are_same;
 use crate::since::Since;
@@ -23,7 +23,7 @@ use std::alloc::Global;
 use std::sync::ledger::Ledger;
 use ug_climb::Change;
 use ug_events::Event;
-use ug_hearing::{KeyList, KeyMap};
+use ug_hearing::{KeyLists, ListMap, Lists};
 use ug_outbound::{GroupKey, Peer, key_of};
 use ug_types::{Name, NoMemory, PeerEnds, PeerId, Steps};
 use ug_world::World;
@@ -71,7 +71,7 @@ impl Seat {
     pub fn timeline(
         &self,
         alloc: Global,
-        logs: &[KeyList<Vec<GroupChange>>],
+        logs: &[KeyLists<GroupChange>],
     ) -> Result<Timeline, NoMemory>
         ensures changes { IfOk result (λ timeline. (q : routes.Key) → IsTold self.now.ends self.now.ups.items (changes_in (log_at logs.now self.now.group) q) (changes_of timeline.changes q)) }
         ensures begun { IfOk result (λ timeline. timeline.begun.items ≡ self.now.sessions.begun.items) }
@@ -91,8 +91,8 @@ impl Seat {
     fn changes(
         &self,
         alloc: Global,
-        logs: &[KeyList<Vec<GroupChange>>],
-    ) -> Result<KeyList<Vec<Change>>, NoMemory>
+        logs: &[KeyLists<GroupChange>],
+    ) -> Result<KeyLists<Change>, NoMemory>
         ensures { IfOk result (λ changes. (q : routes.Key) → IsTold self.now.ends self.now.ups.items (changes_in (log_at logs.now self.now.group) q) (changes_of changes q)) }
     {
         let Some(place) = self.group else {
@@ -111,29 +111,30 @@ impl Seat {
     fn changes_of(
         &self,
         alloc: Global,
-        outs: &KeyList<Vec<GroupChange>>,
-    ) -> Result<KeyList<Vec<Change>>, NoMemory>
+        outs: &KeyLists<GroupChange>,
+    ) -> Result<KeyLists<Change>, NoMemory>
         ensures { IfOk result (λ changes. (q : routes.Key) → IsTold self.now.ends self.now.ups.items (changes_in outs.now q) (changes_of changes q)) }
     {
         let keys = outs.keys().share()?;
         let count = outs.len();
-        let mut values = Vec::with_capacity(alloc, count)?;
+        let mut lists = Lists::new(alloc, count, outs.item_count())?;
+        let mut told = Vec::new(alloc);
         let mut teller = Teller::new(self.ends);
         let ups = self.ups.as_slice();
         for place in 0..count {
             let (_, changes) = outs.at(place);
-            let told = merged(alloc, &mut teller, ups, changes.as_slice())?;
-            values.push(told)?;
+            merge(alloc, &mut teller, ups, changes, &mut told)?;
+            lists.add(&mut told)?;
         }
-        Ok(KeyList::over(keys, values))
+        Ok(KeyLists::over(keys, lists))
     }
 }
 
 /// No changes of any key.
-fn no_changes(alloc: Global) -> Result<KeyList<Vec<Change>>, NoMemory>
+fn no_changes(alloc: Global) -> Result<KeyLists<Change>, NoMemory>
     ensures { IfOk result (λ changes. changes ≡ []) }
 {
-    KeyList::of_map(alloc, KeyMap::new(alloc))
+    KeyLists::of_map(alloc, ListMap::new(alloc))
 }
 
 /// Whether the peer was up last.

@@ -5,14 +5,14 @@ ghost use Rattle.std.specs.Prelude.{◌≡◌, IfOk};
 use crate::progress::Progress;
 use std::alloc::Global;
 use ug_climb::Change;
-use ug_hearing::KeyList;
+use ug_hearing::KeyLists;
 use ug_types::NoMemory;
 
 /// The changes of what a peer should have, key by key, whose places are versions; and for each of its sessions the version
 /// before it, and for each that is over the first version behind it.
 #[derive(Drop)]
 pub struct Timeline {
-    pub changes: KeyList<Vec<Change>>,
+    pub changes: KeyLists<Change>,
     pub begun: Vec<u32>,
     pub ended: Vec<u32>,
 }
@@ -25,7 +25,7 @@ impl Timeline {
         ensures ended { IfOk result (λ timeline. timeline.ended ≡ progress.ended) }
     {
         let Progress { log, begun, ended } = progress;
-        let changes = KeyList::of_map(alloc, log.changes)?;
+        let changes = KeyLists::of_map(alloc, log.changes)?;
         Ok(Timeline {
             changes,
             begun,

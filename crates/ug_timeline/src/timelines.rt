@@ -14,14 +14,14 @@ use crate::replay::timeline_of;
 use crate::seat::Seat;
 use crate::timeline::Timeline;
 use std::alloc::Global;
-use ug_hearing::KeyList;
+use ug_hearing::KeyLists;
 use ug_types::{NoMemory, PeerId};
 use ug_world::World;
 
 /// What went out to each group, whose keys all its peers share, and what is kept of each peer.
 #[derive(Drop)]
 pub struct Timelines {
-    pub logs: Vec<KeyList<Vec<GroupChange>>>,
+    pub logs: Vec<KeyLists<GroupChange>>,
     pub seats: Vec<Seat>,
 }
 
@@ -80,9 +80,9 @@ impl Timelines {
 }
 
 /// What went out to a group.
-fn log_of(alloc: Global, group: Group) -> Result<KeyList<Vec<GroupChange>>, NoMemory>
+fn log_of(alloc: Global, group: Group) -> Result<KeyLists<GroupChange>, NoMemory>
     ensures { IfOk result (λ log. log ≡ entries_of group) }
 {
     let log = group.log;
-    KeyList::of_map(alloc, log.changes)
+    KeyLists::of_map(alloc, log.changes)
 }

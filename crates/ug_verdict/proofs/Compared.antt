@@ -1,7 +1,6 @@
 -- Rows beside a whole table, key by key.
 use Rattle.std.proofs.Common.{◌≡◌, ◌≢◌, ◌⊎◌, inl, inr, ℕ, zero, suc, Bool, true, false, List, [], ◌∷◌, ◌++◌, Option, Some, None, refl, sym, ◌∙◌, ap, subst}
 use Rattle.std.specs.Prelude.{◌||◌, is_some}
-use Rattle.std.specs.Global.{Vec}
 use Rattle.std.specs.Map.{keys_of}
 use Rattle.std.specs.List.{AllByRecursion}
 use Rattle.std.specs.List.Sorted.{IsStrictlySortedBy}
@@ -14,8 +13,8 @@ use Rattle.ug_table_rules.specs.Tables.{among}
 use Rattle.ug_climb.specs.declared.change.Change.{Change}
 use Rattle.ug_climb.specs.Pasts.{value_before}
 use Rattle.ug_hearing.specs.declared.row.Row.{Row}
-use Rattle.ug_hearing.specs.Keyed.{value_for}
-use Rattle.ug_hearing.specs.Courses.{changes_of, items_or_none, passed}
+use Rattle.ug_hearing.specs.Keyed.{value_for, items_or_none}
+use Rattle.ug_hearing.specs.Courses.{changes_of, passed}
 use Rattle.ug_hearing.specs.Rows.{row_for}
 use Rattle.ug_hearing.proofs.Keys.{same_is}
 use Rattle.ug_hearing.proofs.Among.{either}
@@ -58,12 +57,12 @@ among_split (x ∷ front) rest k q there = elim (either (same_key q x) (among (f
     or_second true b e = refl
     or_second false b e = e
 
-module _ (rows : List (Key × Row)) (entries : List (Key × Vec Change)) (from version : ℕ) where
+module _ (rows : List (Key × Row)) (entries : List (Key × List Change)) (from version : ℕ) where
   Same : Key → Type 0
   Same q = IsSame rows entries from version q
 
   -- a key without changes never has a route
-  absent : (q : Key) (o : Option (Vec Change)) → value_for entries q ≡ o → is_some o ≡ false → IsSame rows entries from version q
+  absent : (q : Key) (o : Option (List Change)) → value_for entries q ≡ o → is_some o ≡ false → IsSame rows entries from version q
   absent q (Some changes) is none = absurd cc
   absent q None is none =
       let empty : changes_of entries q ≡ [] = ap items_or_none is in
@@ -78,25 +77,25 @@ module _ (rows : List (Key × Row)) (entries : List (Key × Vec Change)) (from v
       by false is = absurd (differs (absent q (value_for entries q) refl is))
 
   -- where all keys have been seen to be the same, all are
-  pub all-same : (done : List (Key × Vec Change)) → done ++ [] ≡ entries → AllByRecursion (λ k. IsSame rows entries from version k) (keys_of done) → (q : Key) → IsSame rows entries from version q
+  pub all-same : (done : List (Key × List Change)) → done ++ [] ≡ entries → AllByRecursion (λ k. IsSame rows entries from version k) (keys_of done) → (q : Key) → IsSame rows entries from version q
   all-same done parts h q = by (is_some (value_for entries q)) refl
     where
       same : keys_of entries ≡ keys_of done
-      same = ap (λ (es : List (Key × Vec Change)). keys_of es) (sym parts) ∙ ap (λ (es : List (Key × Vec Change)). keys_of es) (append_nil done)
+      same = ap (λ (es : List (Key × List Change)). keys_of es) (sym parts) ∙ ap (λ (es : List (Key × List Change)). keys_of es) (append_nil done)
         where
-          append_nil : (xs : List (Key × Vec Change)) → xs ++ [] ≡ xs
+          append_nil : (xs : List (Key × List Change)) → xs ++ [] ≡ xs
           append_nil [] = refl
-          append_nil (x ∷ xs) = ap (λ (ys : List (Key × Vec Change)). x ∷ ys) (append_nil xs)
+          append_nil (x ∷ xs) = ap (λ (ys : List (Key × List Change)). x ∷ ys) (append_nil xs)
 
       by : (b : Bool) → is_some (value_for entries q) ≡ b → IsSame rows entries from version q
       by true is = all_at (λ k. IsSame rows entries from version k) (keys_of done) q h (ap (λ (ks : List Key). among ks q) (sym same) ∙ (sym (among-there entries q) ∙ is))
       by false is = absent q (value_for entries q) refl is
 
   -- the first that differs is the least
-  pub first-least : (done rest : List (Key × Vec Change)) (e : Key × Vec Change) → done ++ e ∷ rest ≡ entries → IsStrictlySortedBy key_cmp (keys_of entries)
+  pub first-least : (done rest : List (Key × List Change)) (e : Key × List Change) → done ++ e ∷ rest ≡ entries → IsStrictlySortedBy key_cmp (keys_of entries)
       → AllByRecursion (λ k. IsSame rows entries from version k) (keys_of done) → (q : Key) → Differs rows entries from version q → key_cmp e.0 q ≢ Greater
   first-least done rest e parts sorted h q differs =
-      let keys : keys_of entries ≡ keys_of done ++ e.0 ∷ keys_of rest = ap (λ (es : List (Key × Vec Change)). keys_of es) (sym parts) ∙ map-append (λ (x : Key × Vec Change). x.0) done (e ∷ rest) in
+      let keys : keys_of entries ≡ keys_of done ++ e.0 ∷ keys_of rest = ap (λ (es : List (Key × List Change)). keys_of es) (sym parts) ∙ map-append (λ (x : Key × List Change). x.0) done (e ∷ rest) in
       let less = behind (keys_of done) (keys_of rest) e.0 (subst (λ (ks : List Key). IsStrictlySortedBy key_cmp ks) keys sorted) in
       elim (among_split (keys_of done) (keys_of rest) e.0 q (ap (λ (ks : List Key). among ks q) (sym keys) ∙ present q differs)) [
         | inl sooner ↦ absurd (differs (all_at (λ k. IsSame rows entries from version k) (keys_of done) q h sooner))
@@ -110,8 +109,8 @@ module _ (rows : List (Key × Row)) (entries : List (Key × Vec Change)) (from v
       never e = absurd cc
 
 -- all keys so far, and one more
-pub one-more-of : (P : Key → Type 0) (done : List (Key × Vec Change)) (e : Key × Vec Change) → AllByRecursion P (keys_of done) → P e.0 → AllByRecursion P (keys_of (done ++ e ∷ []))
-one-more-of P done e h is = subst (λ (ks : List Key). AllByRecursion P ks) (sym (map-append (λ (x : Key × Vec Change). x.0) done (e ∷ []))) (all_last P (keys_of done) e.0 h is)
+pub one-more-of : (P : Key → Type 0) (done : List (Key × List Change)) (e : Key × List Change) → AllByRecursion P (keys_of done) → P e.0 → AllByRecursion P (keys_of (done ++ e ∷ []))
+one-more-of P done e h is = subst (λ (ks : List Key). AllByRecursion P ks) (sym (map-append (λ (x : Key × List Change). x.0) done (e ∷ []))) (all_last P (keys_of done) e.0 h is)
 
 pub all-map : (P Q : Key → Type 0) (keys : List Key) → ((k : Key) → P k → Q k) → AllByRecursion P keys → AllByRecursion Q keys
 all-map P Q [] goes h = tt

@@ -1,6 +1,5 @@
 -- Changes in the order of their versions.
 use Rattle.std.proofs.Common.{◌≡◌, inl, inr, ℕ, zero, suc, ◌+◌, ◌<◌, ◌≤◌, Bool, true, false, cond, List, [], ◌∷◌, ◌++◌, length, map, slice_get, get_or, Some, refl, sym, ◌∙◌, ap, subst, arith}
-use Rattle.std.specs.Global.{Vec}
 use Rattle.std.specs.List.{Contains}
 use Rattle.std.specs.Map.{keys_of}
 use Rattle.std.specs.List.Sorted.{IsPermutation, IsNonDecreasingBy}
@@ -9,8 +8,8 @@ use Rattle.std.proofs.lemmas.List.Sorted.{Contains-permutation}
 use Rattle.ug_types.specs.declared.key.Key.{Key}
 use Rattle.ug_types.specs.Keys.{same_key}
 use Rattle.ug_climb.specs.declared.change.Change.{Change}
-use Rattle.ug_hearing.specs.Keyed.{value_for, IsPlaceOf}
-use Rattle.ug_hearing.specs.Courses.{changes_of, items_or_none}
+use Rattle.ug_hearing.specs.Keyed.{value_for, IsPlaceOf, items_or_none}
+use Rattle.ug_hearing.specs.Courses.{changes_of}
 use Rattle.ug_hearing.proofs.Keys.{same_is}
 use Rattle.ug_verdict.specs.declared.dated.Dated.{Dated}
 use Rattle.ug_verdict.specs.Watched.{dated_at, dates_from}
@@ -40,7 +39,7 @@ mapped n (x ∷ cs) zero c is = let same : x ≡ c = same_some x c is in ap (λ 
 mapped n (x ∷ cs) (suc i) c is = mapped n cs i c is
 
 -- each change of each key is in the list of all
-pub all-in : (n : ℕ) (entries : List (Key × Vec Change)) (q : Key) (i : ℕ) (c : Change) → slice_get (changes_of entries q) i ≡ Some c
+pub all-in : (n : ℕ) (entries : List (Key × List Change)) (q : Key) (i : ℕ) (c : Change) → slice_get (changes_of entries q) i ≡ Some c
     → (j : ℕ) × (p : ℕ) × (slice_get (dates_from n entries) j ≡ Some (dated_at (n + p) c)) × IsPlaceOf q (keys_of entries) p
 all-in n [] q i c is = absurd cc
 all-in n (e ∷ entries) q i c is = by (same_key q e.0) refl is (λ is. all-in (n + 1) entries q i c is)
@@ -52,12 +51,12 @@ all-in n (e ∷ entries) q i c is = by (same_key q e.0) refl is (λ is. all-in (
         let here : n ≡ n + 0 = omega arith in (
           i,
           0,
-          subst (λ m. slice_get (dates_from n (e ∷ entries)) i ≡ Some (dated_at m c)) here (in_front (map (dated_at n) e.1.items) (dates_from (n + 1) entries) i (dated_at n c) (mapped n e.1.items i c is)),
+          subst (λ m. slice_get (dates_from n (e ∷ entries)) i ≡ Some (dated_at m c)) here (in_front (map (dated_at n) e.1) (dates_from (n + 1) entries) i (dated_at n c) (mapped n e.1 i c is)),
           ap Some (sym (same_is q e.0 same)),
         )
     by false other is rest =
         let r = rest is in
-        let there = further (map (dated_at n) e.1.items) (dates_from (n + 1) entries) r.0 (dated_at (n + 1 + r.1) c) r.2 in
+        let there = further (map (dated_at n) e.1) (dates_from (n + 1) entries) r.0 (dated_at (n + 1 + r.1) c) r.2 in
         let on : n + 1 + r.1 ≡ n + suc r.1 = omega arith in (there.0, suc r.1, subst (λ m. slice_get (dates_from n (e ∷ entries)) there.0 ≡ Some (dated_at m c)) on there.1, r.3)
 
 contains : (xs : List Dated) (j : ℕ) (d : Dated) → slice_get xs j ≡ Some d → Contains xs d

@@ -30,7 +30,7 @@ is_either : (b : Bool) → (b ≡ true) ⊎ (b ≡ false)
 is_either true = inl refl
 is_either false = inr refl
 
-module _ (entries : List (Key × Vec Change)) (from : ℕ) where
+module _ (entries : List (Key × List Change)) (from : ℕ) where
   -- a row that stays
   stays : (rows rows' : List (Key × Row)) (version : ℕ) (q : Key) → value_for rows' q ≡ value_for rows q → IsSame rows entries from version q → IsSame rows' entries from version q
   stays rows rows' version q same is =

@@ -2,7 +2,6 @@
 use Rattle.std.proofs.Common.{◌≡◌, ◌≢◌, inl, inr, ℕ, zero, suc, ◌<◌, ◌≤◌, Bool, true, false, List, [], ◌∷◌, ◌++◌, length, take, slice_get, Option, Some, None, refl, sym, ◌∙◌, ap, subst, arith, length-append, append_assoc}
 use Rattle.std.specs.Prelude.{nat_lt, if◌then◌else◌}
 use Rattle.std.specs.Option.{option_map, option_cmp}
-use Rattle.std.specs.Global.{Vec}
 use Rattle.std.specs.declared.cmp.Ordering.TheVariants.{Less, Equal, Greater}
 use Rattle.std.specs.Ordering.{nat_cmp, ordering_then}
 use Rattle.std.specs.Cmp.{nat_cmp_is}
@@ -135,7 +134,7 @@ pub by_later : (a b : Breach) → a.message ≤ b.message → kind_number a.kind
 by_later a b low kind = elim (cases_lt a.message b.message) [ inl less ↦ by_message a b less | inr far ↦ by_kind a b (omega arith) kind ]
 
 module _ (session : Session) (past tables : List Table) (is : IsSession session past tables) where
-  abbrev entries : List (Key × Vec Change)
+  abbrev entries : List (Key × List Change)
   entries = session.course.changes
 
   abbrev from : ℕ

@@ -1,7 +1,6 @@
 -- Tables of versions between which nothing changed.
 use Rattle.std.proofs.Common.{◌≡◌, ◌⊎◌, inl, inr, ℕ, suc, ◌<◌, ◌≤◌, Bool, true, false, List, [], ◌∷◌, length, slice_get, get_or, Some, refl, sym, ◌∙◌, ap, subst, arith}
 use Rattle.std.specs.Prelude.{nat_lt, not, IsTrue, IsFalse, if◌then◌else◌}
-use Rattle.std.specs.Global.{Vec}
 use Rattle.std.proofs.lemmas.Bool.Decides.{nat_tests}
 use Rattle.ug_types.specs.declared.key.Key.{Key}
 use Rattle.ug_types.specs.declared.mark.Mark.{Mark}
@@ -41,7 +40,7 @@ between a b (c ∷ cs) le = by (nat_lt a c.place) (nat_lt b c.place) refl refl (
     by false false e f (inl same) = inl (ap suc same)
     by false false e f (inr there) = inr (suc there.0, there.1, there.2, there.3, there.4)
 
-module _ (rows : List (Key × Row)) (entries : List (Key × Vec Change)) (from : ℕ) where
+module _ (rows : List (Key × Row)) (entries : List (Key × List Change)) (from : ℕ) where
   pub same-version : (a b : ℕ) (key : Key) → passed a (changes_of entries key) ≡ passed b (changes_of entries key) → IsSame rows entries from a key → IsSame rows entries from b key
   same-version a b key level is = is ∙ ap (λ n. value_before n (changes_of entries key)) level
 

@@ -1,24 +1,29 @@
 -- How the keys of a session climbed, by its rows.
-use Rattle.std.specs.Prelude.{◌≡◌, ℕ, List, ◌++◌, map, reverse, slice_get, Some, is_some}
+use Rattle.std.specs.Prelude.{◌≡◌, ℕ, ◌-◌, ◌<◌, ◌≤◌, Bool, true, List, [], ◌∷◌, ◌++◌, map, length, reverse, slice_get, take, filter, Option, Some, None, is_some}
 use Rattle.std.specs.List.Sorted.{IsStrictlySortedBy}
 use Rattle.ug_types.specs.declared.key.Key.{Key}
+use Rattle.ug_types.specs.Messages.{Message}
 use Rattle.ug_types.specs.Orders.{key_cmp}
-use Rattle.ug_table_rules.specs.Tables.{among}
+use Rattle.ug_table_rules.specs.Tables.{Table, among}
 use Rattle.ug_climb.specs.Shifts.{Shift}
-use Rattle.ug_session_rules.specs.Certificates.{KeyClimb}
-use Rattle.ug_hearing.specs.declared.course.Course.{Course}
+use Rattle.ug_session_rules.specs.Certificates.{KeyClimb, AreClimbs}
 use Rattle.ug_hearing.specs.declared.row.Moved.{Moved}
-use Rattle.ug_hearing.specs.declared.standings.Standings.{Standings}
+use Rattle.ug_hearing.specs.declared.row.Row.{Row}
 use Rattle.ug_hearing.specs.Keyed.{value_for}
-use Rattle.ug_hearing.specs.Rows.{IsChain, row_for}
+use Rattle.ug_hearing.specs.Rows.{IsChain}
+use Rattle.ug_verdict.specs.declared.session.Session.{Session}
+use Rattle.ug_verdict.specs.declared.judge.Judge.{Judge}
 use Rattle.ug_verdict.specs.declared.climbs.Move.{Move}
-use Rattle.ug_verdict.specs.declared.climbs.Climb.{Climb}
+use Rattle.ug_verdict.specs.declared.climbs.Climbs.{Climbs}
+use Rattle.ug_verdict.specs.declared.climbs.Named.{Named}
+use Rattle.ug_verdict.specs.Judged.{IsSession, IsJudged}
 
 abbrev pub shift_of : Move → Shift
 shift_of m = record { message = m.message; place = m.place }
 
-abbrev pub climb_of : Climb → KeyClimb
-climb_of c = record { key = c.key; shifts = map shift_of c.moves.items }
+-- the climb of a key with these moves
+abbrev pub climb_with : Key → List Move → KeyClimb
+climb_with key moves = record { key = key; shifts = map shift_of moves }
 
 -- the same from the last back
 abbrev pub IsBack : List Shift → List Shift → Type 0
@@ -30,8 +35,43 @@ pub record IsPart (all : List Moved) (at : ℕ) (told : List Shift) (shifts : Li
   pub rest : IsChain all at older
   pub parts : shifts ≡ told ++ older
 
--- The moves of each key that has a row, as its row has them; the keys ascend.
-pub record AreRowClimbs (st : Standings) (course : Course) (climbs : List KeyClimb) : Type 0 where
-  pub keys : (q : Key) → among (map (λ (k : KeyClimb). k.key) climbs) q ≡ is_some (value_for st.rows q)
-  pub ascending : IsStrictlySortedBy key_cmp (map (λ (k : KeyClimb). k.key) climbs)
-  pub each : (i : ℕ) (k : KeyClimb) → slice_get climbs i ≡ Some k → (shifts : List Shift) → IsChain st.moves.items (row_for st.rows course.changes course.from k.key).moved shifts → IsBack k.shifts shifts
+-- the session's messages named the key: it has a row
+abbrev pub is_named : Judge → Key → Bool
+is_named j key = is_some (value_for j.hearing.standings.rows key)
+
+-- the number of the last move of a row, where there is one
+abbrev pub last_move_of : Option Row → Option ℕ
+last_move_of None = None
+last_move_of (Some row) = Some row.moved
+
+-- The first of the keys, from a place on, that was named.
+pub record IsNextNamed (j : Judge) (keys : List Key) (from : ℕ) (n : Named) : Type 0 where
+  pub low : from < n.behind
+  pub high : n.behind ≤ length keys
+  pub passed : filter (is_named j) (take n.behind keys) ≡ filter (is_named j) (take from keys) ++ n.key ∷ []
+  pub last : last_move_of (value_for j.hearing.standings.rows n.key) ≡ Some n.moved
+
+-- There is a row, and these are its moves.
+abbrev pub AreMovesOf : List Moved → Option Row → List Shift → Type 0
+AreMovesOf all None shifts = ⊥
+AreMovesOf all (Some row) shifts = (back : List Shift) → IsChain all row.moved back → IsBack shifts back
+
+-- Of the keys before the place these climbs were handed out: those of the keys that were named, with their moves.
+pub record HandedOut (j : Judge) (c : Climbs) (done : List KeyClimb) : Type 0 where
+  pub ascending : IsStrictlySortedBy key_cmp c.keys.items
+  pub all : (q : Key) → is_named j q ≡ true → among c.keys.items q ≡ true
+  pub keys_are : map (λ (k : KeyClimb). k.key) done ≡ filter (is_named j) (take c.place c.keys.items)
+  pub each : (i : ℕ) (k : KeyClimb) → slice_get done i ≡ Some k → AreMovesOf j.hearing.standings.moves.items (value_for j.hearing.standings.rows k.key) k.shifts
+
+-- These are the climbs of any session behind whose messages the judge stands, where no breach is there.
+abbrev pub AreOfJudged : Judge → List KeyClimb → Type 0
+AreOfJudged j climbs = (session : Session) (past tables : List Table) (ms : List Message) → IsSession session past tables → IsJudged session past tables j ms → j.found ≡ None → AreClimbs past ms climbs
+
+-- One climb more was handed out, or there is none.
+abbrev pub GoesOn : Judge → Climbs → List KeyClimb → Option Key → Type 0
+GoesOn j c done None = AreOfJudged j done
+GoesOn j c done (Some key) = HandedOut j c (done ++ climb_with key c.moves.items ∷ [])
+
+-- how many keys are left to be looked at
+abbrev pub keys_left : Climbs → ℕ
+keys_left c = length c.keys.items - c.place

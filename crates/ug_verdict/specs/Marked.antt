@@ -1,6 +1,5 @@
 -- What is found at the marks of a message.
 use Rattle.std.specs.Prelude.{◌≡◌, ◌≢◌, ℕ, ◌<◌, ◌≤◌, List, slice_get, Option, Some, None}
-use Rattle.std.specs.Global.{Vec}
 use Rattle.std.specs.declared.cmp.Ordering.TheVariants.{Greater}
 use Rattle.ug_types.specs.declared.key.Key.{Key}
 use Rattle.ug_types.specs.declared.mark.Mark.{Mark}
@@ -17,7 +16,7 @@ pub record IsMarkIn (syncs : List Mark) (from to : ℕ) (m : Mark) : Type 0 wher
   pub high : place < to
 
 -- The least key that differs at one of these marks, or that none does.
-abbrev pub IsWorst : List (Key × Row) → List (Key × Vec Change) → ℕ → List Mark → ℕ → ℕ → Option Key → Type 0
+abbrev pub IsWorst : List (Key × Row) → List (Key × List Change) → ℕ → List Mark → ℕ → ℕ → Option Key → Type 0
 IsWorst rows entries begin syncs from to None = (m : Mark) → IsMarkIn syncs from to m → (q : Key) → IsSame rows entries begin m.version q
 IsWorst rows entries begin syncs from to (Some k) =
     (m : Mark) × IsMarkIn syncs from to m × Differs rows entries begin m.version k × ((o : Mark) (q : Key) → IsMarkIn syncs from to o → Differs rows entries begin o.version q → key_cmp k q ≢ Greater)
@@ -29,8 +28,8 @@ pub record AreMarksOf (syncs : List Mark) (from to messages : ℕ) : Type 0 wher
   pub behind : (m : Mark) → slice_get syncs to ≡ Some m → m.handed ≢ messages
 
 -- The key is as in the table at each of these marks, or differs at one of them.
-abbrev pub IsSameAtAll : List (Key × Row) → List (Key × Vec Change) → ℕ → List Mark → ℕ → ℕ → Key → Type 0
+abbrev pub IsSameAtAll : List (Key × Row) → List (Key × List Change) → ℕ → List Mark → ℕ → ℕ → Key → Type 0
 IsSameAtAll rows entries begin syncs from to key = (m : Mark) → IsMarkIn syncs from to m → IsSame rows entries begin m.version key
 
-abbrev pub DiffersAtOne : List (Key × Row) → List (Key × Vec Change) → ℕ → List Mark → ℕ → ℕ → Key → Type 0
+abbrev pub DiffersAtOne : List (Key × Row) → List (Key × List Change) → ℕ → List Mark → ℕ → ℕ → Key → Type 0
 DiffersAtOne rows entries begin syncs from to key = (m : Mark) × IsMarkIn syncs from to m × Differs rows entries begin m.version key

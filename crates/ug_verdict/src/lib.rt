@@ -12,7 +12,7 @@ mod session;
 mod watch;
 mod watching;
 
-pub use climbs::{Climb, Move};
+pub use climbs::{Climbs, Move};
 pub use dated::Dated;
 pub use differences::first_difference;
 pub use judge::Judge;

@@ -1,7 +1,6 @@
 //! How all keys are watched from one mark of `sync` to the next, by what was named and what changed between them.
 
 ghost use Rattle.std.specs.Prelude.{◌≡◌, ℕ, List, [], OnOk, IsTrue};
-ghost use Rattle.std.specs.Global.{Vec};
 ghost use Rattle.ug_types.specs.declared.key.Key as routes;
 ghost use Rattle.ug_types.specs.Messages.{message_of};
 ghost use Rattle.ug_climb.specs.declared.change.Change as changes;
@@ -35,7 +34,7 @@ impl Watch {
 
     /// A message came. No more than so many keys are remembered; behind that nothing is known.
     pub fn hear(&mut self, item: &Item, most: usize) -> Result<(), NoMemory>
-        ensures { OnOk result ((entries : List (routes.Key × Vec changes.Change)) (from : ℕ) (old : List (routes.Key × rows.Row)) (new : List (routes.Key × rows.Row)) →
+        ensures { OnOk result ((entries : List (routes.Key × List changes.Change)) (from : ℕ) (old : List (routes.Key × rows.Row)) (new : List (routes.Key × rows.Row)) →
             KeepsOthers (message_of item.now) old new → IsWatched old entries from self.old → IsWatched new entries from self.new) }
     {
         match item {

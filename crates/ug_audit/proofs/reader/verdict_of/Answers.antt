@@ -11,8 +11,8 @@ returns-in-Some c = λ caps stream h.
       agrees = λ past tables ses. c.in-Some.ensures past tables s.heard.messages ses (s.heard.judged past tables ses);
     }
 
-pub returns-in_ok-climbs-in-None : goal.returns-in_ok-climbs-in-None
-returns-in_ok-climbs-in-None c = λ caps stream h.
+pub returns-in-None : goal.returns-in-None
+returns-in-None c = λ caps stream h.
     let s = c.in_ok-settle.ensures.heard caps stream h in
     record {
       messages = s.heard.messages;
@@ -21,6 +21,5 @@ returns-in_ok-climbs-in-None c = λ caps stream h.
       agrees = λ past tables ses.
           let j = s.heard.judged past tables ses in
           let right = c.in-None.ensures past tables s.heard.messages ses j in
-          let none = found_none c.args.session.now past tables c.settle.new.self.judge s.heard.messages c.ending.result j right in
-          (j.count, right, c.in_ok-climbs-in-None.ensures past tables s.heard.messages ses j none);
+          (right, j, found_none c.args.session.now past tables c.settle.new.self.judge s.heard.messages c.ending.result j right);
     }

@@ -1,8 +1,6 @@
-use Rattle.std.proofs.Common.{◌≡◌, ◌∷◌, [], length, List, ap, subst, sym, ◌∙◌, arith, length-append}
-use Rattle.std.specs.Prelude.{slice_get, Some}
-use Rattle.ug_outbound.specs.Keys.{ends_of}
+use Rattle.std.proofs.Common.{◌∷◌, [], length, List, ap, sym, ◌∙◌, arith, length-append}
+use Rattle.std.specs.Prelude.{slice_get}
 use Rattle.ug_timeline.specs.declared.seat.Seat.{Seat}
-use Rattle.ug_timeline.specs.Seats.{IsNew}
 use Rattle.ug_timeline.proofs.HistorySteps.{new-added}
 use Rattle.ug_timeline.proofs.history.new_seats.Goals as goal
 

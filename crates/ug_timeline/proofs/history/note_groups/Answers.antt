@@ -1,4 +1,4 @@
-use Rattle.std.proofs.Common.{◌≡◌, ◌<◌, length, get_or, List, subst, sym, arith}
+use Rattle.std.proofs.Common.{get_or, List, subst, arith}
 use Rattle.ug_types.specs.declared.key.Key.{Key}
 use Rattle.ug_timeline.specs.declared.group.Group.{Group}
 use Rattle.ug_timeline.specs.GroupLogs.{IsNotedAt}

@@ -1,4 +1,4 @@
-use Rattle.std.proofs.Common.{◌≡◌, ◌<◌, length, arith}
+use Rattle.std.proofs.Common.{arith}
 use Rattle.ug_events.specs.Views.{event_of}
 use Rattle.ug_timeline.proofs.GroupNotes.{seats-on}
 use Rattle.ug_timeline.proofs.history.turn_all.Goals as goal

@@ -1,4 +1,4 @@
-use Rattle.std.proofs.Common.{◌≡◌, true, false, Some, Option, ap, subst, sym, ◌∙◌, refl, slice_get, ℕ}
+use Rattle.std.proofs.Common.{◌≡◌, true, false, Option, subst, ◌∙◌, slice_get, ℕ}
 use Rattle.std.specs.Prelude.{IfSome}
 use Rattle.ug_outbound.specs.declared.key.GroupKey.{GroupKey}
 use Rattle.ug_timeline.specs.Seats.{Rises, IsKeyed, IsSameOrNone}

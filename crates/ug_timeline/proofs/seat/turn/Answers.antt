@@ -1,5 +1,4 @@
-use Rattle.std.proofs.Common.{◌≡◌, inl, inr, true, false, Some, ap, subst, sym, ◌∙◌, refl, slice_get}
-use Rattle.std.specs.Option.{option_map}
+use Rattle.std.proofs.Common.{inl, inr, false, subst, sym, ◌∙◌, refl, slice_get}
 use Rattle.ug_events.specs.Views.{event_of}
 use Rattle.ug_world.specs.declared.peer_state.PeerState.{PeerState}
 use Rattle.ug_world.specs.Touches.{is_about}

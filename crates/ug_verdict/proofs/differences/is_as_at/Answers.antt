@@ -1,8 +1,7 @@
-use Rattle.std.proofs.Common.{◌+◌, take, drop, ◌∙◌, sym, ap, subst, arith}
-use Rattle.std.specs.Global.{Vec}
+use Rattle.std.proofs.Common.{List, ◌+◌, take, drop, sym, ap, subst, arith}
 use Rattle.ug_types.specs.declared.key.Key.{Key}
 use Rattle.ug_climb.specs.declared.change.Change.{Change}
-use Rattle.ug_hearing.specs.Courses.{items_or_none}
+use Rattle.ug_hearing.specs.Keyed.{items_or_none}
 use Rattle.ug_verdict.specs.Differences.{IsSame}
 use Rattle.ug_verdict.proofs.Compared.{entry-found}
 use Rattle.ug_verdict.proofs.Walked.{parted-at, none-beyond, key-at}
@@ -11,8 +10,8 @@ use Rattle.ug_verdict.proofs.differences.is_as_at.Goals as goal
 pub is_as_by-requires : goal.is_as_by-requires
 is_as_by-requires c =
     let all = c.args.course.now.changes in
-    let e : Key × Vec Change = (c.at.result.0.now, c.at.result.1.now) in
-    c.deref.ensures.value ∙ sym (ap items_or_none (entry-found (take c.args.place all) (drop (c.args.place + 1) all) e all (parted-at all c.args.place e c.at.ensures) c.len.ensures.ascending))
+    let e : Key × List Change = (c.at.result.0.now, c.at.result.1.now) in
+    sym (ap items_or_none (entry-found (take c.args.place all) (drop (c.args.place + 1) all) e all (parted-at all c.args.place e c.at.ensures) c.len.ensures.ascending))
 
 pub returns-then-place-len : goal.returns-then-place-len
 returns-then-place-len c = λ is q there.
@@ -23,5 +22,5 @@ returns-then-place-len c = λ is q there.
 pub returns : goal.returns
 returns c = λ is q there.
     let all = c.args.course.now.changes in
-    let e : Key × Vec Change = (c.at.result.0.now, c.at.result.1.now) in
+    let e : Key × List Change = (c.at.result.0.now, c.at.result.1.now) in
     subst (λ (k : Key). IsSame c.args.standings.now.rows all c.args.course.now.from c.args.version k) (key-at all c.args.place e q c.at.ensures there) (c.is_as_by.ensures.0 is)

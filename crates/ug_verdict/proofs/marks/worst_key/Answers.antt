@@ -1,5 +1,4 @@
 use Rattle.std.proofs.Common.{◌+◌, List, take, drop, sym, subst, arith}
-use Rattle.std.specs.Global.{Vec}
 use Rattle.std.specs.Map.{keys_of}
 use Rattle.std.specs.List.{AllByRecursion}
 use Rattle.ug_types.specs.declared.key.Key.{Key}
@@ -14,7 +13,7 @@ pub returns-then-differs_at_one : goal.returns-then-differs_at_one
 returns-then-differs_at_one c =
     let s = c.args.session.now in
     let all = s.course.changes in
-    let e : Key × Vec Change = (c.at.result.0.now, c.at.result.1.now) in
+    let e : Key × List Change = (c.at.result.0.now, c.at.result.1.now) in
     let done = take c.loop-place.place all in
     let d = c.differs_at_one.ensures.differs c.if-differs_at_one.true in (
       d.0,
@@ -31,7 +30,7 @@ pub loop-place-preserved : goal.loop-place-preserved
 loop-place-preserved c =
     let s = c.args.session.now in
     let all = s.course.changes in
-    let e : Key × Vec Change = (c.at.result.0.now, c.at.result.1.now) in
+    let e : Key × List Change = (c.at.result.0.now, c.at.result.1.now) in
     let P : Key → Type 0 = λ k. IsSameAtAll c.args.standings.now.rows all s.course.from s.syncs.items c.args.from c.args.to k in
     subst (λ (es : List (Key × _)). AllByRecursion P (keys_of es)) (sym (seen-at all c.loop-place.place e c.at.ensures))
     (one-more-of P (take c.loop-place.place all) e c.loop-place.invariant (c.differs_at_one.ensures.same c.if-differs_at_one.false))

@@ -1,9 +1,6 @@
-use Rattle.std.proofs.Common.{◌≡◌, ◌++◌, map, ap, subst, sym, refl, List, ℕ}
+use Rattle.std.proofs.Common.{ap, subst, sym, refl, List, ℕ}
 use Rattle.ug_edge.specs.Told.{file_told}
 use Rattle.ug_verdict.specs.declared.session.Session.{Session}
-use Rattle.ug_verdict.specs.declared.climbs.Climb.{Climb}
-use Rattle.ug_verdict.specs.Climbed.{climb_of}
-use Rattle.ug_audit.specs.Texts.{session_text}
 use Rattle.ug_audit.specs.Asked.{IsAsked}
 use Rattle.ug_audit.specs.Auditing.{worlds_of}
 use Rattle.ug_audit.specs.Stopping.{last_in}
@@ -43,8 +40,7 @@ returns-in-Ok-add_session-clause-went g c = λ command names s left same there a
     right_goes_on command (file_told (g.E.Source.files c.args.site.now)) c.args.self.now names (g.E.Source.picks c.args.site.now).names (g.E.Source.picks c.hear_file.new.site).names c.args.id c.args.number s left c.args.text.now c.args.dir.now
     c.peer-peer.result.now same (kept_of c.args.self.now c.args.id s c.peer-peer.result.now c.requires.run there c.peer-peer.ensures) at c.requires.run c.requires.some c.args.asked.now c.aim.new.self.session c.deref.result.now c.deref.ensures.value asked (aims_by c.args.id c.args.number (last_in c.args.self.now) c.args.self.now.last s c.peer-peer.result.now c.is_up_with-is_open.result c.deref.result.now c.args.asked.now c.aim.new.self.session c.requires.run.last
     (kept_of c.args.self.now c.args.id s c.peer-peer.result.now c.requires.run there c.peer-peer.ensures) c.is_up_with-is_open.ensures c.in-Ok.ensures.aimed) c.in-Ok-hear_file.verdict
-    c.in-Ok-hear_file.ensures.heard c.in-Ok-hear_file.ensures.named c.text-name.result.now c.text-name.ensures.value c.in-Right.messages c.in-Right.climbs c.add_session.new.out c.in-Right.is
-    (subst (λ (cs : List Climb). c.add_session.new.out ≡ c.args.text.now ++ session_text c.text-name.result.now c.args.number c.in-Right.messages (map climb_of cs)) c.deref-in-Right.ensures.value c.in-Ok-add_session.ensures)
+    c.in-Ok-hear_file.ensures.heard c.in-Ok-hear_file.ensures.named c.text-name.result.now c.text-name.ensures.value c.in-Right.judge c.add_session.new.out c.in-Right.is c.in-Ok-add_session.ensures
 
 pub returns-clause-stopped : goal.returns-clause-stopped
 returns-clause-stopped g c = λ command names s left same there asked at.

@@ -1,6 +1,5 @@
 use Rattle.std.proofs.Common.{◌≡◌, ◌+◌, ◌<◌, ◌≤◌, ℕ, zero, suc, List, [], ◌∷◌, ◌++◌, length, map, take, get_or, refl, sym, ◌∙◌, ap, subst, arith}
 use Rattle.std.proofs.lemmas.List.{take_more}
-use Rattle.std.specs.Global.{Vec}
 use Rattle.ug_types.specs.declared.key.Key.{Key}
 use Rattle.ug_table_rules.specs.Tables.{Table}
 use Rattle.ug_climb.specs.declared.change.Change.{Change}
@@ -14,7 +13,7 @@ get_map table [] i d k less = absurd (omega arith)
 get_map table (x ∷ keys) zero d k less = refl
 get_map table (x ∷ keys) (suc i) d k less = get_map table keys i d k (omega arith)
 
-on : (keys : List Key) (i : ℕ) (k : Key) (v : Value) (tables : List Table) (table : Table) (version : ℕ) (old now new : List (Key × Vec Change)) → IsLog old tables → length tables ≡ version → v ≡ table k
+on : (keys : List Key) (i : ℕ) (k : Key) (v : Value) (tables : List Table) (table : Table) (version : ℕ) (old now new : List (Key × List Change)) → IsLog old tables → length tables ≡ version → v ≡ table k
     → take (i + 1) keys ≡ take i keys ++ k ∷ [] → IsNotedTo (take i keys) tables table old now → IsNoted version k v now new → IsNotedTo (take (i + 1) keys) tables table old new
 on keys i k v tables table version old now new log size value front h n =
     subst (λ (ks : List Key). IsNotedTo ks tables table old new) (sym front)

@@ -1,26 +1,18 @@
-use Rattle.std.proofs.Common.{◌≡◌, ◌+◌, Bool, List, [], ◌∷◌, ◌++◌, take, sym, ◌∙◌, ap, Vec, Global}
+use Rattle.std.proofs.Common.{◌≡◌, List, ◌∙◌, ap}
 use Rattle.std.specs.Prelude.{◌&&◌}
-use Rattle.std.proofs.lemmas.List.{take_more}
 use Rattle.ug_types.specs.declared.key.Key.{Key}
 use Rattle.ug_table_rules.specs.Tables.{among}
 use Rattle.ug_hearing.specs.Heard.{is_stale_in}
-use Rattle.ug_hearing.proofs.Listed.{chosen, unchosen}
-use Rattle.ug_hearing.proofs.standings.Standings.stale_keys.Goals.{then-is_stale+in_ok-push, else-is_stale}
+use Rattle.ug_hearing.proofs.Held.{if-ok-map}
+use Rattle.ug_hearing.proofs.Listed.{stale-all}
 use Rattle.ug_hearing.proofs.standings.Standings.stale_keys.Goals as goal
 
-pub loop-key-preserved : goal.loop-key-preserved
-loop-key-preserved c =
-    let items = c.deref-key-items.result.now in
-    let i = c.loop-key.key-index in
-    let k = c.key-item.result in
-    let front : take (i + 1) items ≡ take i items ++ k ∷ [] = take_more items i k c.loop-key-test.true ∙ ap (λ (x : Key). take i items ++ x ∷ []) (sym c.key-item.is) in
-    let test : Key → Bool = is_stale_in c.args.self.now.refreshes c.args.course.now.changes c.args.self.now.rows in
-    elim c.if-is_stale.branch [
-      | then-is_stale+in_ok-push w ↦
-          λ q. ap (λ (l : Vec Key Global). among l.items q) w.keys-is
-          ∙ (ap (λ (ks : List Key). among ks q) w.in_ok-push.ensures.items
-          ∙ (chosen test (take i items) c.loop-key.keys.items k c.loop-key.invariant (sym c.is_stale.ensures ∙ w.if-is_stale.true) q ∙ ap (λ (ks : List Key). among ks q && test q) (sym front)))
-      | else-is_stale w ↦
-          λ q. ap (λ (l : Vec Key Global). among l.items q) w.keys-is
-          ∙ (unchosen test (take i items) c.loop-key.keys.items k c.loop-key.invariant (sym c.is_stale.ensures ∙ w.if-is_stale.false) q ∙ ap (λ (ks : List Key). among ks q && test q) (sym front))
-    ]
+pub returns : goal.returns
+returns c =
+    let refreshes = c.args.self.now.refreshes in
+    let entries = c.args.course.now.changes in
+    let rows = c.args.self.now.rows in
+    let keys = c.deref.ensures.value ∙ ap (λ ks. ks.items) c.get.ensures in
+    if-ok-map c.stale_among.result (λ stale. (q : Key) → among stale.items q ≡ (among c.deref.result.now q && is_stale_in refreshes entries rows q)) (λ stale. (q : Key) → among stale.items q ≡ is_stale_in refreshes entries rows q)
+    (λ stale same q. same q ∙ stale-all refreshes entries rows c.deref.result.now q (λ some. ap (λ (ks : List Key). among ks q) keys ∙ c.in_ok-all.ensures.named q some))
+    c.stale_among.ensures

@@ -1,5 +1,4 @@
 use Rattle.std.proofs.Common.{◌≡◌, take}
-use Rattle.ug_types.specs.declared.key.Key.{Key}
 use Rattle.ug_timeline.specs.GroupLogs.{IsNotedAt}
 use Rattle.ug_timeline.proofs.group.Group.note_keys.Given as goal
 

@@ -1,4 +1,4 @@
-use Rattle.std.proofs.Common.{◌≡◌, ◌∙◌, List, [], ap, subst, sym, slice_get, Option, Some}
+use Rattle.std.proofs.Common.{◌≡◌, ◌∙◌, [], ap, subst, sym, slice_get, Option, Some}
 use Rattle.std.specs.Prelude.{unwrap_or}
 use Rattle.ug_hearing.specs.Courses.{changes_of}
 use Rattle.ug_timeline.specs.GroupLogs.{Entries, changes_in}

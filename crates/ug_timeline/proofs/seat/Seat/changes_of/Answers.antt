@@ -1,5 +1,4 @@
 use Rattle.std.proofs.Common.{◌≡◌, ◌∷◌, [], List, length, slice_get, length-append, ap, subst, sym, ◌∙◌, arith, ℕ, Bool}
-use Rattle.std.specs.Global.{Vec}
 use Rattle.std.specs.Map.{keys_of}
 use Rattle.ug_types.specs.declared.key.Key.{Key}
 use Rattle.ug_types.specs.declared.route.PeerEnds.{PeerEnds}
@@ -7,7 +6,7 @@ use Rattle.ug_climb.specs.declared.change.Change.{Change}
 use Rattle.ug_hearing.specs.Keyed.{pairs_of}
 use Rattle.ug_hearing.specs.Courses.{changes_of}
 use Rattle.ug_timeline.specs.declared.since.Since.{Since}
-use Rattle.ug_timeline.specs.GroupLogs.{Outs, changes_in}
+use Rattle.ug_timeline.specs.GroupLogs.{changes_in}
 use Rattle.ug_timeline.specs.Merges.{IsTold}
 use Rattle.ug_timeline.proofs.MergedKeys.{AreTold, told-on, told-all}
 use Rattle.ug_timeline.proofs.seat.Seat.changes_of.Goals as goal
@@ -18,19 +17,19 @@ loop-place-preserved c =
     let ends = c.args.self.now.ends in
     let ups = c.args.self.now.ups.items in
     let outs = c.args.outs.now in
-    let before = c.loop-place.values.items in
-    let changes = c.in_ok-told.told in
-    let size = ap (λ (xs : List (Vec Change)). length xs) c.in_ok-push.ensures.items ∙ length-append before (changes ∷ []) in
+    let before = c.loop-place.lists in
+    let changes = c.merge.new.changes.items in
+    let added = c.in_ok-add.ensures.added in
+    let size = ap (λ (xs : List (List Change)). length xs) added ∙ length-append before (changes ∷ []) in
     let many = h.many in
     let told =
-    subst (λ (x : PeerEnds). IsTold x ups c.at.result.1.now.items changes.items) h.ends
-    (subst (λ (us : List (Since Bool)). IsTold c.loop-place.teller.ends us c.at.result.1.now.items changes.items) c.as_slice-ups.ensures.value
-    (subst (λ (os : Outs). IsTold c.loop-place.teller.ends c.as_slice-ups.result.now os changes.items) c.as_slice.ensures.value c.in_ok-told.ensures.merged))
+    subst (λ (x : PeerEnds). IsTold x ups c.at.result.1.now changes) h.ends
+    (subst (λ (us : List (Since Bool)). IsTold c.loop-place.teller.ends us c.at.result.1.now changes) c.as_slice-ups.ensures.value c.in_ok-merge.ensures.merged)
     in
     record {
       many = omega (arith, size, many);
-      ends = c.merged.ensures.ends ∙ h.ends;
-      told = subst (λ (xs : List (Vec Change)). AreTold ends ups outs xs) (sym c.in_ok-push.ensures.items)
+      ends = c.merge.ensures.ends ∙ h.ends;
+      told = subst (λ (xs : List (List Change)). AreTold ends ups outs xs) (sym added)
           (told-on ends ups outs before (c.at.result.0.now, c.at.result.1.now) changes h.told (ap (λ (k : ℕ). slice_get outs k) many ∙ c.at.ensures) told);
     }
 
@@ -40,10 +39,10 @@ returns c = λ q.
     let ends = c.args.self.now.ends in
     let ups = c.args.self.now.ups.items in
     let outs = c.args.outs.now in
-    let values = c.loop-place.values.items in
+    let lists = c.loop-place.lists in
     let keys : c.in_ok-keys.keys.items ≡ keys_of outs = ap (λ v. v.items) c.in_ok-keys.ensures ∙ c.keys.ensures.keys in
     let many = h.many in
     let done = c.loop-place-test.false in
     let within = c.loop-place.auto.place-end in
     let count = c.len-count.ensures.len in
-    subst (λ (ps : List (Key × Vec Change)). IsTold ends ups (changes_in outs q) (changes_of ps q)) (sym (c.over.ensures ∙ ap (λ (ks : List Key). pairs_of ks values) keys)) (told-all ends ups outs values (omega (arith, many, done, within, count)) h.told q)
+    subst (λ (ps : List (Key × List Change)). IsTold ends ups (changes_in outs q) (changes_of ps q)) (sym (c.over.ensures ∙ ap (λ (ks : List Key). pairs_of ks lists) keys)) (told-all ends ups outs lists (omega (arith, many, done, within, count)) h.told q)

@@ -5,7 +5,7 @@ use Rattle.ug_timeline.proofs.seat.Seat.changes_of.Given as goal
 -- the keys so far have their changes
 abbrev pub invariant-loop-place : goal.invariant-loop-place
 invariant-loop-place l = record {
-  many : length l.values.items ≡ l.place;
+  many : length l.lists ≡ l.place;
   ends : l.teller.ends ≡ l.self.ends;
-  told : AreTold l.self.ends l.self.ups.items l.outs l.values.items;
+  told : AreTold l.self.ends l.self.ups.items l.outs l.lists;
 }

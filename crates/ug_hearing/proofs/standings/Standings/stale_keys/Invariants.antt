@@ -1,9 +1,0 @@
-use Rattle.std.proofs.Common.{◌≡◌, take}
-use Rattle.std.specs.Prelude.{◌&&◌}
-use Rattle.ug_types.specs.declared.key.Key.{Key}
-use Rattle.ug_table_rules.specs.Tables.{among}
-use Rattle.ug_hearing.specs.Heard.{is_stale_in}
-use Rattle.ug_hearing.proofs.standings.Standings.stale_keys.Given as goal
-
-abbrev pub invariant-loop-key : goal.invariant-loop-key
-invariant-loop-key l = (q : Key) → among l.keys.items q ≡ (among (take l.key-index l.key-items) q && is_stale_in l.self.refreshes l.course.changes l.self.rows q)
