@@ -24,7 +24,7 @@ use Rattle.ug_event_loop.specs.Turns.{IsLegalAt}
 use Rattle.ug_event_loop.specs.Files.{lines_within, lines_read, IsPast, most_bytes, most_lines}
 use Rattle.ug_event_loop.specs.Reading.{LinesHalted}
 use Rattle.ug_event_loop.proofs.Turning.{goes_nowhere}
-use Rattle.ug_event_loop.proofs.Builders.{builder-starved}
+use Rattle.ug_event_loop.proofs.Builders.{builder-waits}
 
 -- ---- lines that are too long read alike, whatever is kept of them behind that
 
@@ -131,7 +131,8 @@ module _ {Opening State Job Said : Type 0} (rules : Rules Opening State Job Said
   module _ (old new : BuilderView Opening Job Said) (held held' : Option (List ℕ)) (k : ℕ) (enough_kept : most_line < k) where
     takes_whole : (lines : List (List ℕ)) → TakesLines rules speech old held new held' (kept_of k lines) → TakesLines rules speech old held new held' lines
     takes_whole lines takes first ls before stands =
-        subst (λ (rs : List (Reads Saying)). BuilderStands rules speech new first (ls ++ rs) before held') (all_kept old.grammar k lines enough_kept) (takes first ls before stands)
+        let took = takes first ls before stands in
+        (subst (λ (rs : List (Reads Saying)). BuilderStands rules speech new first (ls ++ rs) before held') (all_kept old.grammar k lines enough_kept) took.0, took.1)
 
     takes_as : (a b : List (List ℕ)) → a ≡ b → TakesLines rules speech old held new held' a → TakesLines rules speech old held new held' b
     takes_as a b same takes = subst (λ (ls : List (List ℕ)). TakesLines rules speech old held new held' ls) same takes
@@ -147,8 +148,11 @@ module _ {Opening State Job Said : Type 0} (rules : Rules Opening State Job Said
         append_assoc ls (map (said_by g) front) (map (said_by g) more ++ map (said_by g) later)
         ∙ ap (λ (rs : List (Reads Saying)). ls ++ rs) (sym (append_assoc (map (said_by g) front) (map (said_by g) more) (map (said_by g) later))
         ∙ (ap (λ (rs : List (Reads Saying)). rs ++ map (said_by g) later) said ∙ sym (map-append (said_by g) lines later))) in
-        subst (λ (rs : List (Reads Saying)). BuilderStops rules speech stop new first rs before held') all
-        (stops_longer stop new first (ls ++ map (said_by g) front) (map (said_by g) more ++ map (said_by g) later) before held' (stops first ls before stands))
+        let stopped = stops first ls before stands in (
+          subst (λ (rs : List (Reads Saying)). BuilderStops rules speech stop new first rs before held') all
+              (stops_longer stop new first (ls ++ map (said_by g) front) (map (said_by g) more ++ map (said_by g) later) before held' stopped.0),
+          stopped.1,
+        )
 
     -- the same within so many lines
     stops_few : (stop : Stop) (n : ℕ) (lines front more later : List (List ℕ)) → kept_of k lines ≡ front ++ more → 0 + length front ≤ n
@@ -168,8 +172,11 @@ module _ {Opening State Job Said : Type 0} (rules : Rules Opening State Job Said
     -- these lines were taken, and then memory ran out
     starved : (lines : List (List ℕ)) → TakesLines rules speech old held new held' lines → StopsWithin rules speech stops.NoMemory old held new held' lines
     starved lines takes first ls before stands =
-        subst (λ (rs : List (Reads Saying)). BuilderStops rules speech stops.NoMemory new first rs before held') (append-nil (ls ++ map (said_by old.grammar) lines))
-        (builder-starved rules speech new new (same_itself new) (goes_nowhere rules speech new.pass.seen) (λ (l : IsLegalAt rules speech new.pass.root new.pass.seen). l) first (ls ++ map (said_by old.grammar) lines) [] before held' (takes first ls before stands))
+        let took = takes first ls before stands in
+        let waits =
+        builder-waits rules speech new new (same_itself new) (goes_nowhere rules speech new.pass.seen) (λ (l : IsLegalAt rules speech new.pass.root new.pass.seen). l)
+        first (ls ++ map (said_by old.grammar) lines) [] before held' took.0 in
+        (subst (λ (rs : List (Reads Saying)). BuilderStops rules speech stops.NoMemory new first rs before held') (append-nil (ls ++ map (said_by old.grammar) lines)) waits.0, took.1)
 
     -- ---- the limits: so many bytes, and so many lines
 

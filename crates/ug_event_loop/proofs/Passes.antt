@@ -9,8 +9,8 @@ use Rattle.ug_events.specs.Events.{Saying}
 use Rattle.ug_events.specs.Reads.{Reads}
 use Rattle.ug_speaker.specs.Speech.{Speech}
 use Rattle.ug_report.specs.Report.{Answer}
-use Rattle.ug_event_loop.specs.Turns.{GoesOn, Answers, AnswersAt, IsLegalAt, IsSettled, IsSettledAt, IsEndedAt, IsClosedAt}
-use Rattle.ug_event_loop.proofs.Turning.{goes_further, goes_by_others, answers_later}
+use Rattle.ug_event_loop.specs.Turns.{GoesOn, WindsUp, Answers, AnswersAt, IsLegalAt, IsSettled, IsSettledAt, IsEndedAt, IsClosedAt}
+use Rattle.ug_event_loop.proofs.Turning.{goes_further, goes_by_others, winds_behind, answers_later}
 
 pub if-ok : {A E : Type 0} (P Q : A → Type 0) (r : Result A E) → ((x : A) → P x → Q x) → IfOk r P → IfOk r Q
 if-ok P Q (Ok x) f h = f x h
@@ -50,6 +50,12 @@ module _ {Opening State Job Said : Type 0} (rules : Rules Opening State Job Said
         subst (λ (es : List (Entry Job Said)). GoesOn rules speech pass.seen es) (sym seen_is)
         (goes_further rules speech pass.seen took.history gave.history others
         (subst (λ (b : BoardState Opening Job Said). GoesOn rules speech b.history gave.history) same goes))
+
+    pub winds-over : WindsUp rules speech lent.history gave.history → WindsUp rules speech pass.seen seen
+    winds-over winds =
+        subst (λ (es : List (Entry Job Said)). WindsUp rules speech pass.seen es) (sym seen_is)
+        (winds_behind rules speech pass.seen took.history gave.history others
+        (subst (λ (b : BoardState Opening Job Said). WindsUp rules speech b.history gave.history) same winds))
 
     pub answers-over : (line : Reads Saying) (answer : Answer) → Answers rules speech lent.opening line answer lent.history gave.history → AnswersAt rules speech root line answer pass.seen seen
     answers-over line answer answers =

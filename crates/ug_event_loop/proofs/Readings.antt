@@ -14,11 +14,11 @@ use Rattle.ug_event_loop.specs.declared.stop.Stop.{Stop}
 use Rattle.ug_event_loop.specs.declared.stop.Stop.TheVariants as stops
 use Rattle.ug_event_loop.specs.declared.reading.End.{End}
 use Rattle.ug_event_loop.specs.declared.reading.End.TheVariants as ends
-use Rattle.ug_event_loop.specs.Turns.{GoesOn, IsLegalAt, IsClosedAt}
+use Rattle.ug_event_loop.specs.Turns.{WindsUp, StaysOpen, IsLegalAt, IsClosedAt}
 use Rattle.ug_event_loop.specs.Counts.{least_at, RisesBy}
 use Rattle.ug_event_loop.specs.Standing.{said_by, BuilderView, IsSameBuilder, BuilderStands, BuilderStops, TakesLines, StopsWithin}
 use Rattle.ug_event_loop.specs.Files.{lines_read}
-use Rattle.ug_event_loop.specs.Reading.{Outside, OfLines, LinesHalted, StandsBehind, StopsBefore, EndsAt, HasEnded, StandsWithin, end_of}
+use Rattle.ug_event_loop.specs.Reading.{Outside, OfLines, LinesHalted, StandsBehind, StopsBefore, EndsAt, HasEnded, end_of}
 use Rattle.ug_event_loop.proofs.Builders.{builder-still, builder-stays-stopped, builder-starved}
 
 pub has-read : (left now : Option (List ℕ)) (P Q : List ℕ → Type 0) → ((read : List ℕ) → P read → Q read) → HasRead left now P → HasRead left now Q
@@ -51,10 +51,10 @@ begun-so left read P Q f h = (h.0, h.1, λ whole all. f (lines_read whole read) 
 module _ {Opening State Job Said : Type 0} (rules : Rules Opening State Job Said) (speech : Speech Opening State Job Said) where
   module _ (first : List (Reads Saying)) (old mid new : BuilderView Opening Job Said) (o o' : Outside) (same : IsSameBuilder old mid) (start : BuilderStands rules speech mid first [] o.held o.held) where
     pub stands-behind : (lines : List (List ℕ)) → TakesLines rules speech mid o.held new o'.held lines → StandsBehind rules speech first old new o o' lines
-    stands-behind lines takes = subst (λ (g : Grammar). BuilderStands rules speech new first (map (said_by g) lines) o.held o'.held) same.grammar (takes first [] o.held start)
+    stands-behind lines takes = subst (λ (g : Grammar). BuilderStands rules speech new first (map (said_by g) lines) o.held o'.held) same.grammar (takes first [] o.held start).0
 
     stops-at : (stop : Stop) (lines : List (List ℕ)) → StopsWithin rules speech stop mid o.held new o'.held lines → StopsBefore rules speech first old new o o' stop lines
-    stops-at stop lines stops = subst (λ (g : Grammar). BuilderStops rules speech stop new first (map (said_by g) lines) o.held o'.held) same.grammar (stops first [] o.held start)
+    stops-at stop lines stops = subst (λ (g : Grammar). BuilderStops rules speech stop new first (map (said_by g) lines) o.held o'.held) same.grammar (stops first [] o.held start).0
 
     pub halted-ends : (halt : LineHalt Stop) (read : List ℕ) → (halt ≡ halts.Read → Rose o.reads_failed o'.reads_failed) → (halt ≡ halts.Stopped stops.Report → Rose o.writes_failed o'.writes_failed)
         → LinesHalted rules speech halt mid o.held new o'.held o'.left read → EndsAt rules speech first old new o o' (end_of halt) read
@@ -65,8 +65,16 @@ module _ {Opening State Job Said : Type 0} (rules : Rules Opening State Job Said
     halted-ends (halts.Stopped stops.NoMemory) read unread rose h = inl (begun-so o'.left read _ _ (stops-at stops.NoMemory) h)
     halted-ends (halts.Stopped stops.Report) read unread rose h = (begun-so o'.left read _ _ (stops-at stops.Report) h, rose refl)
 
+    -- however the lines ended, the work wasn't
+    pub halted-open : (halt : LineHalt Stop) (read : List ℕ) → LinesHalted rules speech halt mid o.held new o'.held o'.left read → StaysOpen rules speech mid.pass.seen new.pass.seen
+    halted-open halts.Read read h = (h.1 first [] o.held start).1
+    halted-open halts.NoMemory read h = (h.2 true (λ yes. refl) first [] o.held start).1
+    halted-open halts.TooLong read h = (h.1 true first [] o.held start).1
+    halted-open halts.TooMany read h = (h.1 true first [] o.held start).1
+    halted-open (halts.Stopped stop) read h = (h.2 true (λ yes. refl) first [] o.held start).1
+
   -- all lines were taken, and memory ran out before everything was told
-  pub starved-last : (first : List (Reads Saying)) (old mid new : BuilderView Opening Job Said) (o o' : Outside) (read : List ℕ) → IsSameBuilder mid new → GoesOn rules speech mid.pass.seen new.pass.seen
+  pub starved-last : (first : List (Reads Saying)) (old mid new : BuilderView Opening Job Said) (o o' : Outside) (read : List ℕ) → IsSameBuilder mid new → WindsUp rules speech mid.pass.seen new.pass.seen
       → IsLegalAt rules speech new.pass.root new.pass.seen → IsEnded o'.left → StandsBehind rules speech first old mid o o' (lines_read true read) → EndsAt rules speech first old new o o' ends.NoMemory read
   starved-last first old mid new o o' read same goes legal ended stands =
       let g = old.grammar in
@@ -78,7 +86,7 @@ module _ {Opening State Job Said : Type 0} (rules : Rules Opening State Job Said
 
   -- the end of the work leaves what the reading came to
   pub ends-still : (first : List (Reads Saying)) (old mid new : BuilderView Opening Job Said) (o o' : Outside) (after : ℕ) (end : End) (read : List ℕ) → (end ≡ ends.Complete → ⊥)
-      → IsSameBuilder mid new → new.tally ≡ mid.tally → GoesOn rules speech mid.pass.seen new.pass.seen → IsLegalAt rules speech new.pass.root new.pass.seen
+      → IsSameBuilder mid new → new.tally ≡ mid.tally → WindsUp rules speech mid.pass.seen new.pass.seen → IsLegalAt rules speech new.pass.root new.pass.seen
       → EndsAt rules speech first old mid o o' end read → EndsAt rules speech first old new o (record o' { steps = after }) end read
   ends-still first old mid new o o' after ends.Complete read incomplete same tally goes legal h = absurd (incomplete refl)
   ends-still first old mid new o o' after ends.Read read incomplete same tally goes legal h =
@@ -96,7 +104,7 @@ module _ {Opening State Job Said : Type 0} (rules : Rules Opening State Job Said
       (begun-so o'.left read _ _ (λ lines. builder-stays-stopped rules speech stops.Report mid new same goes legal first (map (said_by old.grammar) lines) o.held o'.held) h.0, h.1)
 
   -- memory ran out before anything was read
-  pub given-up : (first : List (Reads Saying)) (old new : BuilderView Opening Job Said) (o : Outside) (before after : ℕ) → IsSameBuilder old new → new.tally ≡ old.tally → GoesOn rules speech old.pass.seen new.pass.seen
+  pub given-up : (first : List (Reads Saying)) (old new : BuilderView Opening Job Said) (o : Outside) (before after : ℕ) → IsSameBuilder old new → new.tally ≡ old.tally → WindsUp rules speech old.pass.seen new.pass.seen
       → IsClosedAt rules speech new.pass.spent new.pass.root new.pass.seen → IsLegalAt rules speech new.pass.root new.pass.seen → RisesBy before after (least_at rules old.pass.root old.pass.seen) (least_at rules old.pass.root new.pass.seen)
       → HasEnded rules speech first old new (record o { steps = before }) (record o { steps = after }) ends.NoMemory
   given-up first old new o before after same tally goes closed legal least = record {

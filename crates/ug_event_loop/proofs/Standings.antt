@@ -25,9 +25,10 @@ use Rattle.ug_event_loop.specs.declared.came.Came.{Came}
 use Rattle.ug_event_loop.specs.declared.stop.Stop.{Stop}
 use Rattle.ug_event_loop.specs.declared.stop.Stop.TheVariants as stops
 use Rattle.ug_event_loop.specs.declared.tally.Tally.{Tally}
-use Rattle.ug_event_loop.specs.Turns.{GoesOn, Answers, AnswersAt, IsLegalAt, answer_of, marks_of, is_taken, is_refused}
+use Rattle.ug_event_loop.specs.Turns.{WindsUp, Answers, AnswersAt, IsLegalAt, answer_of, marks_of, is_taken, is_refused}
 use Rattle.ug_event_loop.specs.Standing.{AreLanes, IsTally, HasTaken, StandsAt, StopsAt, Stands, Stops}
 use Rattle.ug_event_loop.proofs.Worlds.{lanes-front, legal-front, last-more, story-marks, story-world}
+use Rattle.ug_event_loop.proofs.Turning.{preparing-between}
 use Rattle.ug_event_loop.proofs.Telling.{texts-more, accepted-more, refused-more, taken-is, refused-is}
 
 each_more : (marks : List (List Mark)) (ms : List Mark) → Each AreOf64 marks → AreOf64 ms → Each AreOf64 (marks ++ ms ∷ [])
@@ -37,7 +38,7 @@ each_more (m ∷ marks) ms all one = (all.0, each_more marks ms all.1 one)
 module _ {Opening State Job Said : Type 0} (rules : Rules Opening State Job Said) (speech : Speech Opening State Job Said) where
   -- what no line asks for
   taken_still : (opening : Opening) (first lines : List (Reads Saying)) (marks : List (List Mark)) (seen seen' : List (Entry Job Said))
-      → HasTaken rules speech opening first lines marks seen → GoesOn rules speech seen seen' → IsLegal rules opening seen' → HasTaken rules speech opening first lines marks seen'
+      → HasTaken rules speech opening first lines marks seen → WindsUp rules speech seen seen' → IsLegal rules opening seen' → HasTaken rules speech opening first lines marks seen'
   taken_still opening first lines marks seen seen' taken goes legal = record {
     first_marks = taken.first_marks;
     aligned = taken.aligned;
@@ -53,7 +54,7 @@ module _ {Opening State Job Said : Type 0} (rules : Rules Opening State Job Said
       → IsStory rules speech opening [] (lines ++ line ∷ []) (marks ++ marks_of answer ∷ []) seen'
   story_more opening lines marks seen seen' line answer story answers =
       subst (λ (es : List (Entry Job Said)). IsStory rules speech opening [] (lines ++ line ∷ []) (marks ++ marks_of answer ∷ []) es) (sym answers.parts)
-      (story-line rules speech opening lines marks seen answers.quiet answers.did line (marks_of answer) story answers.between answers.does)
+      (story-line rules speech opening lines marks seen answers.quiet answers.did line (marks_of answer) story (preparing-between rules speech answers.quiet answers.prepares) answers.does)
 
   taken_more : (opening : Opening) (first lines : List (Reads Saying)) (marks : List (List Mark)) (seen seen' : List (Entry Job Said)) (line : Reads Saying) (answer : Answer)
       → HasTaken rules speech opening first lines marks seen → Answers rules speech opening line answer seen seen' → IsLegal rules opening seen'
@@ -86,7 +87,7 @@ module _ {Opening State Job Said : Type 0} (rules : Rules Opening State Job Said
         let here : IsLegal rules opening (seen ++ answers.quiet) =
         legal-front rules (rules.start opening) (seen ++ answers.quiet) answers.did (subst (λ (es : List (Entry Job Said)). IsLegal rules opening es) parts legal) in
         let lanes' : AreLanes (seen ++ answers.quiet) = lanes-front (seen ++ answers.quiet) answers.did (subst (λ (es : List (Entry Job Said)). AreLanes es) parts lanes) in
-        let story = story-between rules speech opening [] (first ++ lines) (taken.first_marks ++ marks) seen answers.quiet taken.story answers.between in
+        let story = story-between rules speech opening [] (first ++ lines) (taken.first_marks ++ marks) seen answers.quiet taken.story (preparing-between rules speech answers.quiet answers.prepares) in
         let led : world_at rules speech opening (seen ++ answers.quiet) ≡ last_world (world_at rules speech opening []) (first ++ lines) =
         story-world rules speech steps opening [] (first ++ lines) (taken.first_marks ++ marks) (seen ++ answers.quiet) story lanes' here in
         let world : world_at rules speech opening (seen ++ answers.quiet) ≡ last_world (last_world (speech.first opening) first) lines =
@@ -182,7 +183,7 @@ module _ {Opening State Job Said : Type 0} (rules : Rules Opening State Job Said
   -- ---- the same of a pass, whose root is known
 
   pub stands-still : (root : Option Opening) (first lines : List (Reads Saying)) (names : List (List ℕ)) (seen seen' : List (Entry Job Said)) (before held : Option (List ℕ)) (tally : Tally)
-      → GoesOn rules speech seen seen' → (IsLegalAt rules speech root seen → IsLegalAt rules speech root seen')
+      → WindsUp rules speech seen seen' → (IsLegalAt rules speech root seen → IsLegalAt rules speech root seen')
       → Stands rules speech root first lines names seen before held tally → Stands rules speech root first lines names seen' before held tally
   stands-still None first lines names seen seen' before held tally goes legal stands = absurd stands
   stands-still (Some opening) first lines names seen seen' before held tally goes legal stands = λ lanes.
@@ -196,7 +197,7 @@ module _ {Opening State Job Said : Type 0} (rules : Rules Opening State Job Said
       }
 
   pub stops-still : (stop : Stop) (root : Option Opening) (first lines : List (Reads Saying)) (names : List (List ℕ)) (seen seen' : List (Entry Job Said)) (before held : Option (List ℕ))
-      → GoesOn rules speech seen seen' → IsLegalAt rules speech root seen'
+      → WindsUp rules speech seen seen' → IsLegalAt rules speech root seen'
       → Stops rules speech stop root first lines names seen before held → Stops rules speech stop root first lines names seen' before held
   stops-still stop None first lines names seen seen' before held goes legal stops = absurd stops
   stops-still stop (Some opening) first lines names seen seen' before held goes legal stops = λ lanes.
@@ -205,7 +206,7 @@ module _ {Opening State Job Said : Type 0} (rules : Rules Opening State Job Said
 
   -- memory ran out, for the next line or for what follows all lines
   pub stops-before : (root : Option Opening) (first lines more : List (Reads Saying)) (names : List (List ℕ)) (seen seen' : List (Entry Job Said)) (before held : Option (List ℕ)) (tally : Tally)
-      → GoesOn rules speech seen seen' → (IsLegalAt rules speech root seen → IsLegalAt rules speech root seen')
+      → WindsUp rules speech seen seen' → (IsLegalAt rules speech root seen → IsLegalAt rules speech root seen')
       → Stands rules speech root first lines names seen before held tally → Stops rules speech stops.NoMemory root first (lines ++ more) names seen' before held
   stops-before None first lines more names seen seen' before held tally goes legal stands = absurd stands
   stops-before (Some opening) first lines more names seen seen' before held tally goes legal stands = λ lanes.

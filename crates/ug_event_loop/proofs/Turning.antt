@@ -3,6 +3,8 @@ use Rattle.std.proofs.Common.{◌≡◌, ℕ, Bool, true, false, List, [], ◌�
 use Rattle.std.specs.Prelude.{filter, not}
 use Rattle.std.proofs.lemmas.List.{append-nil}
 use Rattle.std.proofs.lemmas.List.Elements.{filter-append, All-append, All-nil}
+use Rattle.ug_board.specs.declared.steps.BoardStep.{BoardStep}
+use Rattle.ug_board.specs.declared.steps.BoardStep.TheVariants.{Job as DoJob, Lane as LaneTakes}
 use Rattle.ug_board.specs.Entry.{Entry}
 use Rattle.ug_board.specs.Rules.{Rules}
 use Rattle.ug_board.specs.History.{BoardState, replay, state_of, job_entry}
@@ -12,16 +14,22 @@ use Rattle.ug_history_rules.specs.Deeds.{Each, of_pass}
 use Rattle.ug_events.specs.Events.{Happening, Saying, SaysNothing, SaysSync, Says}
 use Rattle.ug_events.specs.Reads.{Reads}
 use Rattle.ug_world.specs.Verdicts.{verdict}
-use Rattle.ug_speaker.specs.Speech.{Speech, Purpose, TakesEvent, MarksTold, Ends}
+use Rattle.ug_speaker.specs.Speech.{Speech, Purpose, TakesEvent, MarksTold, Ends, Prepares}
 use Rattle.ug_speaker.specs.Told.{world_at}
 use Rattle.ug_speaker.specs.Owes.{StepsRight, IsTimely, StaysDrained, closed_by}
-use Rattle.ug_speaker.specs.Story.{IsUnasked, IsBetween}
+use Rattle.ug_speaker.specs.Story.{IsUnasked, IsUnaskedStep, IsBetween, IsDone, DoesEvent, Does}
+use Rattle.ug_types.specs.declared.mark.Mark.{Mark}
 use Rattle.ug_report.specs.Report.{Answer, Passed, Refused, Took, Synced}
-use Rattle.ug_event_loop.specs.Turns.{GoesOn, Answers, AnswersAt}
+use Rattle.ug_event_loop.specs.Turns.{PreparesBy, IsPreparing, GoesOn, WindsUp, EndsNot, IsOpenBy, StaysOpen, Answers, AnswersAt}
 
 pub each_more : {A : Type 0} (P : A → Type 0) (xs ys : List A) → Each P xs → Each P ys → Each P (xs ++ ys)
 each_more P [] ys a b = b
 each_more P (x ∷ xs) ys a b = (a.0, each_more P xs ys a.1 b)
+
+-- what holds by one fact of each holds by another that follows from it
+pub each_by : {A : Type 0} (P Q : A → Type 0) → ((x : A) → P x → Q x) → (xs : List A) → Each P xs → Each Q xs
+each_by P Q so [] a = tt
+each_by P Q so (x ∷ xs) a = (so x a.0, each_by P Q so xs a.1)
 
 pub adds_nothing : {E : Type 0} (owner : E → ℕ) (number : ℕ) (h : List E) → Adds owner number h h
 adds_nothing owner number h = ([], sym (append-nil h), All-nil (λ e. owner e ≡ number))
@@ -37,23 +45,23 @@ append-same (x ∷ xs) ys same = append-same xs ys (cc same)
 
 module _ {Opening State Job Said : Type 0} (rules : Rules Opening State Job Said) (speech : Speech Opening State Job Said) where
   pub goes_nowhere : (h : List (Entry Job Said)) → GoesOn rules speech h h
-  goes_nowhere h = record { more = []; parts = sym (append-nil h); between = tt }
+  goes_nowhere h = record { more = []; parts = sym (append-nil h); prepares = tt }
 
   pub goes_further : (a b c : List (Entry Job Said)) → GoesOn rules speech a b → GoesOn rules speech b c → GoesOn rules speech a c
   goes_further a b c one two = record {
     more = one.more ++ two.more;
     parts = two.parts ∙ ap (λ (z : List (Entry Job Said)). z ++ two.more) one.parts ∙ append_assoc a one.more two.more;
-    between = each_more (IsBetween rules speech) one.more two.more one.between two.between;
+    prepares = each_more (IsPreparing rules speech) one.more two.more one.prepares two.prepares;
   }
 
-  -- a job that no line asks for
+  -- a job that prepares
   pub goes_by_job :
-      (opening : Opening) (job : Job) (a b : List (Entry Job Said)) → IsUnasked (speech.purpose job)
+      (opening : Opening) (job : Job) (a b : List (Entry Job Said)) → speech.purpose job ≡ Prepares
       → b ≡ a ++ job_entry rules 0 job (replay rules opening a) ∷ [] → GoesOn rules speech a b
-  goes_by_job opening job a b unasked parts = record {
+  goes_by_job opening job a b is parts = record {
     more = job_entry rules 0 job (replay rules opening a) ∷ [];
     parts = parts;
-    between = ((λ own. unasked), tt);
+    prepares = ((λ own. is), tt);
   }
 
   -- an event that the world refuses
@@ -66,7 +74,7 @@ module _ {Opening State Job Said : Type 0} (rules : Rules Opening State Job Said
         quiet = [];
         did = [];
         parts = sym (append-nil a);
-        between = tt;
+        prepares = tt;
         does = rw here (refl, refl);
         is = rw here refl;
       }
@@ -84,7 +92,7 @@ module _ {Opening State Job Said : Type 0} (rules : Rules Opening State Job Said
         quiet = [];
         did = job_entry rules 0 job (replay rules opening a) ∷ [];
         parts = parts;
-        between = tt;
+        prepares = tt;
         does = rw here (record { job = job; is = is; legal = rw same legal; entry = rw same refl; marks = rw same (ap speech.marks reply) });
         is = rw here refl;
       }
@@ -101,7 +109,7 @@ module _ {Opening State Job Said : Type 0} (rules : Rules Opening State Job Said
         quiet = [];
         did = job_entry rules 0 job (replay rules opening a) ∷ [];
         parts = parts;
-        between = tt;
+        prepares = tt;
         does = record { job = job; is = is; legal = rw same legal; entry = rw same refl; marks = rw same (ap speech.marks reply) };
         is = refl;
       }
@@ -118,7 +126,7 @@ module _ {Opening State Job Said : Type 0} (rules : Rules Opening State Job Said
         did = two.did;
         parts = two.parts ∙ ap (λ (z : List (Entry Job Said)). z ++ (two.quiet ++ two.did)) one.parts
             ∙ append_assoc a one.more (two.quiet ++ two.did) ∙ ap (λ (z : List (Entry Job Said)). a ++ z) (sym (append_assoc one.more two.quiet two.did));
-        between = each_more (IsBetween rules speech) one.more two.quiet one.between two.between;
+        prepares = each_more (IsPreparing rules speech) one.more two.quiet one.prepares two.prepares;
         does = rw same two.does;
         is = rw same two.is;
       }
@@ -129,12 +137,12 @@ module _ {Opening State Job Said : Type 0} (rules : Rules Opening State Job Said
   none_before true entry entries is none = absurd cc
   none_before false entry entries is none = (is, rw is at none)
 
-  -- what others did stands between lines
-  pub none_between : (entries : List (Entry Job Said)) → filter (of_pass 0) entries ≡ [] → Each (IsBetween rules speech) entries
-  none_between [] none = tt
-  none_between (entry ∷ entries) none =
+  -- of what others did nothing is said
+  pub none_prepares : (entries : List (Entry Job Said)) → filter (of_pass 0) entries ≡ [] → Each (IsPreparing rules speech) entries
+  none_prepares [] none = tt
+  none_prepares (entry ∷ entries) none =
       let parts = none_before (of_pass 0 entry) entry entries refl none in
-      ((λ own. absurd cc), none_between entries parts.1)
+      ((λ own. absurd cc), none_prepares entries parts.1)
 
   -- since the builder's last turn others alone did something
   pub goes_by_others :
@@ -144,7 +152,71 @@ module _ {Opening State Job Said : Type 0} (rules : Rules Opening State Job Said
   goes_by_others seen entries starts owned =
       let mine = λ (xs : List (Entry Job Said)). filter (of_pass 0) xs in
       let none : mine starts.0 ≡ [] = append-same (mine seen) (mine starts.0) (sym (filter-append (of_pass 0) seen starts.0) ∙ ap mine (sym starts.1) ∙ owned) in
-      record { more = starts.0; parts = starts.1; between = none_between starts.0 none }
+      record { more = starts.0; parts = starts.1; prepares = none_prepares starts.0 none }
+
+  -- ---- work that winds up, and work that doesn't
+
+  step_between : (step : BoardStep Job) → PreparesBy rules speech step → IsUnaskedStep rules speech step
+  step_between (DoJob job) is = subst (λ (p : Purpose). IsUnasked p) (sym is) tt
+  step_between (LaneTakes step) is = absurd is
+
+  -- what prepares no line asks for
+  pub preparing-between : (entries : List (Entry Job Said)) → Each (IsPreparing rules speech) entries → Each (IsBetween rules speech) entries
+  preparing-between entries h = each_by (IsPreparing rules speech) (IsBetween rules speech) (λ entry prepares own. step_between entry.step (prepares own)) entries h
+
+  pub winds_by_going : (a b : List (Entry Job Said)) → GoesOn rules speech a b → WindsUp rules speech a b
+  winds_by_going a b goes = record { more = goes.more; parts = goes.parts; between = preparing-between goes.more goes.prepares }
+
+  pub winds_further : (a b c : List (Entry Job Said)) → WindsUp rules speech a b → WindsUp rules speech b c → WindsUp rules speech a c
+  winds_further a b c one two = record {
+    more = one.more ++ two.more;
+    parts = two.parts ∙ ap (λ (z : List (Entry Job Said)). z ++ two.more) one.parts ∙ append_assoc a one.more two.more;
+    between = each_more (IsBetween rules speech) one.more two.more one.between two.between;
+  }
+
+  pub winds_behind : (a b c : List (Entry Job Said)) → GoesOn rules speech a b → WindsUp rules speech b c → WindsUp rules speech a c
+  winds_behind a b c one two = winds_further a b c (winds_by_going a b one) two
+
+  other_purpose : (purpose other : Purpose) → purpose ≡ other → (other ≡ Ends → ⊥) → purpose ≡ Ends → ⊥
+  other_purpose purpose other is never end = never (sym is ∙ end)
+
+  step_open : (step : BoardStep Job) → PreparesBy rules speech step → EndsNot rules speech step
+  step_open (DoJob job) is = other_purpose (speech.purpose job) Prepares is (λ is. absurd cc)
+  step_open (LaneTakes step) is = absurd is
+
+  preparing_open : (entries : List (Entry Job Said)) → Each (IsPreparing rules speech) entries → Each (IsOpenBy rules speech) entries
+  preparing_open entries h = each_by (IsPreparing rules speech) (IsOpenBy rules speech) (λ entry prepares own. step_open entry.step (prepares own)) entries h
+
+  pub stays_by_going : (a b : List (Entry Job Said)) → GoesOn rules speech a b → StaysOpen rules speech a b
+  stays_by_going a b goes = record { more = goes.more; parts = goes.parts; each = preparing_open goes.more goes.prepares }
+
+  none_open : (did : List (Entry Job Said)) → did ≡ [] → Each (IsOpenBy rules speech) did
+  none_open did none = subst (λ (es : List (Entry Job Said)). Each (IsOpenBy rules speech) es) (sym none) tt
+
+  done_open : (purpose : Purpose) (opening : Opening) (before : List (Entry Job Said)) (ms : List Mark) (did : List (Entry Job Said)) → (purpose ≡ Ends → ⊥)
+      → IsDone rules speech purpose opening before ms did → Each (IsOpenBy rules speech) did
+  done_open purpose opening before ms did never done =
+      subst (λ (es : List (Entry Job Said)). Each (IsOpenBy rules speech) es) (sym done.entry) ((λ own. other_purpose (speech.purpose done.job) purpose done.is never), tt)
+
+  event_open : (v : Option ℕ) (e : Happening) (opening : Opening) (before : List (Entry Job Said)) (ms : List Mark) (did : List (Entry Job Said))
+      → DoesEvent rules speech v e opening before ms did → Each (IsOpenBy rules speech) did
+  event_open None e opening before ms did does = done_open (TakesEvent e) opening before ms did (λ is. absurd cc) does
+  event_open (Some number) e opening before ms did does = none_open did does.1
+
+  line_open : (line : Reads Saying) (opening : Opening) (before : List (Entry Job Said)) (ms : List Mark) (did : List (Entry Job Said))
+      → Does rules speech line opening before ms did → Each (IsOpenBy rules speech) did
+  line_open (Ok SaysNothing) opening before ms did does = none_open did does.1
+  line_open (Ok SaysSync) opening before ms did does = done_open MarksTold opening before ms did (λ is. absurd cc) does
+  line_open (Ok (Says e)) opening before ms did does = event_open (verdict (world_at rules speech opening before) e) e opening before ms did does
+  line_open (Err refusal) opening before ms did does = none_open did does.1
+
+  -- no line ends the work
+  pub stays_by_line : (opening : Opening) (line : Reads Saying) (answer : Answer) (a b : List (Entry Job Said)) → Answers rules speech opening line answer a b → StaysOpen rules speech a b
+  stays_by_line opening line answer a b answers = record {
+    more = answers.quiet ++ answers.did;
+    parts = answers.parts;
+    each = each_more (IsOpenBy rules speech) answers.quiet answers.did (preparing_open answers.quiet answers.prepares) (line_open line opening (a ++ answers.quiet) _ answers.did answers.does);
+  }
 
   -- ---- what everything being told comes to at the end
 
@@ -198,10 +270,10 @@ module _ {Opening State Job Said : Type 0} (rules : Rules Opening State Job Said
 
   pub answers_passed : (root : Option Opening) (line : Reads Saying) (seen : List (Entry Job Said)) → line ≡ Ok SaysNothing → AnswersAt rules speech root line Passed seen seen
   answers_passed None line seen is = tt
-  answers_passed (Some opening) line seen is = rw is (record { quiet = []; did = []; parts = sym (append-nil seen); between = tt; does = (refl, refl); is = refl })
+  answers_passed (Some opening) line seen is = rw is (record { quiet = []; did = []; parts = sym (append-nil seen); prepares = tt; does = (refl, refl); is = refl })
 
   pub answers_unread :
       (root : Option Opening) (line : Reads Saying) (number : ℕ) (inner : Option ℕ) (seen : List (Entry Job Said)) → line ≡ Err (record { number = number; inner = inner })
       → AnswersAt rules speech root line (Refused (record { number = number; inner = inner })) seen seen
   answers_unread None line number inner seen is = tt
-  answers_unread (Some opening) line number inner seen is = rw is (record { quiet = []; did = []; parts = sym (append-nil seen); between = tt; does = (refl, refl); is = refl })
+  answers_unread (Some opening) line number inner seen is = rw is (record { quiet = []; did = []; parts = sym (append-nil seen); prepares = tt; does = (refl, refl); is = refl })

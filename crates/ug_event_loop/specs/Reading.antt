@@ -1,5 +1,5 @@
 -- What the reading of a file of events came to.
-use Rattle.std.specs.Prelude.{◌≡◌, ℕ, ◌≤◌, ◌⊎◌, Bool, true, false, List, [], ◌∷◌, ◌++◌, map, Option, Some, None, Ok}
+use Rattle.std.specs.Prelude.{◌≡◌, ℕ, ◌≤◌, ◌⊎◌, Bool, true, false, List, [], ◌++◌, map, Option, Some, None, Ok}
 use Rattle.ug_edge.specs.Told.{Rose, IsEnded}
 use Rattle.ug_pieces.specs.Pieces.{HasRead}
 use Rattle.ug_pieces.specs.declared.line_halt.LineHalt.{LineHalt}

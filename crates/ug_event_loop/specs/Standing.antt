@@ -19,6 +19,7 @@ use Rattle.ug_world.specs.Worlds.{last_world}
 use Rattle.ug_speaker.specs.Speech.{Speech}
 use Rattle.ug_report.specs.Report.{AreOf64, line_texts, accepted_count, refused_count}
 use Rattle.ug_speaker.specs.Story.{IsStory}
+use Rattle.ug_event_loop.specs.Turns.{StaysOpen}
 use Rattle.ug_event_loop.specs.declared.grammar.Grammar.{Grammar}
 use Rattle.ug_event_loop.specs.declared.grammar.Grammar.TheVariants as grammars
 use Rattle.ug_event_loop.specs.declared.tally.Tally.{Tally}
@@ -123,14 +124,16 @@ module _ {Opening State Job Said : Type 0} (rules : Rules Opening State Job Said
   abbrev pub BuilderStops : Stop → BuilderView Opening Job Said → List (Reads Saying) → List (Reads Saying) → Option (List ℕ) → Option (List ℕ) → Type 0
   BuilderStops stop b first lines before held = Stops rules speech stop b.pass.root first lines b.names b.pass.seen before held
 
-  -- On the way from one to the other just these lines were taken.
+  -- On the way from one to the other just these lines were taken, and the work wasn't ended.
   abbrev pub TakesLines : BuilderView Opening Job Said → Option (List ℕ) → BuilderView Opening Job Said → Option (List ℕ) → List (List ℕ) → Type 0
   TakesLines old held new held' more =
       (first : List (Reads Saying)) (lines : List (Reads Saying)) (before : Option (List ℕ))
-      → BuilderStands old first lines before held → BuilderStands new first (lines ++ map (said_by old.grammar) more) before held'
+      → BuilderStands old first lines before held
+      → BuilderStands new first (lines ++ map (said_by old.grammar) more) before held' × StaysOpen rules speech old.pass.seen new.pass.seen
 
-  -- Behind the first these lines came, of which some were taken when it stopped.
+  -- Behind the first these lines came, of which some were taken when it stopped, with the work not ended.
   abbrev pub StopsWithin : Stop → BuilderView Opening Job Said → Option (List ℕ) → BuilderView Opening Job Said → Option (List ℕ) → List (List ℕ) → Type 0
   StopsWithin stop old held new held' more =
       (first : List (Reads Saying)) (lines : List (Reads Saying)) (before : Option (List ℕ))
-      → BuilderStands old first lines before held → BuilderStops stop new first (lines ++ map (said_by old.grammar) more) before held'
+      → BuilderStands old first lines before held
+      → BuilderStops stop new first (lines ++ map (said_by old.grammar) more) before held' × StaysOpen rules speech old.pass.seen new.pass.seen

@@ -3,10 +3,13 @@ use Rattle.std.proofs.Common.{◌≡◌, ℕ, ◌<◌, ◌≤◌, Bool, true, fa
 use Rattle.std.proofs.lemmas.Bool.{leb-true, leb-false}
 use Rattle.std.proofs.lemmas.List.{append-nil, map-append}
 use Rattle.ug_edge.specs.Told.{Rose}
+use Rattle.ug_board.specs.Entry.{Entry}
 use Rattle.ug_board.specs.Rules.{Rules}
 use Rattle.ug_events.specs.Events.{Saying}
 use Rattle.ug_events.specs.Reads.{Reads}
 use Rattle.ug_speaker.specs.Speech.{Speech}
+use Rattle.ug_speaker.specs.StoryLaws.{each-append}
+use Rattle.ug_event_loop.specs.Turns.{IsOpenBy, StaysOpen}
 use Rattle.ug_event_loop.specs.declared.grammar.Grammar.{Grammar}
 use Rattle.ug_event_loop.specs.declared.stop.Stop.{Stop}
 use Rattle.ug_event_loop.specs.Standing.{said_by, BuilderView, IsSameBuilder, BuilderStands, BuilderStops, TakesLines, StopsWithin}
@@ -31,23 +34,40 @@ said_joined g h lines front more same =
     ∙ ap (λ (ls : List (Reads Saying)). lines ++ ls) (sym (map-append (said_by g) front more)))
 
 module _ {Opening State Job Said : Type 0} (rules : Rules Opening State Job Said) (speech : Speech Opening State Job Said) where
+  -- work that isn't ended, and work that isn't either behind it
+  pub stays_nowhere : (h : List (Entry Job Said)) → StaysOpen rules speech h h
+  stays_nowhere h = record { more = []; parts = sym (append-nil h); each = tt }
+
+  pub stays_further : (a b c : List (Entry Job Said)) → StaysOpen rules speech a b → StaysOpen rules speech b c → StaysOpen rules speech a c
+  stays_further a b c one two = record {
+    more = one.more ++ two.more;
+    parts = two.parts ∙ ap (λ (z : List (Entry Job Said)). z ++ two.more) one.parts ∙ append_assoc a one.more two.more;
+    each = each-append (IsOpenBy rules speech) one.more two.more one.each two.each;
+  }
+
   pub takes_none : (b : BuilderView Opening Job Said) (held : Option (List ℕ)) → TakesLines rules speech b held b held []
   takes_none b held first lines before stands =
-      subst (λ (ls : List (Reads Saying)). BuilderStands rules speech b first ls before held) (sym (append-nil lines)) stands
+      (subst (λ (ls : List (Reads Saying)). BuilderStands rules speech b first ls before held) (sym (append-nil lines)) stands, stays_nowhere b.pass.seen)
 
   pub takes_more :
       (t u v : BuilderView Opening Job Said) (c d e : Option (List ℕ)) (front more : List (List ℕ)) → IsSameBuilder t u
       → TakesLines rules speech t c u d front → TakesLines rules speech u d v e more → TakesLines rules speech t c v e (front ++ more)
   takes_more t u v c d e front more same p q first lines before stands =
-      subst (λ (ls : List (Reads Saying)). BuilderStands rules speech v first ls before e) (said_joined t.grammar u.grammar lines front more same.grammar)
-      (q first (lines ++ map (said_by t.grammar) front) before (p first lines before stands))
+      let one = p first lines before stands in
+      let two = q first (lines ++ map (said_by t.grammar) front) before one.0 in (
+        subst (λ (ls : List (Reads Saying)). BuilderStands rules speech v first ls before e) (said_joined t.grammar u.grammar lines front more same.grammar) two.0,
+        stays_further t.pass.seen u.pass.seen v.pass.seen one.1 two.1,
+      )
 
   pub stops_later :
       (t u v : BuilderView Opening Job Said) (c d e : Option (List ℕ)) (front more : List (List ℕ)) (stop : Stop) → IsSameBuilder t u
       → TakesLines rules speech t c u d front → StopsWithin rules speech stop u d v e more → StopsWithin rules speech stop t c v e (front ++ more)
   stops_later t u v c d e front more stop same p q first lines before stands =
-      subst (λ (ls : List (Reads Saying)). BuilderStops rules speech stop v first ls before e) (said_joined t.grammar u.grammar lines front more same.grammar)
-      (q first (lines ++ map (said_by t.grammar) front) before (p first lines before stands))
+      let one = p first lines before stands in
+      let two = q first (lines ++ map (said_by t.grammar) front) before one.0 in (
+        subst (λ (ls : List (Reads Saying)). BuilderStops rules speech stop v first ls before e) (said_joined t.grammar u.grammar lines front more same.grammar) two.0,
+        stays_further t.pass.seen u.pass.seen v.pass.seen one.1 two.1,
+      )
 
 -- Where a count rose later it rose.
 pub rose_later : (a b c : ℕ) → a ≤ b → b ≤ c → Rose b c → Rose a c

@@ -1,13 +1,15 @@
 -- What a builder does on a board in its turns.
 use Rattle.std.specs.Prelude.{◌≡◌, ℕ, Bool, true, false, List, [], ◌++◌, Option, Some, None}
 use Rattle.ug_types.specs.declared.mark.Mark.{Mark}
+use Rattle.ug_board.specs.declared.steps.BoardStep.{BoardStep}
+use Rattle.ug_board.specs.declared.steps.BoardStep.TheVariants.{Job as DoJob, Lane as LaneTakes}
 use Rattle.ug_board.specs.Entry.{Entry}
 use Rattle.ug_board.specs.Rules.{Rules}
 use Rattle.ug_board.specs.History.{IsLegal, replay}
-use Rattle.ug_history_rules.specs.Deeds.{Each}
+use Rattle.ug_history_rules.specs.Deeds.{Each, of_pass}
 use Rattle.ug_events.specs.Events.{Saying}
 use Rattle.ug_events.specs.Reads.{Reads}
-use Rattle.ug_speaker.specs.Speech.{Speech}
+use Rattle.ug_speaker.specs.Speech.{Speech, Ends, Prepares}
 use Rattle.ug_speaker.specs.Told.{world_at}
 use Rattle.ug_report.specs.Report.{Answer, Passed, Refused, Took, Synced, answer_to}
 use Rattle.ug_speaker.specs.Story.{IsBetween, Does}
@@ -42,18 +44,47 @@ is_refused (cames.Took said) = 0
 is_refused (cames.Synced said) = 0
 
 module _ {Opening State Job Said : Type 0} (rules : Rules Opening State Job Said) (speech : Speech Opening State Job Said) where
-  -- What no line asks for was done, and nothing else.
+  -- a step that prepares
+  abbrev pub PreparesBy : BoardStep Job → Type 0
+  PreparesBy (DoJob job) = speech.purpose job ≡ Prepares
+  PreparesBy (LaneTakes step) = ⊥
+
+  -- What the builder does here, who has pass 0, prepares. Of the steps of others nothing is said.
+  abbrev pub IsPreparing : Entry Job Said → Type 0
+  IsPreparing entry = of_pass 0 entry ≡ true → PreparesBy entry.step
+
+  -- What prepares was done, and nothing else: the work isn't ended.
   pub record GoesOn (old new : List (Entry Job Said)) : Type 0 where
     pub more : List (Entry Job Said)
     pub parts : new ≡ old ++ more
+    pub prepares : Each IsPreparing more
+
+  -- What no line asks for was done, and nothing else; it may be that the work was ended by it.
+  pub record WindsUp (old new : List (Entry Job Said)) : Type 0 where
+    pub more : List (Entry Job Said)
+    pub parts : new ≡ old ++ more
     pub between : Each (IsBetween rules speech) more
+
+  -- a step that doesn't end the work
+  abbrev pub EndsNot : BoardStep Job → Type 0
+  EndsNot (DoJob job) = speech.purpose job ≡ Ends → ⊥
+  EndsNot (LaneTakes step) = Unit {0}
+
+  abbrev pub IsOpenBy : Entry Job Said → Type 0
+  IsOpenBy entry = of_pass 0 entry ≡ true → EndsNot entry.step
+
+  -- Whatever was done, the builder didn't end the work by it.
+  pub record StaysOpen (old new : List (Entry Job Said)) : Type 0 where
+    pub more : List (Entry Job Said)
+    pub parts : new ≡ old ++ more
+    pub each : Each IsOpenBy more
 
   -- For a line this was done, and this is what it came to.
   pub record Answers (opening : Opening) (line : Reads Saying) (answer : Answer) (old new : List (Entry Job Said)) : Type 0 where
     pub quiet : List (Entry Job Said)
     pub did : List (Entry Job Said)
     pub parts : new ≡ old ++ (quiet ++ did)
-    pub between : Each (IsBetween rules speech) quiet
+    pub prepares : Each IsPreparing quiet
     pub does : Does rules speech line opening (old ++ quiet) (marks_of answer) did
     pub is : answer_to (world_at rules speech opening (old ++ quiet)) line (marks_of answer) ≡ answer
 

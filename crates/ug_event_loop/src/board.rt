@@ -7,7 +7,7 @@ ghost use Rattle.ug_events.specs.Events.{IsEvent, Says, SaysSync};
 ghost use Rattle.ug_events.specs.Views.{event_of};
 ghost use Rattle.ug_world.specs.Verdicts.{verdict};
 ghost use Rattle.ug_speaker.specs.Speech.{Prepares};
-ghost use Rattle.ug_event_loop.specs.Turns.{GoesOn, Answers, IsSettled, answer_of};
+ghost use Rattle.ug_event_loop.specs.Turns.{GoesOn, WindsUp, Answers, IsSettled, answer_of};
 ghost use Rattle.ug_event_loop.specs.declared.board.Work.TheVariants.{Settling};
 ghost use Rattle.ug_event_loop.specs.Counts.{least_of, most_of, RisesBy, RisesWithin};
 
@@ -227,7 +227,7 @@ fn close<S: Speaker, L: Ledger>(board: &mut Board<S>, steps: &mut Steps<L>) -> R
     ensures opening { board.new.opening ≡ board.old.opening }
     ensures stays_spent { board.old.spent ≡ true → board.new.spent ≡ true }
     ensures adds { Adds (λ entry. entry.pass) 0 board.old.history board.new.history }
-    ensures history { GoesOn S.Machine.rules S.speech board.old.history board.new.history }
+    ensures history { WindsUp S.Machine.rules S.speech board.old.history board.new.history }
     ensures drained { OnOk result (S.speech.drained (state_of S.Machine.rules board.old) ≡ true → S.speech.drained (state_of S.Machine.rules board.new) ≡ true) }
     ensures closed { OnOk result (S.speech.closed (state_of S.Machine.rules board.new) ≡ true) }
     ensures closed_before { OnErr result (board.new.spent ≡ false → S.speech.closed (state_of S.Machine.rules board.new) ≡ true) }
@@ -249,7 +249,8 @@ pub(crate) fn conclude<S: Speaker, R: Wait, L: Ledger>(
     ensures opening { board.new.opening ≡ board.old.opening }
     ensures stays_spent { board.old.spent ≡ true → board.new.spent ≡ true }
     ensures adds { Adds (λ entry. entry.pass) 0 board.old.history board.new.history }
-    ensures history { GoesOn S.Machine.rules S.speech board.old.history board.new.history }
+    ensures history { WindsUp S.Machine.rules S.speech board.old.history board.new.history }
+    ensures waits { IfOk result (λ told. told.value ≡ false → GoesOn S.Machine.rules S.speech board.old.history board.new.history) }
     ensures drained { IfOk result (λ told. told.value ≡ true → S.speech.drained (state_of S.Machine.rules board.new) ≡ true) }
     ensures closed { IfOk result (λ told. told.value ≡ true → S.speech.closed (state_of S.Machine.rules board.new) ≡ true) }
     ensures legal { IsLegal S.Machine.rules board.new.opening board.new.history }
@@ -272,7 +273,7 @@ pub(crate) fn break_off<S: Speaker, L: Ledger>(board: &mut Board<S>, steps: &mut
     ensures opening { board.new.opening ≡ board.old.opening }
     ensures stays_spent { board.old.spent ≡ true → board.new.spent ≡ true }
     ensures adds { Adds (λ entry. entry.pass) 0 board.old.history board.new.history }
-    ensures history { GoesOn S.Machine.rules S.speech board.old.history board.new.history }
+    ensures history { WindsUp S.Machine.rules S.speech board.old.history board.new.history }
     ensures closed { board.new.spent ≡ false → S.speech.closed (state_of S.Machine.rules board.new) ≡ true }
     ensures legal { IsLegal S.Machine.rules board.new.opening board.new.history }
     ensures steps_least { RisesBy steps.old steps.new (least_of S.Machine.rules board.old.opening board.old.history) (least_of S.Machine.rules board.old.opening board.new.history) }

@@ -10,7 +10,7 @@ ghost use Rattle.ug_events.specs.Reads.{Reads};
 ghost use Rattle.ug_events.specs.Views.{event_of};
 ghost use Rattle.ug_report.specs.Report.{AreOf64, answer_texts};
 ghost use Rattle.ug_sender.specs.Posts.{AreHere, AllRest, posts_of};
-ghost use Rattle.ug_event_loop.specs.Turns.{GoesOn, AnswersAt, IsLegalAt, IsSettledAt, IsEndedAt, IsClosedAt, answer_of, marks_of};
+ghost use Rattle.ug_event_loop.specs.Turns.{GoesOn, WindsUp, StaysOpen, AnswersAt, IsLegalAt, IsSettledAt, IsEndedAt, IsClosedAt, answer_of, marks_of};
 ghost use Rattle.ug_event_loop.specs.Counts.{least_at, most_at, RisesBy, RisesWithin};
 ghost use Rattle.ug_event_loop.specs.Standing.{said_by, is_due, IsPacedBy, IsPumpedBetween, IsSameBuilder, BuilderStands, TakesLines, StopsWithin};
 ghost use Rattle.ug_event_loop.specs.Reading.{StandsWithin};
@@ -365,9 +365,9 @@ impl<S: Speaker> Builder<S> {
         ensures rest { OnOk result (AllRest S.Machine.rules crew.new) }
         ensures settled { OnOk result (IsSettledAt S.Machine.rules S.speech self.new.pass.root self.new.pass.seen) }
         ensures taken { OnOk result ((first : List (Reads Saying)) (held : Option (List ℕ)) → BuilderStands S.Machine.rules S.speech self.old first [] held held
-            → BuilderStands S.Machine.rules S.speech self.new (first ++ Ok (Says (event_of event)) ∷ []) [] held held) }
+            → BuilderStands S.Machine.rules S.speech self.new (first ++ Ok (Says (event_of event)) ∷ []) [] held held × StaysOpen S.Machine.rules S.speech self.old.pass.seen self.new.pass.seen) }
         ensures stopped { OnErr result ((first : List (Reads Saying)) (held : Option (List ℕ)) → BuilderStands S.Machine.rules S.speech self.old first [] held held
-            → StandsWithin S.Machine.rules S.speech (first ++ Ok (Says (event_of event)) ∷ []) self.new held held) }
+            → StandsWithin S.Machine.rules S.speech (first ++ Ok (Says (event_of event)) ∷ []) self.new held held × StaysOpen S.Machine.rules S.speech self.old.pass.seen self.new.pass.seen) }
         ensures steps_least { RisesBy steps.old steps.new (least_at S.Machine.rules self.old.pass.root self.old.pass.seen) (least_at S.Machine.rules self.old.pass.root self.new.pass.seen) }
         ensures steps_most { OnOk result (RisesWithin steps.old steps.new (most_at S.Machine.rules self.old.pass.root self.old.pass.seen) (most_at S.Machine.rules self.old.pass.root self.new.pass.seen)) }
     {
@@ -390,9 +390,9 @@ impl<S: Speaker> Builder<S> {
         requires form { IsEvent (event_of event) }
         ensures same { IsSameBuilder self.old self.new }
         ensures taken { OnOk result ((first : List (Reads Saying)) (held : Option (List ℕ)) → BuilderStands S.Machine.rules S.speech self.old first [] held held
-            → BuilderStands S.Machine.rules S.speech self.new (first ++ Ok (Says (event_of event)) ∷ []) [] held held) }
+            → BuilderStands S.Machine.rules S.speech self.new (first ++ Ok (Says (event_of event)) ∷ []) [] held held × StaysOpen S.Machine.rules S.speech self.old.pass.seen self.new.pass.seen) }
         ensures stopped { OnErr result ((first : List (Reads Saying)) (held : Option (List ℕ)) → BuilderStands S.Machine.rules S.speech self.old first [] held held
-            → BuilderStands S.Machine.rules S.speech self.new first [] held held) }
+            → BuilderStands S.Machine.rules S.speech self.new first [] held held × StaysOpen S.Machine.rules S.speech self.old.pass.seen self.new.pass.seen) }
         ensures steps_least { RisesBy steps.old steps.new (least_at S.Machine.rules self.old.pass.root self.old.pass.seen) (least_at S.Machine.rules self.old.pass.root self.new.pass.seen) }
         ensures steps_most { OnOk result (RisesWithin steps.old steps.new (most_at S.Machine.rules self.old.pass.root self.old.pass.seen) (most_at S.Machine.rules self.old.pass.root self.new.pass.seen)) }
     {
@@ -416,7 +416,7 @@ impl<S: Speaker> Builder<S> {
         ensures same { IsSameBuilder self.old self.new }
         ensures tally { self.new.tally ≡ self.old.tally }
         ensures posts { posts_of crew.new ≡ posts_of crew.old }
-        ensures history { GoesOn S.Machine.rules S.speech self.old.pass.seen self.new.pass.seen }
+        ensures history { WindsUp S.Machine.rules S.speech self.old.pass.seen self.new.pass.seen }
         ensures ended { OnOk result (IsEndedAt S.Machine.rules S.speech self.new.pass.root self.new.pass.seen) }
         ensures legal { IsLegalAt S.Machine.rules S.speech self.new.pass.root self.new.pass.seen }
         ensures steps_least { RisesBy steps.old steps.new (least_at S.Machine.rules self.old.pass.root self.old.pass.seen) (least_at S.Machine.rules self.old.pass.root self.new.pass.seen) }
@@ -445,7 +445,7 @@ impl<S: Speaker> Builder<S> {
         requires here { self.old.pass.turnstile ≡ turnstile.now.id }
         ensures same { IsSameBuilder self.old self.new }
         ensures tally { self.new.tally ≡ self.old.tally }
-        ensures history { GoesOn S.Machine.rules S.speech self.old.pass.seen self.new.pass.seen }
+        ensures history { WindsUp S.Machine.rules S.speech self.old.pass.seen self.new.pass.seen }
         ensures closed { IsClosedAt S.Machine.rules S.speech self.new.pass.spent self.new.pass.root self.new.pass.seen }
         ensures legal { IsLegalAt S.Machine.rules S.speech self.new.pass.root self.new.pass.seen }
         ensures steps_least { RisesBy steps.old steps.new (least_at S.Machine.rules self.old.pass.root self.old.pass.seen) (least_at S.Machine.rules self.old.pass.root self.new.pass.seen) }

@@ -6,6 +6,7 @@ ghost use Rattle.ug_pieces.specs.Pieces.{HasRead};
 ghost use Rattle.ug_events.specs.Views.{event_of};
 ghost use Rattle.ug_speaker.specs.Owes.{AreEvents};
 ghost use Rattle.ug_sender.specs.Posts.{AreHere, posts_of};
+ghost use Rattle.ug_event_loop.specs.Turns.{StaysOpen};
 ghost use Rattle.ug_event_loop.specs.Counts.{least_at, most_at, RisesBy, RisesWithin};
 ghost use Rattle.ug_event_loop.specs.Standing.{said_by, IsSameBuilder, BuilderStands};
 ghost use Rattle.ug_event_loop.specs.Files.{lines_read, IsPastLimits};
@@ -164,11 +165,13 @@ fn take_all<R: Wait, W: Wire, S: Speaker, L: Ledger, E: Source, K: Sink>(
     ensures posts { posts_of crew.new ≡ posts_of crew.old }
     ensures taken { OnOk result (BuilderStands S.Machine.rules S.speech builder.old [] [] (K.held report.old) (K.held report.old) → HasRead (E.left source.old) (E.left source.new) (λ read.
         IsEnded (E.left source.new) × (IsPastLimits read → ⊥)
-        × BuilderStands S.Machine.rules S.speech builder.new (first_of first.items) (map (said_by builder.old.grammar) (lines_read true read)) (K.held report.old) (K.held report.new))) }
+        × BuilderStands S.Machine.rules S.speech builder.new (first_of first.items) (map (said_by builder.old.grammar) (lines_read true read)) (K.held report.old) (K.held report.new))
+        × StaysOpen S.Machine.rules S.speech builder.old.pass.seen builder.new.pass.seen) }
     ensures halted { IfErr result (λ end. BuilderStands S.Machine.rules S.speech builder.old [] [] (K.held report.old) (K.held report.old) → HasRead (E.left source.old) (E.left source.new)
         (EndsAt S.Machine.rules S.speech (first_of first.items) builder.old builder.new
         (record { left = E.left source.old; reads_failed = E.faults source.old; held = K.held report.old; writes_failed = K.faults report.old; steps = steps.old })
-        (record { left = E.left source.new; reads_failed = E.faults source.new; held = K.held report.new; writes_failed = K.faults report.new; steps = steps.new }) end)) }
+        (record { left = E.left source.new; reads_failed = E.faults source.new; held = K.held report.new; writes_failed = K.faults report.new; steps = steps.new }) end)
+        × StaysOpen S.Machine.rules S.speech builder.old.pass.seen builder.new.pass.seen) }
     ensures incomplete { IsErrOf result End.Complete → ⊥ }
     ensures unharmed { (IsErrOf result End.Read → ⊥) → E.faults source.new ≡ E.faults source.old }
     ensures faults { E.faults source.old ≤ E.faults source.new }
@@ -203,8 +206,10 @@ fn admit_all<R: Wait, W: Wire, S: Speaker, L: Ledger>(
     requires form { AreEvents (map event_of first.items) }
     ensures same { IsSameBuilder builder.old builder.new }
     ensures posts { posts_of crew.new ≡ posts_of crew.old }
-    ensures taken { OnOk result ((held : Option (List ℕ)) → BuilderStands S.Machine.rules S.speech builder.old [] [] held held → BuilderStands S.Machine.rules S.speech builder.new (first_of first.items) [] held held) }
-    ensures stopped { OnErr result ((held : Option (List ℕ)) → BuilderStands S.Machine.rules S.speech builder.old [] [] held held → StandsWithin S.Machine.rules S.speech (first_of first.items) builder.new held held) }
+    ensures taken { OnOk result ((held : Option (List ℕ)) → BuilderStands S.Machine.rules S.speech builder.old [] [] held held
+        → BuilderStands S.Machine.rules S.speech builder.new (first_of first.items) [] held held × StaysOpen S.Machine.rules S.speech builder.old.pass.seen builder.new.pass.seen) }
+    ensures stopped { OnErr result ((held : Option (List ℕ)) → BuilderStands S.Machine.rules S.speech builder.old [] [] held held
+        → StandsWithin S.Machine.rules S.speech (first_of first.items) builder.new held held × StaysOpen S.Machine.rules S.speech builder.old.pass.seen builder.new.pass.seen) }
     ensures steps_least { RisesBy steps.old steps.new (least_at S.Machine.rules builder.old.pass.root builder.old.pass.seen) (least_at S.Machine.rules builder.old.pass.root builder.new.pass.seen) }
     ensures steps_most { OnOk result (RisesWithin steps.old steps.new (most_at S.Machine.rules builder.old.pass.root builder.old.pass.seen) (most_at S.Machine.rules builder.old.pass.root builder.new.pass.seen)) }
 {

@@ -4,7 +4,7 @@ ghost use Rattle.std.specs.Prelude.{◌≡◌, true, false, Ok, OnOk, OnErr, IfO
 ghost use Rattle.ug_turnstile.specs.Passes.{IsSamePass};
 ghost use Rattle.ug_events.specs.Events.{IsEvent, Says, SaysSync};
 ghost use Rattle.ug_events.specs.Views.{event_of};
-ghost use Rattle.ug_event_loop.specs.Turns.{GoesOn, AnswersAt, IsLegalAt, IsSettledAt, IsEndedAt, IsClosedAt, answer_of};
+ghost use Rattle.ug_event_loop.specs.Turns.{GoesOn, WindsUp, AnswersAt, IsLegalAt, IsSettledAt, IsEndedAt, IsClosedAt, answer_of};
 ghost use Rattle.ug_event_loop.specs.Counts.{least_at, most_at, RisesBy, RisesWithin};
 
 use crate::board::{break_off, conclude, mark, offer, settle};
@@ -108,7 +108,8 @@ pub(crate) fn conclude_in_turn<S: Speaker, R: Wait, L: Ledger>(
     requires number { pass.old.number ≡ 0 }
     ensures same { IsSamePass pass.old pass.new }
     ensures free { pass.new.holds ≡ false }
-    ensures history { GoesOn S.Machine.rules S.speech pass.old.seen pass.new.seen }
+    ensures history { WindsUp S.Machine.rules S.speech pass.old.seen pass.new.seen }
+    ensures waits { IfOk result (λ told. told.value ≡ false → GoesOn S.Machine.rules S.speech pass.old.seen pass.new.seen) }
     ensures ended { IfOk result (λ told. told.value ≡ true → IsEndedAt S.Machine.rules S.speech pass.new.root pass.new.seen) }
     ensures legal { IsLegalAt S.Machine.rules S.speech pass.new.root pass.new.seen }
     ensures steps_least { RisesBy steps.old steps.new (least_at S.Machine.rules pass.old.root pass.old.seen) (least_at S.Machine.rules pass.old.root pass.new.seen) }
@@ -132,7 +133,7 @@ pub(crate) fn break_off_in_turn<S: Speaker, R: Wait, L: Ledger>(
     requires number { pass.old.number ≡ 0 }
     ensures same { IsSamePass pass.old pass.new }
     ensures free { pass.new.holds ≡ false }
-    ensures history { GoesOn S.Machine.rules S.speech pass.old.seen pass.new.seen }
+    ensures history { WindsUp S.Machine.rules S.speech pass.old.seen pass.new.seen }
     ensures closed { IsClosedAt S.Machine.rules S.speech pass.new.spent pass.new.root pass.new.seen }
     ensures legal { IsLegalAt S.Machine.rules S.speech pass.new.root pass.new.seen }
     ensures steps_least { RisesBy steps.old steps.new (least_at S.Machine.rules pass.old.root pass.old.seen) (least_at S.Machine.rules pass.old.root pass.new.seen) }

@@ -52,12 +52,15 @@ pub fn answer_alone<E: Site, K: Sink>(
     ensures audit_missing { (command : AuditCommand) → command_of (map string_bytes words.now) ≡ Some (Audit command) →
         file_told (E.files site.old) command.config ≡ Missing → IfSome result (λ status. (row_of status).may_be_unread ≡ true) }
     ensures usage { is_command (map string_bytes words.now) ≡ false → (result ≡ Some Status.Usage) × (site.new ≡ site.old) }
+    ensures misused { result ≡ Some Status.Usage → is_command (map string_bytes words.now) ≡ false }
     ensures no_command { is_command (map string_bytes words.now) ≡ false →
         AppendsThenStatus (K.held report.old) (K.held report.new) (Rose (K.faults report.old) (K.faults report.new)) [] (status_text Status.Usage) }
     ensures unmade { E.made site.new ≡ E.made site.old }
     // What a status says of the outside.
     ensures read { result ≡ Some Status.ReadFault → Rose (E.faults site.old) (E.faults site.new) }
     ensures unharmed { (result ≡ Some Status.ReadFault → ⊥) → E.faults site.new ≡ E.faults site.old }
+    ensures unwired { result ≡ Some Status.SiteFault → ⊥ }
+    ensures wire_faults { E.wire_faults site.new ≡ E.wire_faults site.old }
     ensures report { result ≡ Some Status.ReportFault → Rose (K.faults report.old) (K.faults report.new) }
     ensures ended { is_fed (command_of (map string_bytes words.now)) ≡ true → IfSome result (λ status. (row_of status).completed ≡ true → IsEnded (E.left site.new)) }
 {

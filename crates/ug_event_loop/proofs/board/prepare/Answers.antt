@@ -1,6 +1,5 @@
-use Rattle.std.proofs.Common.{rules, ◌≡◌, ◌∙◌, sym, subst, arith}
+use Rattle.std.proofs.Common.{rules, ◌≡◌, ◌∙◌, subst, arith}
 use Rattle.ug_speaker.specs.Speech.{Prepares}
-use Rattle.ug_speaker.specs.Story.{IsUnasked}
 use Rattle.ug_event_loop.specs.Counts.{least_of, most_of, RisesBy, RisesWithin}
 use Rattle.ug_event_loop.proofs.Turning.{adds_further, goes_further, goes_by_job}
 use Rattle.ug_event_loop.proofs.board.prepare.Goals as goal
@@ -15,7 +14,7 @@ loop-preserved g c =
       adds_further (λ entry. entry.pass) 0 c.args.board.now.history c.loop.board.history c.do_job.new.board.history invariant.3 c.do_job.ensures.adds,
       goes_further g.S.Machine.rules g.S.Speaker.speech c.args.board.now.history c.loop.board.history c.do_job.new.board.history invariant.4
           (goes_by_job g.S.Machine.rules g.S.Speaker.speech c.loop.board.opening c.in-Some-next.job c.loop.board.history c.do_job.new.board.history
-          (subst (λ p. IsUnasked p) (sym is) tt) c.in_ok-do_job.ensures.history),
+          is c.in_ok-do_job.ensures.history),
       c.in_ok-do_job.ensures.unspent,
       c.do_job.ensures.sound,
       let next = subst (λ (o : _). RisesBy c.loop.steps c.do_job.new.steps (least_of g.S.Machine.rules o c.loop.board.history) (least_of g.S.Machine.rules o c.do_job.new.board.history)) invariant.2 c.do_job.ensures.steps_least in omega (arith, next, invariant.7),

@@ -5,7 +5,7 @@ use Rattle.ug_event_loop.specs.Turns.{GoesOn}
 use Rattle.ug_event_loop.specs.Counts.{least_of, most_of, RisesBy, RisesWithin}
 use Rattle.ug_event_loop.proofs.board.prepare.Given as goal
 
--- what was done so far no line asked for
+-- what was done so far prepares
 abbrev pub invariant-loop : goal.invariant-loop
 invariant-loop g l =
     (goal.iterator-loop g).can_next l.iterator' × (goal.iterator-loop g).is_finite l.iterator'

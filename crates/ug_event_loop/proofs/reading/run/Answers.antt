@@ -3,7 +3,7 @@ use Rattle.ug_event_loop.specs.Standing.{said_by}
 use Rattle.ug_event_loop.specs.StandingLaws.{same_further}
 use Rattle.ug_event_loop.specs.Files.{lines_read}
 use Rattle.ug_event_loop.specs.Reading.{first_of}
-use Rattle.ug_event_loop.proofs.Turning.{goes_further}
+use Rattle.ug_event_loop.proofs.Turning.{winds_further}
 use Rattle.ug_event_loop.proofs.Counting.{least-further, most-further}
 use Rattle.ug_event_loop.proofs.Builders.{builder-still}
 use Rattle.ug_event_loop.proofs.Passes.{ended-closed}
@@ -22,7 +22,7 @@ returns-in-Ok-conclude-clause-ended g c = record {
             (first_of c.args.first.items) (map (said_by c.args.builder.now.grammar) (lines_read true read)) (g.K.Sink.held c.args.report.now) (g.K.Sink.held c.take_all.new.report) so.2,
         c.in-Ok-conclude.ensures.ended,
       ))
-      (c.in-Ok.ensures.taken stands);
+      (c.in-Ok.ensures.taken stands).0;
   closed = ended-closed g.S.Machine.rules g.S.Speaker.speech c.conclude.new.self.pass.spent c.conclude.new.self.pass.root c.conclude.new.self.pass.seen c.in-Ok-conclude.ensures.ended;
   unharmed = λ other. c.in-Ok.ensures.unharmed (λ is. cc);
   reads = c.take_all.ensures.faults;
@@ -38,7 +38,7 @@ pub returns-in-Err-conclude-clause-ended : goal.returns-in-Err-conclude-clause-e
 returns-in-Err-conclude-clause-ended g c =
     let mid = c.take_all.new.builder in
     let same = same_further mid c.conclude.new.self c.break_off.new.self c.conclude.ensures.same c.break_off.ensures.same in
-    let goes = goes_further g.S.Machine.rules g.S.Speaker.speech mid.pass.seen c.conclude.new.self.pass.seen c.break_off.new.self.pass.seen c.conclude.ensures.history c.break_off.ensures.history in
+    let goes = winds_further g.S.Machine.rules g.S.Speaker.speech mid.pass.seen c.conclude.new.self.pass.seen c.break_off.new.self.pass.seen c.conclude.ensures.history c.break_off.ensures.history in
     record {
       same = same_further c.args.builder.now mid c.break_off.new.self c.take_all.ensures.same same;
       ended = λ stands.
@@ -47,7 +47,7 @@ returns-in-Err-conclude-clause-ended g c =
           (record { left = g.E.Source.left c.args.source.now; reads_failed = g.E.Source.faults c.args.source.now; held = g.K.Sink.held c.args.report.now; writes_failed = g.K.Sink.faults c.args.report.now; steps = c.args.steps.now })
           (record { left = g.E.Source.left c.take_all.new.source; reads_failed = g.E.Source.faults c.take_all.new.source; held = g.K.Sink.held c.take_all.new.report; writes_failed = g.K.Sink.faults c.take_all.new.report; steps = c.break_off.new.steps })
           read same goes c.break_off.ensures.legal so.0 so.2)
-          (c.in-Ok.ensures.taken stands);
+          (c.in-Ok.ensures.taken stands).0;
       closed = c.break_off.ensures.closed;
       unharmed = λ other. c.in-Ok.ensures.unharmed (λ is. cc);
       reads = c.take_all.ensures.faults;
@@ -70,7 +70,7 @@ returns-in-Err-clause-ended g c =
           (record { left = g.E.Source.left c.args.source.now; reads_failed = g.E.Source.faults c.args.source.now; held = g.K.Sink.held c.args.report.now; writes_failed = g.K.Sink.faults c.args.report.now; steps = c.args.steps.now })
           (record { left = g.E.Source.left c.take_all.new.source; reads_failed = g.E.Source.faults c.take_all.new.source; held = g.K.Sink.held c.take_all.new.report; writes_failed = g.K.Sink.faults c.take_all.new.report; steps = c.take_all.new.steps }) c.break_off-in-Err.new.steps
           c.in-Err.end read (λ is. c.in-Err.ensures.incomplete (ap Err is)) c.break_off-in-Err.ensures.same c.break_off-in-Err.ensures.tally c.break_off-in-Err.ensures.history c.break_off-in-Err.ensures.legal so)
-          (c.in-Err.ensures.halted stands);
+          (c.in-Err.ensures.halted stands).0;
       closed = c.break_off-in-Err.ensures.closed;
       unharmed = λ other. c.in-Err.ensures.unharmed (λ is. other cc);
       reads = c.take_all.ensures.faults;

@@ -3,7 +3,7 @@ use Rattle.ug_events.specs.Events.{Says}
 use Rattle.ug_events.specs.Views.{event_of}
 use Rattle.ug_turnstile.specs.Passes.{IsSamePass}
 use Rattle.ug_event_loop.specs.Turns.{GoesOn, AnswersAt, answer_of}
-use Rattle.ug_event_loop.proofs.Builders.{builder-still, builder-admits}
+use Rattle.ug_event_loop.proofs.Builders.{builder-stays, builder-admits}
 use Rattle.ug_event_loop.proofs.builder.Builder.admit_alone.Goals as goal
 
 pub returns-in_default-clause-stopped : goal.returns-in_default-clause-stopped
@@ -11,7 +11,7 @@ returns-in_default-clause-stopped g c first held stands =
     let was : c.self.inside.pass ≡ c.args.self.now.pass = ap (λ b. b.pass) c.self.view_is in
     let same = subst (λ p. IsSamePass p c.offer_in_turn.new.pass) was c.offer_in_turn.ensures.same in
     let goes = subst (λ p. GoesOn g.S.Machine.rules g.S.Speaker.speech p.seen c.offer_in_turn.new.pass.seen) was c.in_default.ensures.stopped in
-    builder-still g.S.Machine.rules g.S.Speaker.speech c.args.self.now (record { pass = c.offer_in_turn.new.pass; names = c.self.inside.names.items; grammar = c.self.inside.grammar; coalesce = c.self.inside.coalesce; tally = c.self.inside.tally })
+    builder-stays g.S.Machine.rules g.S.Speaker.speech c.args.self.now (record { pass = c.offer_in_turn.new.pass; names = c.self.inside.names.items; grammar = c.self.inside.grammar; coalesce = c.self.inside.coalesce; tally = c.self.inside.tally })
     (record { pass = same; names = ap (λ b. b.names) c.self.view_is; grammar = ap (λ b. b.grammar) c.self.view_is; coalesce = ap (λ b. b.coalesce) c.self.view_is }) (ap (λ b. b.tally) c.self.view_is)
     goes c.offer_in_turn.ensures.legal first [] held held stands
 

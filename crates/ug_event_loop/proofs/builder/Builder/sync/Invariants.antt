@@ -5,7 +5,7 @@ use Rattle.ug_event_loop.specs.Counts.{least_at, most_at, RisesBy, RisesWithin}
 use Rattle.ug_sender.specs.Posts.{posts_of}
 use Rattle.ug_event_loop.proofs.builder.Builder.sync.Given as goal
 
--- it is the same builder, and what was done so far no line asked for
+-- it is the same builder, and what was done so far prepares
 abbrev pub invariant-loop : goal.invariant-loop
 invariant-loop g l =
     (goal.iterator-loop g).can_next l.iterator' × (goal.iterator-loop g).is_finite l.iterator'

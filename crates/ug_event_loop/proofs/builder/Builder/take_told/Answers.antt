@@ -1,11 +1,11 @@
 use Rattle.std.proofs.Common.{[], ◌∷◌, Err, refl, ap, ◌∙◌}
 use Rattle.ug_event_loop.specs.Standing.{said_by}
-use Rattle.ug_event_loop.proofs.Builders.{builder-starved, builder-uncounted, builder-takes, builder-stopped}
+use Rattle.ug_event_loop.proofs.Builders.{builder-waits, builder-uncounted, builder-takes, builder-stopped}
 use Rattle.ug_event_loop.proofs.builder.Builder.take_told.Goals as goal
 
 pub returns-in_default-clause-stopped : goal.returns-in_default-clause-stopped
 returns-in_default-clause-stopped g c first lines before stands =
-    builder-starved g.S.Machine.rules g.S.Speaker.speech c.args.self.now c.come.new.self c.come.ensures.same c.in_default.ensures.stopped c.come.ensures.legal
+    builder-waits g.S.Machine.rules g.S.Speaker.speech c.args.self.now c.come.new.self c.come.ensures.same c.in_default.ensures.stopped c.come.ensures.legal
     first lines (said_by c.args.self.now.grammar c.args.line.now ∷ []) before (g.K.Sink.held c.args.report.now) stands
 
 pub returns-in_default-with-clause-stopped : goal.returns-in_default-with-clause-stopped
