@@ -1,7 +1,9 @@
 //! The program: a run over the files of the system.
 #![tactic(auto)]
 
-ghost use Rattle.std.specs.Prelude.{◌≡◌, ◌<◌, ◌↔◌, ℕ, List, Option, drop, IfOk, IfErr, true, false, map, [], Some};
+ghost use Rattle.std.specs.Prelude.{◌≡◌, ◌<◌, ◌↔◌, ℕ, List, Option, drop, IfOk, IfErr, OnErr, Err, true, false, map, [], Some};
+ghost use Rattle.std.specs.Process.{exit_status};
+ghost use Rattle.std.specs.IoError.{error_kind};
 ghost use Rattle.std.specs.String.{string_bytes};
 ghost use Rattle.std.specs.Vec.Iter.{into_iter_items};
 ghost use Rattle.ug_types.specs.declared.key.Key as keys;
@@ -16,11 +18,11 @@ ghost use Rattle.ug_commands.specs.Checked.{IsChecked};
 ghost use Rattle.ug_commands.specs.Listed.{IsListed};
 ghost use Rattle.ug_audit.specs.Auditing.{IsAuditing};
 ghost use Rattle.ug_audit.specs.Right.{AreRight};
-ghost use Rattle.ug_run.specs.Commands.{is_fed, IsOne, IsRunOf};
+ghost use Rattle.ug_run.specs.Commands.{has_sessions, is_fed, IsOne, IsRunOf};
 ghost use Rattle.ug_run.specs.Drawn.{drawn_world, IsSelfRun};
 ghost use Rattle.ug_group_rules.specs.Rules.{group_rules, group_speech};
 ghost use Rattle.ug_main.specs.Counting.{CountsEvents, CountsRun};
-ghost use Rattle.ug_main.specs.Ran.{Ran};
+ghost use Rattle.ug_main.specs.Ran.{Ran, IsOneRun, HasDrawn};
 
 use std::alloc::Global;
 use std::io::{self, ErrorKind, Write};
@@ -37,29 +39,24 @@ use ug_report::Status;
 use ug_run::{Done, answer_alone, serve};
 use ug_types::Steps;
 
-/// Runs the command that the arguments are, over the files of the system, and ends with the number of its status. Lanes
-/// are there only for a command with sessions.
+/// Runs the command that the arguments are, over the files of the system, and ends with the number of its status.
 fn main(rt: HostRuntime) -> ExitCode {
     let Ok(_held) = hold_standard_streams(&rt) else {
-        return ExitCode::from(refuse(&rt, Status::ReadFault).number());
+        return code_of(&refuse(&rt, Status::ReadFault));
     };
-    let words = match words(&rt) {
+    let words = match words_of(rt.alloc(), env::args(&rt)) {
         Ok(words) => words,
-        Err(status) => return ExitCode::from(refuse(&rt, status).number()),
+        Err(status) => return code_of(&refuse(&rt, status)),
     };
     let mut site = HostSite::new(rt, rt.alloc());
     let mut report = StdoutSink::new(rt);
-    if let Some(status) = answer_alone(rt.alloc(), words.as_slice(), &mut site, &mut report) {
-        return ExitCode::from(status.number());
-    }
-    let status = begin::<Brand, _, _, _>(
-        &rt,
-        rt.alloc(),
-        words.as_slice(),
-        &mut site,
-        &mut report,
-        Blank::new(1),
-    );
+    code_of(&answer(&rt, rt.alloc(), words.as_slice(), &mut site, &mut report))
+}
+
+/// What a process ends with whose run came to this status.
+fn code_of(status: &Status) -> ExitCode
+    ensures { exit_status result ≡ (row_of status.now).number }
+{
     ExitCode::from(status.number())
 }
 
@@ -82,27 +79,27 @@ fn hold_standard_streams<R: Files>(rt: &R) -> io::Result<Held<R::File>> {
     })
 }
 
-/// The arguments after the program's own name. Ones that are no text are no command.
-fn words(rt: &HostRuntime) -> Result<Vec<String>, Status>
-    ensures { IfErr result (λ status. is_fixed status ≡ true) }
+/// The arguments after the program's own name, as the system gave them. Ones that are no text are no command.
+fn words_of(alloc: Global, args: io::Result<env::Args>) -> Result<Vec<String>, Status>
+    ensures words { IfOk args (λ args. IfOk result (λ words. words.items ≡ drop 1 (into_iter_items args))) }
+    ensures unkept { IfOk args (λ args. OnErr result (result ≡ Err Status.NoMemory)) }
+    ensures starved { IfErr args (λ e. error_kind e ≡ ErrorKind.OutOfMemory → result ≡ Err Status.NoMemory) }
+    ensures no_text { IfErr args (λ e. (error_kind e ≡ ErrorKind.OutOfMemory → ⊥) → result ≡ Err Status.Usage) }
+    ensures fixed { IfErr result (λ status. is_fixed status ≡ true) }
 {
-    let args = match env::args(rt) {
-        Ok(args) => args,
-        Err(e) => {
-            return Err(if e.kind() == ErrorKind::OutOfMemory {
-                Status::NoMemory
-            } else {
-                Status::Usage
-            });
-        }
-    };
-    all_but_first(rt.alloc(), args)
+    match args {
+        Ok(args) => all_but_first(alloc, args),
+        Err(e) => match e.kind() {
+            ErrorKind::OutOfMemory => Err(Status::NoMemory),
+            _ => Err(Status::Usage),
+        },
+    }
 }
 
 /// All arguments but the first, which is the program's own name.
 fn all_but_first(alloc: Global, args: env::Args) -> Result<Vec<String>, Status>
     ensures words { IfOk result (λ words. words.items ≡ drop 1 (into_iter_items args)) }
-    ensures fixed { IfErr result (λ status. is_fixed status ≡ true) }
+    ensures starved { OnErr result (result ≡ Err Status.NoMemory) }
 {
     let mut args = args;
     let _name = args.next();
@@ -114,6 +111,66 @@ fn all_but_first(alloc: Global, args: env::Args) -> Result<Vec<String>, Status>
         }
     }
     Ok(words)
+}
+
+/// Runs the command that the words are, once, and answers its status. A command without sessions is answered alone: no lane is
+/// there, and nobody is waited for.
+fn answer<R: Threads + Wait + Sync, E: Site, K: Sink>(
+    rt: &R,
+    alloc: Global,
+    words: &[String],
+    site: &mut E,
+    report: &mut K,
+) -> Status
+    ensures one { (command : OneCommand) → command_of (map string_bytes words.now) ≡ Some (One command) →
+        Ran (record { files = E.files site.old; picks = E.picks site.old; made = E.made site.old; held = K.held report.old; faults = K.faults report.old })
+        (record { picks = E.picks site.new; left = E.left site.new; made = E.made site.new; held = K.held report.new; faults = K.faults report.new }) result (IsOneRun command) }
+    ensures run { (command : RunCommand) → command_of (map string_bytes words.now) ≡ Some (Run command) →
+        Ran (record { files = E.files site.old; picks = E.picks site.old; made = E.made site.old; held = K.held report.old; faults = K.faults report.old })
+        (record { picks = E.picks site.new; left = E.left site.new; made = E.made site.new; held = K.held report.new; faults = K.faults report.new }) result (IsRunOf group_rules group_speech command) }
+    ensures drawn { (command : SelfRunCommand) → command_of (map string_bytes words.now) ≡ Some (SelfRun command) →
+        HasDrawn command.number result (K.held report.old) (K.held report.new) (Rose (K.faults report.old) (K.faults report.new)) }
+    ensures checked { (command : CheckCommand) → command_of (map string_bytes words.now) ≡ Some (Check command) →
+        IsChecked command (file_told (E.files site.old) command.stream) (E.picks site.new).is_open (E.left site.new) result (K.held report.old) (K.held report.new) (Rose (K.faults report.old) (K.faults report.new)) }
+    ensures listed { (command : GroupsCommand) → command_of (map string_bytes words.now) ≡ Some (Groups command) →
+        IsListed (file_told (E.files site.old) command.config) result (K.held report.old) (K.held report.new) (Rose (K.faults report.old) (K.faults report.new)) }
+    ensures audited { (command : AuditCommand) → command_of (map string_bytes words.now) ≡ Some (Audit command) →
+        IsAuditing command (file_told (E.files site.old)) (AppendsAll (E.picks site.old).names (E.picks site.new).names) result (K.held report.old) (K.held report.new) (Rose (K.faults report.old) (K.faults report.new)) }
+    // Where an audit says that all is right, the files that the site tells are, and where it refutes a session they aren't.
+    ensures audit_right { (command : AuditCommand) → command_of (map string_bytes words.now) ≡ Some (Audit command) → (told : List FileText) → E.files site.old ≡ Some told →
+        result ≡ Status.Ok → AreRight command told }
+    ensures audit_refuted { (command : AuditCommand) → command_of (map string_bytes words.now) ≡ Some (Audit command) → (told : List FileText) → E.files site.old ≡ Some told →
+        (peer : ℕ) (session : ℕ) (kind : ℕ) (message : ℕ) (key : Option keys.Key) → result ≡ Status.Refuted peer session kind message key → AreRight command told → ⊥ }
+    // A command without sessions picks its one file once, and where that is missing the status says so.
+    ensures check_picked { (command : CheckCommand) → command_of (map string_bytes words.now) ≡ Some (Check command) →
+        PicksJust (E.picks site.old).names (E.picks site.new).names command.stream result }
+    ensures groups_picked { (command : GroupsCommand) → command_of (map string_bytes words.now) ≡ Some (Groups command) →
+        PicksJust (E.picks site.old).names (E.picks site.new).names command.config result }
+    ensures check_missing { (command : CheckCommand) → command_of (map string_bytes words.now) ≡ Some (Check command) →
+        file_told (E.files site.old) command.stream ≡ Missing → (row_of result).may_be_unread ≡ true }
+    ensures groups_missing { (command : GroupsCommand) → command_of (map string_bytes words.now) ≡ Some (Groups command) →
+        file_told (E.files site.old) command.config ≡ Missing → (row_of result).may_be_unread ≡ true }
+    ensures audit_missing { (command : AuditCommand) → command_of (map string_bytes words.now) ≡ Some (Audit command) →
+        file_told (E.files site.old) command.config ≡ Missing → (row_of result).may_be_unread ≡ true }
+    // `selfrun` and words that are no command leave the site alone, and no command but `one` and `run` makes a wire.
+    ensures drawn_alone { (command : SelfRunCommand) → command_of (map string_bytes words.now) ≡ Some (SelfRun command) → site.new ≡ site.old }
+    ensures usage { (result ≡ Status.Usage) ↔ (is_command (map string_bytes words.now) ≡ false) }
+    ensures untouched { is_command (map string_bytes words.now) ≡ false → site.new ≡ site.old }
+    ensures no_command { is_command (map string_bytes words.now) ≡ false →
+        AppendsThenStatus (K.held report.old) (K.held report.new) (Rose (K.faults report.old) (K.faults report.new)) [] (status_text Status.Usage) }
+    ensures unmade { has_sessions (command_of (map string_bytes words.now)) ≡ false → E.made site.new ≡ E.made site.old }
+    // What a status says of the outside.
+    ensures read { result ≡ Status.ReadFault → Rose (E.faults site.old) (E.faults site.new) }
+    ensures unharmed { (result ≡ Status.ReadFault → ⊥) → E.faults site.new ≡ E.faults site.old }
+    ensures report { result ≡ Status.ReportFault → Rose (K.faults report.old) (K.faults report.new) }
+    ensures site { result ≡ Status.SiteFault → Rose (E.wire_faults site.old) (E.wire_faults site.new) }
+    ensures all_wired { (result ≡ Status.SiteFault → ⊥) → E.wire_faults site.new ≡ E.wire_faults site.old }
+    ensures ended { is_fed (command_of (map string_bytes words.now)) ≡ true → (row_of result).completed ≡ true → IsEnded (E.left site.new) }
+{
+    if let Some(status) = answer_alone(alloc, words, site, report) {
+        return status;
+    }
+    begin::<Brand, R, E, K>(rt, alloc, words, site, report, Blank::new(1))
 }
 
 /// Runs a command with sessions, with a counter of its own, and answers its status. What `run` says of a status is said of this one.
@@ -130,10 +187,13 @@ fn begin<L: Ledger, R: Threads + Wait + Sync, E: Site, K: Sink>(
     requires some { 0 < blank.parts }
     ensures one { (command : OneCommand) → command_of (map string_bytes words.now) ≡ Some (One command) →
         Ran (record { files = E.files site.old; picks = E.picks site.old; made = E.made site.old; held = K.held report.old; faults = K.faults report.old })
-        (record { picks = E.picks site.new; left = E.left site.new; made = E.made site.new; held = K.held report.new; faults = K.faults report.new }) result (IsOne group_rules group_speech command.events) }
+        (record { picks = E.picks site.new; left = E.left site.new; made = E.made site.new; held = K.held report.new; faults = K.faults report.new }) result (IsOneRun command) }
     ensures run { (command : RunCommand) → command_of (map string_bytes words.now) ≡ Some (Run command) →
         Ran (record { files = E.files site.old; picks = E.picks site.old; made = E.made site.old; held = K.held report.old; faults = K.faults report.old })
         (record { picks = E.picks site.new; left = E.left site.new; made = E.made site.new; held = K.held report.new; faults = K.faults report.new }) result (IsRunOf group_rules group_speech command) }
+    ensures drawn { (command : SelfRunCommand) → command_of (map string_bytes words.now) ≡ Some (SelfRun command) →
+        HasDrawn command.number result (K.held report.old) (K.held report.new) (Rose (K.faults report.old) (K.faults report.new)) }
+    ensures drawn_alone { (command : SelfRunCommand) → command_of (map string_bytes words.now) ≡ Some (SelfRun command) → site.new ≡ site.old }
     ensures usage { (result ≡ Status.Usage) ↔ (is_command (map string_bytes words.now) ≡ false) }
     ensures read { result ≡ Status.ReadFault → Rose (E.faults site.old) (E.faults site.new) }
     ensures unharmed { (result ≡ Status.ReadFault → ⊥) → E.faults site.new ≡ E.faults site.old }

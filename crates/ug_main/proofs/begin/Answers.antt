@@ -15,7 +15,7 @@ returns-clause-one g c command is = (
   refl,
   refl,
   refl,
-  c.run.ensures.one command is,
+  (c.run.ensures.one command is, c.run.ensures.one_made command is),
 )
 
 pub returns-clause-run : goal.returns-clause-run
@@ -34,3 +34,6 @@ returns-clause-run g c command is = (
   refl,
   c.run.ensures.run command is,
 )
+
+pub returns-clause-drawn : goal.returns-clause-drawn
+returns-clause-drawn g c command is = (c.run.result.history.items, c.run.result.spent, c.run.ensures.drawn command is)
