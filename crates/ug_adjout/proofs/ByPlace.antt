@@ -17,9 +17,9 @@ use Rattle.ug_adjout_rules.proofs.SameTables.{same_some, found_behind, found_fir
 use Rattle.ug_adjout_rules.specs.TableLaws.{none_above, value_at-here, value_at-other, with_value-sorted}
 use Rattle.ug_adjout.specs.declared.slot.Slot.{Slot}
 use Rattle.ug_adjout.specs.declared.waiting.Waiting.{Waiting}
-use Rattle.ug_adjout.specs.Places.{slot_cmp, key_for, by_place, IsIndexed}
+use Rattle.ug_adjout.specs.Places.{slot_cmp, slot_total, key_for, by_place, IsIndexed}
 use Rattle.ug_adjout.proofs.Steps.{at_number}
-use Rattle.ug_adjout.proofs.Slots.{slot, slot_total, slot_exact, itself, same_value, at_other}
+use Rattle.ug_adjout.proofs.Slots.{slot, slot_exact, itself, same_value, at_other}
 
 module _ {K : Type 0} where
   abbrev waiting_of : Slot × K → Waiting K

@@ -1,6 +1,6 @@
 -- What waits first from a place on: a withdrawal or an announcement.
 use Rattle.std.proofs.Common.{◌≡◌, ℕ, ◌<◌, ◌≤◌, Bool, true, false, List, [], ◌∷◌, slice_get, Option, Some, None, refl, sym, ap, subst, ◌∙◌, arith}
-use Rattle.std.specs.Prelude.{is_some, IsSome, nat_le}
+use Rattle.std.specs.Prelude.{◌^◌, is_some, IsSome, IfSome, IfNone, nat_le}
 use Rattle.std.specs.List.{AllByRecursion}
 use Rattle.std.specs.Option.{option_cmp}
 use Rattle.std.specs.Ordering.{nat_cmp, is_gt, ordering_then}
@@ -18,7 +18,7 @@ use Rattle.ug_adjout.specs.declared.slot.Slot.{Slot}
 use Rattle.ug_adjout.specs.declared.waiting.Waiting.{Waiting}
 use Rattle.ug_adjout.specs.Waits.{from_place}
 use Rattle.ug_adjout.specs.Stored.{of_row}
-use Rattle.ug_adjout.specs.Places.{slot_cmp, value_of, key_for, by_place, withdraws, announces, IsIndexed, IsLine, IsFirstFrom}
+use Rattle.ug_adjout.specs.Places.{slot_cmp, value_of, key_for, by_place, withdraws, announces, IsIndexed, IsLine, IsFirstFrom, IsNoneBetween, AreNumbered}
 use Rattle.ug_adjout.proofs.Lists.{first_lookup, tail_lookup, value_at-projected}
 use Rattle.ug_adjout.proofs.Steps.{at_number}
 use Rattle.ug_adjout.proofs.Slots.{slot, itself}
@@ -94,11 +94,23 @@ module _ {K : Type 0} where
     no_withdrawal None h g = λ p w at le. either w.value (h p w at le) (g p w at le)
     no_withdrawal (Some e) h g = (g.0, g.1, λ p w at le. kind w.value _ (λ t. absurd (let z = sym t ∙ h p w at le in cc)) (λ t. g.2 p w at le t))
 
-    pub no_announcement : (e : ℕ × Waiting K) → IsFirstFrom withdraws place waiting (Some e) → IsFirstFrom announces place waiting None → IsFirst place waiting (Some e)
-    no_announcement e h g = (h.0, h.1, λ p w at le. kind w.value _ (λ t. h.2 p w at le t) (λ t. absurd (let z = sym t ∙ g p w at le in cc)))
+    -- announcements up to the first withdrawal are none
+    pub withdrawal_first : (e : ℕ × Waiting K) → IsFirstFrom withdraws place waiting (Some e) → IsNoneBetween announces place e.0 waiting → IsFirst place waiting (Some e)
+    withdrawal_first e h none = (h.0, h.1, λ p w at from. kind w.value _ (λ t. h.2 p w at from t) (λ t. by p w at from t (nat_le e.0 p) refl))
+      where
+        by : (p : ℕ) (w : Waiting K) → value_at nat_cmp waiting p ≡ Some w → place ≤ p → announces w.value ≡ true → (b : Bool) → nat_le e.0 p ≡ b → e.0 ≤ p
+        by p w at from t true le = from_yes e.0 p le
+        by p w at from t false lt = absurd (let z = sym t ∙ none p w at from (from_no e.0 p lt) in cc)
 
-    pub withdrawal_first : (e f : ℕ × Waiting K) → IsFirstFrom withdraws place waiting (Some e) → IsFirstFrom announces place waiting (Some f) → e.0 ≤ f.0 → IsFirst place waiting (Some e)
-    withdrawal_first e f h g le = (h.0, h.1, λ p w at from. kind w.value _ (λ t. h.2 p w at from t) (λ t. let m = g.2 p w at from t in omega (arith, m, le)))
+    -- announcements up to the end of all numbers are all
+    pub first_of_all : (o : Option (ℕ × Waiting K)) → IfSome o (λ e. IsFirstFrom announces place waiting (Some e)) → IfNone o (IsNoneBetween announces place (2 ^ 32) waiting) → AreNumbered announces waiting
+        → IsFirstFrom announces place waiting o
+    first_of_all (Some e) some none small = some
+    first_of_all None some none small = λ p w at from. by p w at from (announces w.value) refl
+      where
+        by : (p : ℕ) (w : Waiting K) → value_at nat_cmp waiting p ≡ Some w → place ≤ p → (b : Bool) → announces w.value ≡ b → announces w.value ≡ false
+        by p w at from true t = none p w at from (small p w at t)
+        by p w at from false t = t
 
     pub announcement_first : (e f : ℕ × Waiting K) → IsFirstFrom withdraws place waiting (Some e) → IsFirstFrom announces place waiting (Some f) → f.0 ≤ e.0 → IsFirst place waiting (Some f)
     announcement_first e f h g le = (g.0, g.1, λ p w at from. kind w.value _ (λ t. let m = h.2 p w at from t in omega (arith, m, le)) (λ t. g.2 p w at from t))
@@ -154,8 +166,11 @@ module _ {K : Type 0} where
     value_is : (p : ℕ) (w : Waiting K) → value_at nat_cmp (by_place keys) p ≡ Some w → value_at nat_cmp announced p ≡ w.value
     value_is p w at = value_there p ∙ ap (of_row value_of) at
 
-    pub none_announced : ((q : ℕ) → IsLeBy nat_cmp place q → value_at nat_cmp announced q ≡ None) → IsFirstFrom announces place (by_place keys) None
-    none_announced none = λ p w at le. ap is_some (sym (value_is p w at) ∙ none p (le_by place p le))
+    pub none_announced : (end : ℕ) → ((q : ℕ) → place ≤ q → q < end → value_at nat_cmp announced q ≡ None) → IsNoneBetween announces place end (by_place keys)
+    none_announced end none = λ p w at le lt. ap is_some (sym (value_is p w at) ∙ none p le lt)
+
+    pub announced_numbered : ((q : ℕ) → IsSome (value_at nat_cmp announced q) → q < 2 ^ 32) → AreNumbered announces (by_place keys)
+    announced_numbered small = λ p w at t. small p (ap is_some (value_is p w at) ∙ t)
 
     pub announced_slot : (p v : ℕ) → value_at nat_cmp announced p ≡ Some v → value_at slot_cmp keys (slot (Some v) p) ≡ None → ⊥
     announced_slot p v at none = by (value_at nat_cmp (by_place keys) p) refl
@@ -166,10 +181,10 @@ module _ {K : Type 0} where
             let is : w.value ≡ Some v = sym (value_is p w e) ∙ at in
             let z = sym (its_slot keys (by_place keys) s.indexed place p w e) ∙ ap (λ u. value_at slot_cmp keys (slot u p)) is ∙ none in cc
 
-    pub first_announcement_is : (p v : ℕ) (key : K) → IsLeBy nat_cmp place p → ((q : ℕ) → IsLeBy nat_cmp place q → IsSome (value_at nat_cmp announced q) → IsLeBy nat_cmp p q)
+    pub first_announcement_is : (p v : ℕ) (key : K) → place ≤ p → ((q : ℕ) → place ≤ q → IsSome (value_at nat_cmp announced q) → p ≤ q)
         → value_at slot_cmp keys (slot (Some v) p) ≡ Some key → IsFirstFrom announces place (by_place keys) (Some (p, record { key = key; value = Some v }))
     first_announcement_is p v key above least is = (
-      from_le_by place p above,
+      above,
       told keys (by_place keys) s.indexed (Some v) p key is,
-      λ q w at le t. from_le_by p q (least q (le_by place q le) (ap is_some (value_is q w at) ∙ t)),
+      λ q w at le t. least q le (ap is_some (value_is q w at) ∙ t),
     )

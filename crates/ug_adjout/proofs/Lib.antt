@@ -5,6 +5,7 @@ pub mod Known
 pub mod Runs
 pub mod Rest
 pub mod Forced
+pub mod Placed
 pub mod Slots
 pub mod ByPlace
 pub mod ByValue

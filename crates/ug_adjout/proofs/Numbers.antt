@@ -79,6 +79,11 @@ module _ {K : Type 0} where
   first_later : (n : ℕ) (x e : ℕ × Waiting K) (es : List (ℕ × Waiting K)) → nat_le n x.0 ≡ false → slice_get (from_place n (x ∷ es)) 0 ≡ Some e → slice_get (from_place n es) 0 ≡ Some e
   first_later n x e es at h = sym (ap (λ l. slice_get l 0) (cond-false (nat_le n x.0) (x ∷ from_place n es) (from_place n es) at)) ∙ h
 
+  -- the first from a place on, where it is looked for from another place on behind which the same stand
+  pub first_known : (m n : ℕ) (es : List (ℕ × Waiting K)) → from_place m es ≡ from_place n es → {o : Option (ℕ × Waiting K)} {e : ℕ × Waiting K} → o ≡ slice_get (from_place m es) 0 → o ≡ Some e
+      → slice_get (from_place n es) 0 ≡ Some e
+  first_known m n es same told is = ap (λ l. slice_get l 0) (sym same) ∙ sym told ∙ is
+
   pub first_is_from : (n : ℕ) (es : List (ℕ × Waiting K)) (e : ℕ × Waiting K) → slice_get (from_place n es) 0 ≡ Some e → n ≤ e.0
   first_is_from n [] e h = absurd cc
   first_is_from n (x ∷ es) e h = by (nat_le n x.0) refl (first_is_from n es e)
@@ -164,6 +169,30 @@ module _ {K : Type 0} where
           ap (λ l. length (from_place (n + 1) l) + 1) (cond-false (nat_le n x.0) ((n, x.1) ∷ es) (x ∷ brought n es) at)
           ∙ ap (λ l. length l + 1) (cond-false (nat_le (n + 1) x.0) (x ∷ from_place (n + 1) (brought n es)) (from_place (n + 1) (brought n es)) (le_no (n + 1) x.0 (omega (arith, under))))
           ∙ more (subst (λ l. 0 < length l) here some) ∙ sym (ap length here)
+
+  -- where the first came from, those behind it begin
+  pub brought_behind : (n : ℕ) (es : List (ℕ × Waiting K)) (e : ℕ × Waiting K) → IsTable nat_cmp es → slice_get (from_place n es) 0 ≡ Some e → from_place (e.0 + 1) (brought n es) ≡ from_place (n + 1) (brought n es)
+  brought_behind n [] e s h = absurd cc
+  brought_behind n (x ∷ es) e s h = by (nat_le n x.0) refl (brought_behind n es e (sorted_tail nat_cmp x.0 (keys_of es) s))
+    where
+      rest : (k : ℕ) → n < k → k ≤ suc x.0 → nat_le n x.0 ≡ true → from_place k (brought n (x ∷ es)) ≡ es
+      rest k lt le at =
+          ap (from_place k) (cond-true (nat_le n x.0) ((n, x.1) ∷ es) (x ∷ brought n es) at)
+          ∙ cond-false (nat_le k n) ((n, x.1) ∷ from_place k es) (from_place k es) (le_no k n lt) ∙ all_from k x.0 es le (sorted_head nat_cmp x.0 (keys_of es) s)
+
+      past : (k : ℕ) → x.0 < k → nat_le n x.0 ≡ false → from_place k (brought n (x ∷ es)) ≡ from_place k (brought n es)
+      past k lt at =
+          ap (from_place k) (cond-false (nat_le n x.0) ((n, x.1) ∷ es) (x ∷ brought n es) at)
+          ∙ cond-false (nat_le k x.0) (x ∷ from_place k (brought n es)) (from_place k (brought n es)) (le_no k x.0 lt)
+
+      by : (b : Bool) → nat_le n x.0 ≡ b → (slice_get (from_place n es) 0 ≡ Some e → from_place (e.0 + 1) (brought n es) ≡ from_place (n + 1) (brought n es))
+          → from_place (e.0 + 1) (brought n (x ∷ es)) ≡ from_place (n + 1) (brought n (x ∷ es))
+      by true at more =
+          let le = from_yes n x.0 at in let same = ap (λ (y : ℕ × Waiting K). y.0) (first_here n x e es at h) in
+          rest (e.0 + 1) (omega (arith, le, same)) (omega (arith, same)) at ∙ sym (rest (n + 1) (omega arith) (omega (arith, le)) at)
+      by false at more =
+          let under = from_no n x.0 at in let later = first_later n x e es at h in let le = first_is_from n es e later in
+          past (e.0 + 1) (omega (arith, under, le)) at ∙ more later ∙ sym (past (n + 1) (omega (arith, under)) at)
 
   -- where none is left behind the place, all stand before it
   pub all_before : (n : ℕ) (es : List (ℕ × Waiting K)) → length (from_place n es) ≡ 0 → (p : ℕ) (w : Waiting K) → value_at nat_cmp es p ≡ Some w → p < n
@@ -298,6 +327,11 @@ module _ {K : Type 0} {cmp : K → K → Ordering} (total : IsTotalOrder cmp) (e
       pub passed_moved : 0 < length (from_place n waiting)
           → length (from_place (n + 1) (remove_entry (is_at (nat_cmp e.0)) (insert_entry nat_cmp waiting n e.1))) + 1 ≡ length (from_place n waiting)
       passed_moved some = ap (λ l. length (from_place (n + 1) l) + 1) (put_first n waiting e s.in_line first lt) ∙ brought_passed n waiting s.in_line some
+
+      pub behind_moved : from_place (e.0 + 1) (remove_entry (is_at (nat_cmp e.0)) (insert_entry nat_cmp waiting n e.1)) ≡ from_place (n + 1) (remove_entry (is_at (nat_cmp e.0)) (insert_entry nat_cmp waiting n e.1))
+      behind_moved =
+          let put = put_first n waiting e s.in_line first lt in
+          ap (from_place (e.0 + 1)) put ∙ brought_behind n waiting e s.in_line first ∙ sym (ap (from_place (n + 1)) put)
 
   pub passed_same : e.0 ≡ n → 0 < length (from_place n waiting) → length (from_place (n + 1) waiting) + 1 ≡ length (from_place n waiting)
   passed_same same some = sym (ap (λ l. length (from_place (n + 1) l) + 1) (brought_same n waiting e first same)) ∙ brought_passed n waiting s.in_line some

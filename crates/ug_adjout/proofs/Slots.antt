@@ -4,7 +4,7 @@ use Rattle.std.specs.Prelude.{nat_eq}
 use Rattle.std.specs.Option.{option_eq, option_cmp}
 use Rattle.std.specs.Ordering.{nat_cmp, is_eq}
 use Rattle.std.specs.BTreeMap.{is_at}
-use Rattle.std.specs.Cmp.{IsTotalOrder, nat_cmp_total, on_total, then_total, tied_then, unsigned_tied}
+use Rattle.std.specs.Cmp.{nat_cmp_total, tied_then, unsigned_tied}
 use Rattle.std.specs.Cmp.Lexicographic.{options_total}
 use Rattle.std.specs.FinMap.{IsAntisymmetric, nat_cmp-IsAntisymmetric}
 use Rattle.std.specs.declared.cmp.Ordering.TheVariants.{Equal}
@@ -14,7 +14,7 @@ use Rattle.ug_adjout_rules.specs.Tables.{value_at, with_value, IsTable}
 use Rattle.ug_adjout_rules.specs.TableLaws.{equal_is, at_itself, value_at-here, value_at-other, with_value-sorted}
 use Rattle.ug_adjout.specs.declared.slot.Slot.{Slot}
 use Rattle.ug_adjout.specs.declared.waiting.Waiting.{Waiting}
-use Rattle.ug_adjout.specs.Places.{slot_cmp, key_for, IsIndexed}
+use Rattle.ug_adjout.specs.Places.{slot_cmp, slot_total, key_for, IsIndexed}
 use Rattle.ug_adjout.proofs.Steps.{at_number}
 
 abbrev pub slot : Option ℕ → ℕ → Slot
@@ -27,9 +27,6 @@ option_exact None None e = refl
 option_exact None (Some y) e = absurd cc
 option_exact (Some x) None e = absurd cc
 option_exact (Some x) (Some y) e = ap Some (nat_cmp-IsAntisymmetric x y e)
-
-pub slot_total : IsTotalOrder slot_cmp
-slot_total = then_total (on_total (λ (s : Slot). s.value) (options_total nat_cmp_total)) (on_total (λ (s : Slot). s.place) nat_cmp_total)
 
 pub slot_exact : IsAntisymmetric slot_cmp
 slot_exact a b e =

@@ -1,9 +1,10 @@
 -- The values of the announcements, by their places.
-use Rattle.std.proofs.Common.{◌≡◌, ℕ, ◌<◌, List, [], ◌∷◌, length, slice_get, Option, Some, None, refl, sym, ap, ◌∙◌, arith}
+use Rattle.std.proofs.Common.{◌≡◌, ℕ, List, [], ◌∷◌, slice_get, Option, Some, None, refl, sym, ap, subst, ◌∙◌}
 use Rattle.std.specs.Option.{option_map}
 use Rattle.std.specs.Ordering.{nat_cmp}
 use Rattle.std.specs.BTreeMap.{is_at}
 use Rattle.std.specs.Cmp.{nat_cmp_total}
+use Rattle.std.specs.List.Sorted.{IsStrictlySortedBy}
 use Rattle.std.specs.FinMap.{nat_cmp-IsAntisymmetric}
 use Rattle.ug_adjout_rules.specs.Tables.{value_at, with_value}
 use Rattle.ug_adjout_rules.specs.TableLaws.{removed_nothing}
@@ -25,19 +26,17 @@ module _ {K : Type 0} where
   first_is [] = refl
   first_is (e ∷ es) = first_step (value_of {K = K}) e.0 e.1.value (projected (value_of {K = K}) es) (first_announced es) (first_is es)
 
+  nothing_indexed : IsIndexed {K = K} [] []
+  unfolding IsStrictlySortedBy
+  nothing_indexed = record { in_line = tt; in_order = tt; listed = λ value place. refl }
+
+  -- a list in which nothing waits
+  pub nothing_waits : (keys : List (Slot × K)) (announced : List (ℕ × ℕ)) → keys ≡ [] → announced ≡ [] → IsLine keys announced
+  nothing_waits keys announced k a = subst (λ ks. IsLine ks announced) (sym k) (subst (IsLine []) (sym a) (record { indexed = nothing_indexed; values = refl }))
+
   module _ (keys : List (Slot × K)) (announced : List (ℕ × ℕ)) (s : IsLine keys announced) where
-    first_by : (o : Option (ℕ × ℕ)) → slice_get announced 0 ≡ o → option_map (λ (e : ℕ × ℕ). e.1) o ≡ first_announced (by_place keys)
-    first_by o e = ap (λ z. option_map (λ (x : ℕ × ℕ). x.1) z) (sym e) ∙ ap (λ l. option_map (λ (x : ℕ × ℕ). x.1) (slice_get l 0)) s.values ∙ first_is (by_place keys)
-
-    pub first_some : (p v : ℕ) → slice_get announced 0 ≡ Some (p, v) → Some v ≡ first_announced (by_place keys)
-    first_some p v e = first_by (Some (p, v)) e
-
-    pub first_none : (0 < length announced → ⊥) → None ≡ first_announced (by_place keys)
-    first_none none = first_by None (by announced none)
-      where
-        by : (es : List (ℕ × ℕ)) → (0 < length es → ⊥) → slice_get es 0 ≡ None
-        by [] h = refl
-        by (e ∷ es) h = absurd (h (omega arith))
+    pub first_told : option_map (λ (e : ℕ × ℕ). e.1) (slice_get announced 0) ≡ first_announced (by_place keys)
+    first_told = ap (λ l. option_map (λ (x : ℕ × ℕ). x.1) (slice_get l 0)) s.values ∙ first_is (by_place keys)
 
     -- keys and announcements that change at one place
     pub line : (place : ℕ) (w : Option (Waiting K)) (later : List (Slot × K)) (now : List (ℕ × ℕ)) → IsIndexed later (with_value nat_cmp (by_place keys) place w) → now ≡ with_value nat_cmp announced place (of_row value_of w) → IsLine later now

@@ -1,8 +1,10 @@
 -- How the list of waiting keys is stored: the keys by what they wait for and then by place, and the announcements by place.
-use Rattle.std.specs.Prelude.{◌≡◌, ℕ, ◌≤◌, nat_eq, Bool, true, false, not, is_some, cond, List, [], ◌∷◌, Option, Some, None}
+use Rattle.std.specs.Prelude.{◌≡◌, ℕ, ◌<◌, ◌≤◌, ◌^◌, nat_eq, Bool, true, false, not, is_some, cond, List, [], ◌∷◌, Option, Some, None}
 use Rattle.std.specs.Option.{option_eq}
 use Rattle.std.specs.Ordering.{nat_cmp}
 use Rattle.std.specs.BTreeMap.{insert_entry}
+use Rattle.std.specs.Cmp.{IsTotalOrder, nat_cmp_total, on_total, then_total}
+use Rattle.std.specs.Cmp.Lexicographic.{options_total}
 use Rattle.std.specs.declared.cmp.Ordering.{Ordering}
 use Rattle.ug_adjout_rules.specs.Tables.{value_at, IsTable}
 use Rattle.ug_adjout.specs.declared.slot.Slot.{Slot}
@@ -13,6 +15,9 @@ use Rattle.ug_adjout.specs.Stored.{projected}
 -- slots stand by value, those without one first, and then by place
 abbrev pub slot_cmp : Slot → Slot → Ordering
 slot_cmp = slot_ord.ghosts.cmp
+
+pub slot_total : IsTotalOrder slot_cmp
+slot_total = then_total (on_total (λ (s : Slot). s.value) (options_total nat_cmp_total)) (on_total (λ (s : Slot). s.place) nat_cmp_total)
 
 module _ {K : Type 0} where
   abbrev pub value_of : Waiting K → Option ℕ
@@ -48,6 +53,14 @@ module _ {K : Type 0} where
   IsFirstFrom test place waiting None = (p : ℕ) (w : Waiting K) → value_at nat_cmp waiting p ≡ Some w → place ≤ p → test w.value ≡ false
   IsFirstFrom test place waiting (Some e) =
       (place ≤ e.0) × (value_at nat_cmp waiting e.0 ≡ Some e.1) × ((p : ℕ) (w : Waiting K) → value_at nat_cmp waiting p ≡ Some w → place ≤ p → test w.value ≡ true → e.0 ≤ p)
+
+  -- none of those that wait for such a value stands from the place on and before the end
+  abbrev pub IsNoneBetween : (Option ℕ → Bool) → ℕ → ℕ → List (ℕ × Waiting K) → Type 0
+  IsNoneBetween test place end waiting = (p : ℕ) (w : Waiting K) → value_at nat_cmp waiting p ≡ Some w → place ≤ p → p < end → test w.value ≡ false
+
+  -- their places are numbers of 32 bits
+  abbrev pub AreNumbered : (Option ℕ → Bool) → List (ℕ × Waiting K) → Type 0
+  AreNumbered test waiting = (p : ℕ) (w : Waiting K) → value_at nat_cmp waiting p ≡ Some w → test w.value ≡ true → p < 2 ^ 32
 
 abbrev pub withdraws : Option ℕ → Bool
 withdraws value = not (is_some value)

@@ -3,10 +3,12 @@
 
 mod adj_out;
 mod after;
+mod by_place;
 mod copied;
 mod desired;
 mod first;
 mod kept;
+mod kept_slot;
 mod line;
 mod marked;
 mod out_key;

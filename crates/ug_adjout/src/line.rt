@@ -1,17 +1,19 @@
 //! The list of waiting keys.
-ghost use Rattle.std.specs.Prelude.{◌≡◌, ◌<◌, ◌^◌, [], length, OnOk, OnErr, IsOk, IfOk, Some, None, slice_get};
+ghost use Rattle.std.specs.Prelude.{◌≡◌, ◌<◌, ◌^◌, [], length, OnOk, OnErr, IsOk, IfOk, IfSome, IfNone, Some, None, slice_get};
 ghost use Rattle.std.specs.Map.{remove_entry};
 ghost use Rattle.std.specs.Ordering.{nat_cmp};
 ghost use Rattle.std.specs.BTreeMap.{insert_entry, is_at};
 ghost use Rattle.ug_adjout_rules.specs.Tables.{value_at, with_value};
 ghost use Rattle.ug_adjout_rules.specs.Formatting.{fitting};
 ghost use Rattle.ug_adjout.specs.Waits.{keys_for, first_announced, from_place};
-ghost use Rattle.ug_adjout.specs.Places.{IsFirstFrom, withdraws, announces};
+ghost use Rattle.ug_adjout.specs.Places.{IsFirstFrom, IsNoneBetween, AreNumbered, withdraws, announces};
 ghost use Rattle.ug_adjout.specs.Stepped.{wanted_in, lined, IsReady, IsReadyBy};
 ghost use Rattle.ug_adjout.specs.declared.step.Step.TheVariants.{Want, Format};
 
+use crate::by_place::ByPlace;
 use crate::copied::copied;
 use crate::first::first_from;
+use crate::kept_slot::KeptSlot;
 use crate::out_key::OutKey;
 use crate::row::{Change, Row};
 use crate::slot::Slot;
@@ -24,12 +26,15 @@ use std::ops::Bound;
 use ug_intern::AttrId;
 use ug_types::{KeyList, NoMemory, Sequence};
 
-/// The waiting keys by what they wait for and then by their places, and beside them the values of those that wait for an
-/// announcement, by place, so that the first of these is found at once. Contracts see what waits, by place.
+/// A number behind all places.
+const PAST_ALL: u64 = 4_294_967_296;
+
+/// The waiting keys by what they wait for and then by their places, and beside them a row of the values of those that wait
+/// for an announcement, by place, so that the first of these is found at once. Contracts see what waits, by place.
 #[derive(Drop)]
 pub struct Line<K> {
-    keys: BTreeMap<Slot, K>,
-    announced: BTreeMap<u32, AttrId>,
+    keys: BTreeMap<KeptSlot, K>,
+    announced: ByPlace,
 }
 
 impl<K> Model for Line<K> {
@@ -41,16 +46,17 @@ impl<K> Model for Line<K> {
 
     ghost view = { λ l. by_place l.keys.entries };
 
-    ghost invariant = { λ l. IsLine l.keys.entries l.announced.entries };
+    ghost invariant = { λ l. IsLine l.keys.entries l.announced };
 }
 
 impl<K: OutKey> Line<K> {
+    #[tactic(auto, using(crate::proofs::Values::nothing_waits))]
     pub fn new(alloc: Global) -> Line<K>
         ensures { result ≡ [] }
     {
         Line {
             keys: BTreeMap::new(alloc),
-            announced: BTreeMap::new(alloc),
+            announced: ByPlace::new(alloc),
         }
     }
 
@@ -60,7 +66,7 @@ impl<K: OutKey> Line<K> {
     {
         Ok(Line {
             keys: copied(alloc, &self.keys)?,
-            announced: copied(alloc, &self.announced)?,
+            announced: self.announced.copy(alloc)?,
         })
     }
 
@@ -78,10 +84,10 @@ impl<K: OutKey> Line<K> {
         ensures ok { OnOk result (self.new ≡ insert_entry nat_cmp self.old place waiting) }
         ensures err { OnErr result (self.new ≡ self.old) }
     {
-        let slot = Slot {
+        let slot = KeptSlot::of(Slot {
             value: waiting.value,
             place,
-        };
+        });
         self.keys.insert(slot, waiting.key)?;
         let Some(id) = waiting.value else {
             return Ok(());
@@ -108,16 +114,17 @@ impl<K: OutKey> Line<K> {
         if was.value == value {
             return Ok(());
         }
-        let slot = Slot { value, place };
+        let slot = KeptSlot::of(Slot { value, place });
         self.keys.insert(slot, was.key)?;
         let Ok(()) = announce(&mut self.announced, place, value) else {
             self.keys.remove(&slot);
             return Err(NoMemory);
         };
-        self.keys.remove(&Slot {
+        let left = KeptSlot::of(Slot {
             value: was.value,
             place,
         });
+        self.keys.remove(&left);
         Ok(())
     }
 
@@ -126,12 +133,13 @@ impl<K: OutKey> Line<K> {
         requires { value_at nat_cmp self.old place ≡ Some was }
         ensures { self.new ≡ remove_entry (is_at (nat_cmp place)) self.old }
     {
-        self.keys.remove(&Slot {
+        let slot = KeptSlot::of(Slot {
             value: was.value,
             place,
         });
+        self.keys.remove(&slot);
         if was.value.is_some() {
-            self.announced.remove(&place);
+            self.announced.remove(place);
         }
     }
 
@@ -208,9 +216,9 @@ impl<K: OutKey> Line<K> {
     {
         let mut keys = Sequence::new(alloc);
         let mut left = room;
-        let start = Slot { value, place: 0 };
+        let start = KeptSlot::of(Slot { value, place: 0 });
         for (slot, key) in self.keys.range((Bound::Included(start), Bound::Unbounded)) {
-            if slot.value != value {
+            if slot.value() != value {
                 break;
             }
             let weight = key.weight();
@@ -229,12 +237,12 @@ impl<K: OutKey> Line<K> {
     pub fn first_of(&self, value: Option<AttrId>) -> Option<K>
         ensures { result ≡ slice_get (keys_for value self.now) 0 }
     {
-        let start = Slot { value, place: 0 };
+        let start = KeptSlot::of(Slot { value, place: 0 });
         let bounds = (Bound::Included(start), Bound::Unbounded);
         let Some((slot, key)) = self.keys.range(bounds).next() else {
             return None;
         };
-        if slot.value != value {
+        if slot.value() != value {
             return None;
         }
         Some(*key)
@@ -244,49 +252,49 @@ impl<K: OutKey> Line<K> {
     pub fn first_value(&self) -> Option<AttrId>
         ensures { result ≡ first_announced self.now }
     {
-        match self.announced.first_key_value() {
-            Some((_, id)) => Some(*id),
-            None => None,
-        }
+        self.announced.first()
     }
 
     /// The first withdrawal that waits from this place on.
     fn withdrawal_from(&self, place: u32) -> Option<(u32, Waiting<K>)>
         ensures { IsFirstFrom withdraws place self.now result }
     {
-        let start = Slot { value: None, place };
+        let start = KeptSlot::of(Slot { value: None, place });
         let Some((slot, key)) = first_from(&self.keys, start) else {
             return None;
         };
-        if slot.value.is_some() {
+        if slot.value().is_some() {
             return None;
         }
         let waiting = Waiting {
             key: *key,
             value: None,
         };
-        Some((slot.place, waiting))
+        Some((slot.place(), waiting))
     }
 
-    /// The first announcement that waits from this place on.
-    fn announcement_from(&self, place: u32) -> Option<(u32, Waiting<K>)>
-        ensures { IsFirstFrom announces place self.now result }
+    /// The first announcement that waits from this place on and before the end.
+    fn announcement_between(&self, place: u32, end: u64) -> Option<(u32, Waiting<K>)>
+        ensures first { IfSome result (λ e. IsFirstFrom announces place self.now (Some e)) }
+        ensures before { IfSome result (λ e. e.0 < end) }
+        ensures none { IfNone result (IsNoneBetween announces place end self.now) }
+        ensures numbered { AreNumbered announces self.now }
     {
-        let Some((at, id)) = first_from(&self.announced, place) else {
+        let Some((at, id)) = self.announced.first_between(place, end) else {
             return None;
         };
-        let slot = Slot {
-            value: Some(*id),
-            place: *at,
-        };
+        let slot = KeptSlot::of(Slot {
+            value: Some(id),
+            place: at,
+        });
         let Some(key) = self.keys.get(&slot) else {
             unreachable!()
         };
         let waiting = Waiting {
             key: *key,
-            value: Some(*id),
+            value: Some(id),
         };
-        Some((*at, waiting))
+        Some((at, waiting))
     }
 
     /// The first place from this one on at which something waits, and what waits there.
@@ -295,33 +303,27 @@ impl<K: OutKey> Line<K> {
     {
         let _len = self.keys.len();
         let Some(withdrawal) = self.withdrawal_from(place) else {
-            return self.announcement_from(place);
+            return self.announcement_between(place, PAST_ALL);
         };
-        let Some(announcement) = self.announcement_from(place) else {
+        let end = u64::from(withdrawal.0);
+        let Some(announcement) = self.announcement_between(place, end) else {
             return Some(withdrawal);
         };
-        if withdrawal.0 < announcement.0 {
-            return Some(withdrawal);
-        }
         Some(announcement)
     }
 }
 
 /// This value, or none, stands at the place now. Running out of memory changes nothing.
-fn announce(
-    values: &mut BTreeMap<u32, AttrId>,
-    place: u32,
-    value: Option<AttrId>,
-) -> Result<(), NoMemory>
-    ensures ok { OnOk result (values.new.entries ≡ with_value nat_cmp values.old.entries place value) }
-    ensures err { OnErr result (values.new.entries ≡ values.old.entries) }
+fn announce(values: &mut ByPlace, place: u32, value: Option<AttrId>) -> Result<(), NoMemory>
+    ensures ok { OnOk result (values.new ≡ with_value nat_cmp values.old place value) }
+    ensures err { OnErr result (values.new ≡ values.old) }
 {
     match value {
         Some(id) => {
             values.insert(place, id)?;
         }
         None => {
-            values.remove(&place);
+            values.remove(place);
         }
     }
     Ok(())

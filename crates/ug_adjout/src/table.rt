@@ -25,6 +25,9 @@ use std::marker::Model;
 use ug_intern::AttrId;
 use ug_types::{KeyList, NoMemory, Sequence};
 
+/// A quarter of the places that may be empty beside those of four times as many keys as wait.
+const SPARE_PLACES: usize = 256;
+
 /// The rows by key, the waiting keys by their places, and the place that the next one gets. A row waits exactly where
 /// its key has a place in the list.
 #[derive(Drop)]
@@ -126,19 +129,21 @@ impl<K: OutKey> Table<K> {
         Ok(())
     }
 
-    /// The first of those that wait from this place on waits at the place now. Its key and its order stay. Running out
-    /// of memory changes nothing.
-    fn bring(&mut self, place: u32) -> Result<(), NoMemory>
-        requires { 0 < length (from_place place self.old.waiting) }
+    /// The first of those that wait from this place on, where none waits before `from`, waits at the place now. Its key
+    /// and its order stay. Where those behind it begin. Running out of memory changes nothing.
+    fn bring(&mut self, place: u32, from: u32) -> Result<u32, NoMemory>
+        requires some { 0 < length (from_place place self.old.waiting) }
+        requires from { from_place from self.old.waiting ≡ from_place place self.old.waiting }
         ensures same { adj_of self.new.rows self.new.waiting ≡ adj_of self.old.rows self.old.waiting }
         ensures passed { OnOk result (length (from_place (place + 1) self.new.waiting) + 1 ≡ length (from_place place self.old.waiting)) }
+        ensures from { IfOk result (λ behind. from_place behind self.new.waiting ≡ from_place (place + 1) self.new.waiting) }
     {
         let _next = self.next;
-        let Some((was, waiting)) = self.line.first_from(place) else {
+        let Some((was, waiting)) = self.line.first_from(from) else {
             unreachable!()
         };
         if was == place {
-            return Ok(());
+            return Ok(place + 1);
         }
         let Some(row) = self.rows.row(&waiting.key) else {
             unreachable!()
@@ -156,7 +161,7 @@ impl<K: OutKey> Table<K> {
             unreachable!()
         };
         self.line.remove(was, waiting);
-        Ok(())
+        Ok(was + 1)
     }
 
     /// All that wait are numbered anew from 0, in their order. After running out of memory some are.
@@ -170,20 +175,24 @@ impl<K: OutKey> Table<K> {
             return Err(NoMemory);
         }
         let waiting = waiting as u32;
+        let mut from = 0;
         for place in 0..waiting {
-            self.bring(place)?;
+            from = self.bring(place, from)?;
         }
         self.next = waiting;
         Ok(())
     }
 
-    /// There is a place behind all others now: where their numbers have come to the end, they are numbered anew.
+    /// There is a place behind all others now, and few places are empty: all that wait are numbered anew where their
+    /// numbers have come to the end, or more than four times as many were given as keys wait. Each that waits is searched
+    /// for a few times then, and three times as many places at least were given for it and are free again.
     fn make_room(&mut self) -> Result<(), NoMemory>
         ensures same { adj_of self.new.rows self.new.waiting ≡ adj_of self.old.rows self.old.waiting }
         ensures room { OnOk result (self.new.next + 1 < 2 ^ 32) }
     {
         let next = self.next;
-        if next == u32::MAX {
+        let waiting = self.line.len();
+        if next == u32::MAX || (next / 4) as usize > waiting + SPARE_PLACES {
             self.renumber()?;
         }
         Ok(())

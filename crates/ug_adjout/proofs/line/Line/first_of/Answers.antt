@@ -13,17 +13,22 @@ is_other false e = refl
 
 pub returns-in_default : goal.returns-in_default
 returns-in_default g c =
+    let between = rw c.of-start.ensures at (c.range.ensures.between tt) in
     rw (← c.self.view_is)
-    (sym (ap (λ l. slice_get (map (λ x. x.1) (of_value c.args.value l)) 0) c.in_default.ensures.steps.0) ∙ ap (λ l. slice_get l 0) (keys_by_value c.args.value _ _ c.self.invariant.indexed _ (c.range.ensures.between tt)))
+    (sym (ap (λ l. slice_get (map (λ x. x.1) (of_value c.args.value l)) 0) c.in_default.ensures.steps.0) ∙ ap (λ l. slice_get l 0) (keys_by_value c.args.value _ _ c.self.invariant.indexed _ between))
 
 pub returns-then-ne : goal.returns-then-ne
 returns-then-ne g c =
+    let between = rw c.of-start.ensures at (c.range.ensures.between tt) in
+    let other = rw c.value.ensures at (sym c.ne.ensures ∙ c.if-ne.true) in
     rw (← c.self.view_is)
-    (other_first c.args.value (c.in-Some.slot.now, c.in-Some.key.now) _ _ c.in-Some.ensures.steps (is_other _ (sym c.ne.ensures ∙ c.if-ne.true))
-    ∙ ap (λ l. slice_get l 0) (keys_by_value c.args.value _ _ c.self.invariant.indexed _ (c.range.ensures.between tt)))
+    (other_first c.args.value (c.in-Some.slot.now, c.in-Some.key.now) _ _ c.in-Some.ensures.steps (is_other _ other)
+    ∙ ap (λ l. slice_get l 0) (keys_by_value c.args.value _ _ c.self.invariant.indexed _ between))
 
 pub returns : goal.returns
 returns g c =
+    let between = rw c.of-start.ensures at (c.range.ensures.between tt) in
+    let own = rw c.value.ensures at (sym c.ne.ensures ∙ c.if-ne.false) in
     rw (← c.self.view_is)
-    (own_first c.args.value (c.in-Some.slot.now, c.in-Some.key.now) _ _ c.in-Some.ensures.steps (is_same _ (sym c.ne.ensures ∙ c.if-ne.false))
-    ∙ ap (λ l. slice_get l 0) (keys_by_value c.args.value _ _ c.self.invariant.indexed _ (c.range.ensures.between tt)))
+    (own_first c.args.value (c.in-Some.slot.now, c.in-Some.key.now) _ _ c.in-Some.ensures.steps (is_same _ own)
+    ∙ ap (λ l. slice_get l 0) (keys_by_value c.args.value _ _ c.self.invariant.indexed _ between))

@@ -7,7 +7,7 @@ pub loop-place-init : goal.loop-place-init
 loop-place-init g c =
     let all : length (from_place 0 c.args.self.now.waiting) ≡ c.len-waiting.result =
     ap length (from_first c.args.self.now.waiting) ∙ ap (λ v. length v.waiting) (sym c.self.view_is) ∙ sym c.len-waiting.ensures.len in
-    record { same = refl; left = omega (arith, all) }
+    record { same = refl; left = omega (arith, all); from = refl }
 
 pub invariant_of-self : goal.invariant_of-self
 invariant_of-self g c =
