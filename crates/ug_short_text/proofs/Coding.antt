@@ -26,10 +26,6 @@ codes_within text rest at code size le is h long =
     let b = ap length is ∙ length-drop at text in
     omega (arith, a, b, le, long)
 
--- what was begun becomes a part, and one more is added behind it
-pub parts_more : (parts begun closed front all old text : List ℕ) → parts ++ begun ≡ old → closed ≡ begun → front ≡ parts ++ closed → all ≡ front ++ text → all ++ [] ≡ old ++ text
-parts_more parts begun closed front all old text opened same one two = append-nil all ∙ (two ∙ ap (λ (xs : List ℕ). xs ++ text) (one ∙ (ap (λ (xs : List ℕ). parts ++ xs) same ∙ opened)))
-
 -- ---- what was written
 
 module _ {X : Type 0} (f : X → List ℕ) where

@@ -1,6 +1,7 @@
 -- What stands for a text that is kept in few bytes.
 use Rattle.std.specs.Prelude.{◌≡◌, ◌++◌, ℕ, ◌+◌, ◌-◌, ◌/◌, ◌%◌, ◌==◌, nat_lt, Bool, List, [], ◌∷◌, if◌then◌else◌, codes}
 use Rattle.std.specs.List.{flat_map}
+use Rattle.ug_short_text.specs.declared.piece.Piece.{Piece}
 use Rattle.ug_short_text.specs.declared.short.Part.{Part}
 
 -- the words that a code of its own stands for
@@ -11,6 +12,8 @@ word_text c =
     else if c == 250 then codes " id=0 "
     else if c == 251 then codes " id="
     else if c == 252 then codes ".0/"
+    else if c == 253 then codes "0/24 id=0 "
+    else if c == 254 then codes ".0/24 id=0 "
     else c ∷ []
 
 -- What a byte stands for: one of ASCII for itself, the next hundred for two digits, ten for a digit and a dot, ten for a digit
@@ -31,8 +34,14 @@ codes_text cs = flat_map code_text cs
 abbrev pub bytes_text : Bool → List ℕ → List ℕ
 bytes_text is_short bytes = if is_short then codes_text bytes else bytes
 
+abbrev pub piece_text : Piece → List ℕ
+piece_text p = bytes_text p.is_short p.bytes.items
+
+abbrev pub pieces_text : List Piece → List ℕ
+pieces_text ps = flat_map piece_text ps
+
 abbrev pub part_text : Part → List ℕ
-part_text p = bytes_text p.is_short p.bytes.items
+part_text p = pieces_text p.pieces.items
 
 -- The text begins with what the byte stands for.
 pub record IsFirst (c : ℕ) (text : List ℕ) : Type 0 where

@@ -23,3 +23,9 @@ pub const ID: u8 = 251;
 
 /// `.0/`
 pub const LAST_ZERO: u8 = 252;
+
+/// `0/24 id=0 `
+pub const ZERO_24: u8 = 253;
+
+/// `.0/24 id=0 `
+pub const LAST_ZERO_24: u8 = 254;

@@ -4,7 +4,8 @@ ghost use Rattle.std.specs.Prelude.{◌≡◌, ◌++◌, ◌∷◌, [], ℕ, Lis
 ghost use Rattle.ug_short_text.specs.Codes.{code_text, codes_text, IsFirst};
 
 use crate::code::{
-    CLIMB, DIGIT_AND_AT, DIGIT_AND_DOT, ID, ID_ZERO, LAST_ZERO, NEXT_CLIMB, TWO_DIGITS,
+    CLIMB, DIGIT_AND_AT, DIGIT_AND_DOT, ID, ID_ZERO, LAST_ZERO, LAST_ZERO_24, NEXT_CLIMB,
+    TWO_DIGITS, ZERO_24,
 };
 use crate::spelling::size_of;
 use ug_types::NoMemory;
@@ -14,6 +15,7 @@ pub fn add_codes(codes: &mut Vec<u8>, text: &[u8]) -> Result<bool, NoMemory>
     ensures added { IfOk result (λ whole. IsTrue whole → codes_text codes.new.items ≡ codes_text codes.old.items ++ text.now) }
     ensures none { IfOk result (λ whole. IsFalse whole → codes.new.items ≡ codes.old.items) }
 {
+    codes.reserve(text.len())?;
     let before = codes.len();
     let mut at = 0;
     while at < text.len() {
@@ -25,7 +27,7 @@ pub fn add_codes(codes: &mut Vec<u8>, text: &[u8]) -> Result<bool, NoMemory>
                 return Ok(false);
             }
         };
-        codes.push(code)?;
+        codes.push_reserved(code);
         at += size_of(code);
     }
     Ok(true)
@@ -89,11 +91,27 @@ fn code_of_word(first: u8, text: &[u8]) -> Option<u8>
     if first == b'\n' && begins_with(text, b"\nclimb ") {
         return Some(NEXT_CLIMB);
     }
-    if first == b'.' && begins_with(text, b".0/") {
-        return Some(LAST_ZERO);
-    }
     if first == b'c' && begins_with(text, b"climb ") {
         return Some(CLIMB);
+    }
+    code_of_zero(first, text)
+}
+
+/// The byte that stands for the end of a prefix with which a text begins, where there is one.
+#[tactic(auto, unfolding(crate::specs::Codes::code_text))]
+fn code_of_zero(first: u8, text: &[u8]) -> Option<u8>
+    ensures { IfSome result (λ code. IsFirst code text.now) }
+{
+    if first == b'0' && begins_with(text, b"0/24 id=0 ") {
+        return Some(ZERO_24);
+    }
+    if first == b'.' {
+        if begins_with(text, b".0/24 id=0 ") {
+            return Some(LAST_ZERO_24);
+        }
+        if begins_with(text, b".0/") {
+            return Some(LAST_ZERO);
+        }
     }
     None
 }
@@ -102,5 +120,13 @@ fn code_of_word(first: u8, text: &[u8]) -> Option<u8>
 fn begins_with(text: &[u8], word: &[u8]) -> bool
     ensures { IsTrue result → (rest : List ℕ) × (text.now ≡ word.now ++ rest) }
 {
-    text.starts_with(word)
+    if text.len() < word.len() {
+        return false;
+    }
+    for at in 0..word.len() {
+        if text[at] != word[at] {
+            return false;
+        }
+    }
+    true
 }

@@ -3,6 +3,7 @@
 
 mod code;
 mod codes;
+mod piece;
 mod short;
 mod spelling;
 

@@ -1,45 +1,48 @@
 //! The text, part by part.
 
-ghost use Rattle.std.specs.Prelude.{◌≡◌, ◌++◌, [], OnOk, OnErr, IfOk};
+ghost use Rattle.std.specs.Prelude.{◌≡◌, ◌++◌, [], OnOk, OnErr, IfOk, IfSome};
 ghost use Rattle.std.specs.List.{flat_map};
 ghost use Rattle.ug_edge.specs.Told.{Rose, AppendsPiece};
 ghost use Rattle.ug_pieces.specs.Reporting.{AppendsFront};
-ghost use Rattle.ug_short_text.specs.Codes.{part_text, bytes_text};
+ghost use Rattle.ug_short_text.specs.Codes.{part_text, pieces_text, codes_text};
 
 use crate::codes::add_codes;
+use crate::piece::{Piece, add_piece, are_same, write_pieces};
 use crate::spelling::write_spelled;
 use std::alloc::Global;
 use std::marker::Model;
 use ug_edge::{Failed, Sink};
-use ug_pieces::write_all;
 use ug_types::{NoMemory, Shared};
 
 /// The parts that are looked at for one that is equal to a new one.
 const NEAR: usize = 64;
 
-/// A part of a text: its bytes, or those that stand for them. Equal ones near each other stand in memory once.
+/// From how many bytes on what was added becomes a piece. Short ones find room between what is in use; one long list does not.
+const PIECE: usize = 512;
+
+/// A part of a text. Equal ones near each other stand in memory once.
 #[derive(Drop)]
 pub struct Part {
-    pub is_short: bool,
-    pub bytes: Shared<Vec<u8>>,
+    pub pieces: Shared<Vec<Piece>>,
 }
 
-/// A text that is kept in few bytes: its parts, and behind them the bytes that stand for what was added since. Contracts see
-/// the text.
+/// A text that is kept in few bytes: its parts, behind them the pieces that are no part yet, and last the bytes that stand for
+/// what was added since. Contracts see the text.
 #[derive(Drop)]
 pub struct ShortText {
     parts: Vec<Part>,
+    pieces: Vec<Piece>,
     begun: Vec<u8>,
 }
 
 impl Model for ShortText {
     ghost use Rattle.std.specs.Prelude.{ℕ, List, ◌++◌};
     ghost use Rattle.std.specs.List.{flat_map};
-    ghost use Rattle.ug_short_text.specs.Codes.{part_text, codes_text};
+    ghost use Rattle.ug_short_text.specs.Codes.{part_text, pieces_text, codes_text};
 
     ghost Value = { List ℕ };
 
-    ghost view = { λ t. flat_map part_text t.parts.items ++ codes_text t.begun.items };
+    ghost view = { λ t. flat_map part_text t.parts.items ++ (pieces_text t.pieces.items ++ codes_text t.begun.items) };
 }
 
 impl ShortText {
@@ -49,21 +52,21 @@ impl ShortText {
     {
         ShortText {
             parts: Vec::new(alloc),
+            pieces: Vec::new(alloc),
             begun: Vec::new(alloc),
         }
     }
 
-    /// Adds to the text. What isn't all of ASCII is a part of its own.
+    /// Adds to the text. What isn't all of ASCII is a piece of its own.
     pub fn add(&mut self, alloc: Global, text: &[u8]) -> Result<(), NoMemory>
         ensures { OnOk result (self.new ≡ self.old ++ text.now) }
     {
         let whole = add_codes(&mut self.begun, text)?;
         if whole {
-            return Ok(());
+            return self.shorten(alloc);
         }
-        add_part(alloc, &mut self.parts, true, &self.begun)?;
-        self.begun.clear();
-        add_part(alloc, &mut self.parts, false, text)?;
+        end_piece(alloc, &mut self.pieces, &mut self.begun)?;
+        add_piece(alloc, &mut self.pieces, false, text)?;
         Ok(())
     }
 
@@ -72,8 +75,19 @@ impl ShortText {
     pub fn close(&mut self, alloc: Global) -> Result<(), NoMemory>
         ensures { OnOk result (self.new ≡ self.old) }
     {
-        add_part(alloc, &mut self.parts, true, &self.begun)?;
-        self.begun.clear();
+        end_piece(alloc, &mut self.pieces, &mut self.begun)?;
+        add_part(alloc, &mut self.parts, &mut self.pieces)?;
+        Ok(())
+    }
+
+    /// What was begun becomes a piece where it is long. The text stays as it is.
+    fn shorten(&mut self, alloc: Global) -> Result<(), NoMemory>
+        ensures { OnOk result (self.new ≡ self.old) }
+    {
+        if self.begun.len() < PIECE {
+            return Ok(());
+        }
+        end_piece(alloc, &mut self.pieces, &mut self.begun)?;
         Ok(())
     }
 
@@ -88,39 +102,60 @@ impl ShortText {
             Ok(()) => {}
             Err(Failed) => return Err(Failed),
         }
-        match write_spelled(report, &self.begun) {
+        match write_begun(report, &self.pieces, &self.begun) {
             Ok(()) => Ok(()),
             Err(Failed) => Err(Failed),
         }
     }
 }
 
-/// Adds a part: the bytes of a text, or those that stand for it.
-fn add_part(
-    alloc: Global,
-    parts: &mut Vec<Part>,
-    is_short: bool,
-    bytes: &[u8],
-) -> Result<(), NoMemory>
-    ensures { OnOk result (flat_map part_text parts.new.items ≡ flat_map part_text parts.old.items ++ bytes_text is_short bytes.now) }
+/// What was begun becomes a piece.
+fn end_piece(alloc: Global, pieces: &mut Vec<Piece>, begun: &mut Vec<u8>) -> Result<(), NoMemory>
+    ensures pieces { OnOk result (pieces_text pieces.new.items ≡ pieces_text pieces.old.items ++ codes_text begun.old.items) }
+    ensures begun { OnOk result (begun.new.items ≡ []) }
 {
-    let bytes = shared(alloc, parts, bytes)?;
-    parts.push(Part { is_short, bytes })?;
+    add_piece(alloc, pieces, true, begun)?;
+    begun.clear();
     Ok(())
 }
 
-/// These bytes, shared with the part near the end that has equal ones.
-fn shared(alloc: Global, parts: &[Part], bytes: &[u8]) -> Result<Shared<Vec<u8>>, NoMemory>
-    ensures { IfOk result (λ shared. shared.items ≡ bytes.now) }
+/// Adds a part of these pieces, of which none are left.
+fn add_part(alloc: Global, parts: &mut Vec<Part>, pieces: &mut Vec<Piece>) -> Result<(), NoMemory>
+    ensures parts { OnOk result (flat_map part_text parts.new.items ≡ flat_map part_text parts.old.items ++ pieces_text pieces.old.items) }
+    ensures pieces { OnOk result (pieces.new.items ≡ []) }
+{
+    let part = match equal_part(parts, pieces)? {
+        Some(part) => part,
+        None => part_of(alloc, pieces)?,
+    };
+    pieces.clear();
+    parts.push(part)?;
+    Ok(())
+}
+
+/// A part near the end that says the same as these pieces, for one owner more.
+fn equal_part(parts: &[Part], pieces: &[Piece]) -> Result<Option<Part>, NoMemory>
+    ensures { IfOk result (λ found. IfSome found (λ part. part_text part ≡ pieces_text pieces.now)) }
 {
     let count = parts.len();
     for place in count.saturating_sub(NEAR)..count {
         let part = &parts[place];
-        if part.bytes.get().as_slice() == bytes {
-            return part.bytes.share();
+        if are_same(part.pieces.get(), pieces) {
+            let pieces = part.pieces.share()?;
+            return Ok(Some(Part { pieces }));
         }
     }
-    Shared::new(alloc, Vec::from_slice(alloc, bytes)?)
+    Ok(None)
+}
+
+/// A part of these pieces, which are moved there.
+fn part_of(alloc: Global, pieces: &mut Vec<Piece>) -> Result<Part, NoMemory>
+    ensures { IfOk result (λ part. part_text part ≡ pieces_text pieces.old.items) }
+{
+    let mut all = Vec::with_capacity(alloc, pieces.len())?;
+    all.append(pieces)?;
+    let pieces = Shared::new(alloc, all)?;
+    Ok(Part { pieces })
 }
 
 /// Writes parts, one behind the other.
@@ -146,8 +181,22 @@ fn write_part<K: Sink>(report: &mut K, part: &Part) -> Result<(), Failed>
     ensures failed { OnErr result (Rose (K.faults report.old) (K.faults report.new)) }
     ensures unharmed { OnOk result (K.faults report.new ≡ K.faults report.old) }
 {
-    if part.is_short {
-        return write_spelled(report, part.bytes.get().as_slice());
+    write_pieces(report, part.pieces.get().as_slice())
+}
+
+/// Writes what is no part yet: pieces, and the bytes that stand for what was begun behind them.
+fn write_begun<K: Sink>(report: &mut K, pieces: &[Piece], begun: &[u8]) -> Result<(), Failed>
+    ensures ok { OnOk result (AppendsPiece (K.held report.old) (K.held report.new) (pieces_text pieces.now ++ codes_text begun.now)) }
+    ensures err { OnErr result (AppendsFront (K.held report.old) (K.held report.new) (pieces_text pieces.now ++ codes_text begun.now)) }
+    ensures failed { OnErr result (Rose (K.faults report.old) (K.faults report.new)) }
+    ensures unharmed { OnOk result (K.faults report.new ≡ K.faults report.old) }
+{
+    match write_pieces(report, pieces) {
+        Ok(()) => {}
+        Err(Failed) => return Err(Failed),
     }
-    write_all(report, part.bytes.get().as_slice())
+    match write_spelled(report, begun) {
+        Ok(()) => Ok(()),
+        Err(Failed) => Err(Failed),
+    }
 }

@@ -7,7 +7,8 @@ ghost use Rattle.ug_pieces.specs.Reporting.{AppendsFront};
 ghost use Rattle.ug_short_text.specs.Codes.{code_text, codes_text, word_text};
 
 use crate::code::{
-    CLIMB, DIGIT_AND_AT, DIGIT_AND_DOT, ID, ID_ZERO, LAST_ZERO, NEXT_CLIMB, TWO_DIGITS,
+    CLIMB, DIGIT_AND_AT, DIGIT_AND_DOT, ID, ID_ZERO, LAST_ZERO, LAST_ZERO_24, NEXT_CLIMB,
+    TWO_DIGITS, ZERO_24,
 };
 use arrayvec::ArrayVec;
 use ug_edge::{Failed, Sink};
@@ -45,7 +46,7 @@ fn write_piece<K: Sink>(report: &mut K, codes: &[u8]) -> Result<(), Failed>
     ensures failed { OnErr result (Rose (K.faults report.old) (K.faults report.new)) }
     ensures unharmed { OnOk result (K.faults report.new ≡ K.faults report.old) }
 {
-    let mut room: ArrayVec<u8, 4096> = ArrayVec::new();
+    let mut room: ArrayVec<u8, 6144> = ArrayVec::new();
     for code in codes {
         spell(&mut room, *code);
     }
@@ -54,10 +55,10 @@ fn write_piece<K: Sink>(report: &mut K, codes: &[u8]) -> Result<(), Failed>
 
 /// Adds what a byte stands for.
 #[tactic(auto, unfolding(crate::specs::Codes::code_text))]
-fn spell(room: &mut ArrayVec<u8, 4096>, code: u8)
-    requires { array_vec_len room.old + 8 ≤ 4096 }
+fn spell(room: &mut ArrayVec<u8, 6144>, code: u8)
+    requires { array_vec_len room.old + 12 ≤ 6144 }
     ensures items { room.new.items ≡ room.old.items ++ code_text code }
-    ensures len { array_vec_len room.new ≤ array_vec_len room.old + 8 }
+    ensures len { array_vec_len room.new ≤ array_vec_len room.old + 12 }
 {
     if code < TWO_DIGITS {
         room.push(code);
@@ -76,10 +77,10 @@ fn spell(room: &mut ArrayVec<u8, 4096>, code: u8)
 }
 
 /// Adds the word that a byte stands for.
-fn spell_word(room: &mut ArrayVec<u8, 4096>, code: u8)
-    requires { array_vec_len room.old + 8 ≤ 4096 }
+fn spell_word(room: &mut ArrayVec<u8, 6144>, code: u8)
+    requires { array_vec_len room.old + 12 ≤ 6144 }
     ensures items { room.new.items ≡ room.old.items ++ word_text code }
-    ensures len { array_vec_len room.new ≤ array_vec_len room.old + 8 }
+    ensures len { array_vec_len room.new ≤ array_vec_len room.old + 12 }
 {
     match code {
         CLIMB => add(room, b"climb "),
@@ -87,13 +88,15 @@ fn spell_word(room: &mut ArrayVec<u8, 4096>, code: u8)
         ID_ZERO => add(room, b" id=0 "),
         ID => add(room, b" id="),
         LAST_ZERO => add(room, b".0/"),
+        ZERO_24 => add(room, b"0/24 id=0 "),
+        LAST_ZERO_24 => add(room, b".0/24 id=0 "),
         _ => room.push(code),
     }
 }
 
 /// Adds bytes.
-fn add(room: &mut ArrayVec<u8, 4096>, bytes: &[u8])
-    requires { array_vec_len room.old + length bytes.now ≤ 4096 }
+fn add(room: &mut ArrayVec<u8, 6144>, bytes: &[u8])
+    requires { array_vec_len room.old + length bytes.now ≤ 6144 }
     ensures { room.new.items ≡ room.old.items ++ bytes.now }
 {
     match room.try_extend_from_slice(bytes) {
@@ -119,6 +122,8 @@ pub fn size_of(code: u8) -> usize
         NEXT_CLIMB => 7,
         ID => 4,
         LAST_ZERO => 3,
+        ZERO_24 => 10,
+        LAST_ZERO_24 => 11,
         _ => 1,
     }
 }

@@ -1,7 +1,10 @@
-use Rattle.std.proofs.Common.{drop, length}
-use Rattle.std.proofs.lemmas.Bool.Decides.{Decides-eqb}
-use Rattle.std.proofs.lemmas.Slice.Eq.{starts_is}
+use Rattle.std.proofs.Common.{arith, ◌++◌, List, ℕ, drop, ap, sym, ◌∙◌}
+use Rattle.std.proofs.lemmas.List.{take-append-drop, take_all}
 use Rattle.ug_short_text.proofs.codes.begins_with.Goals as goal
 
 pub returns : goal.returns
-returns c = λ is. (drop (length c.args.word.now) c.args.text.now, (starts_is Decides-eqb c.args.text.now c.args.word.now c.starts_with.result c.starts_with.ensures.value).0 is)
+returns c = λ is. (
+  drop c.loop-at.at c.args.text.now,
+  sym (take-append-drop c.loop-at.at c.args.text.now)
+      ∙ ap (λ (xs : List ℕ). xs ++ drop c.loop-at.at c.args.text.now) (c.loop-at.invariant ∙ take_all c.loop-at.at c.args.word.now (omega arith)),
+)

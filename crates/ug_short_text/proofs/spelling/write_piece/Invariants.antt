@@ -6,5 +6,5 @@ use Rattle.ug_short_text.proofs.spelling.write_piece.Given as goal
 abbrev pub invariant-loop-code : goal.invariant-loop-code
 invariant-loop-code g l = record {
   spelled : l.room.items ++ codes_text (drop l.code-index l.codes) ≡ codes_text l.codes;
-  len : array_vec_len l.room ≤ 8 * l.code-index;
+  len : array_vec_len l.room ≤ 12 * l.code-index;
 }
