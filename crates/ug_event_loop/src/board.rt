@@ -157,6 +157,7 @@ pub(crate) fn settle<S: Speaker, R: Wait, L: Ledger>(
     ensures adds { Adds (λ entry. entry.pass) 0 board.old.history board.new.history }
     ensures history { GoesOn S.Machine.rules S.speech board.old.history board.new.history }
     ensures settled { OnOk result (IsSettled S.Machine.rules S.speech (state_of S.Machine.rules board.new)) }
+    ensures room { IfOk result (λ settled. settled.room ≡ (S.speech.world (state_of S.Machine.rules board.new)).local.queue_limit) }
     ensures legal { IsLegal S.Machine.rules board.new.opening board.new.history }
     ensures steps_least { RisesBy steps.old steps.new (least_of S.Machine.rules board.old.opening board.old.history) (least_of S.Machine.rules board.old.opening board.new.history) }
     ensures steps_most { OnOk result (RisesWithin steps.old steps.new (most_of S.Machine.rules board.old.opening board.old.history) (most_of S.Machine.rules board.old.opening board.new.history)) }

@@ -1,5 +1,7 @@
 //! What a turn of the builder came to, and how many jobs no line asked for were done in it.
 
+ghost use Rattle.std.specs.Prelude.{◌≤◌, ◌↔◌, IsTrue};
+
 /// What a turn came to, and how many jobs were done before.
 #[derive(Drop)]
 pub(crate) struct Prepared<T> {
@@ -16,7 +18,9 @@ pub(crate) struct Settled {
 
 impl Settled {
     /// Whether so many packets may have been formatted that a queue was full, and there are more to format.
-    pub(crate) fn may_be_cut(self) -> bool {
+    pub(crate) fn may_be_cut(self) -> bool
+        ensures { IsTrue result ↔ (self.room ≤ self.jobs) }
+    {
         self.jobs >= self.room as usize
     }
 }

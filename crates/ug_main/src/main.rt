@@ -25,7 +25,7 @@ ghost use Rattle.ug_main.specs.Counting.{CountsEvents, CountsRun};
 ghost use Rattle.ug_main.specs.Ran.{Ran, IsOneRun, HasDrawn};
 
 use std::alloc::Global;
-use std::io::{self, ErrorKind, Write};
+use std::io::{self, ErrorKind};
 use std::marker::Brand;
 use std::process::ExitCode;
 use std::rt::Files;
@@ -33,6 +33,7 @@ use std::sync::Wait;
 use std::sync::ledger::{Blank, Ledger};
 use std::thread::Threads;
 use std::{env, fs};
+use ug_commands::end;
 use ug_edge::{HostSite, Sink, Site, StdoutSink};
 use ug_groups::Groups as UpdateGroups;
 use ug_report::Status;
@@ -41,15 +42,15 @@ use ug_types::Steps;
 
 /// Runs the command that the arguments are, over the files of the system, and ends with the number of its status.
 fn main(rt: HostRuntime) -> ExitCode {
+    let mut report = StdoutSink::new(rt);
     let Ok(_held) = hold_standard_streams(&rt) else {
-        return code_of(&refuse(&rt, Status::ReadFault));
+        return code_of(&end(&mut report, Status::ReadFault));
     };
     let words = match words_of(rt.alloc(), env::args(&rt)) {
         Ok(words) => words,
-        Err(status) => return code_of(&refuse(&rt, status)),
+        Err(status) => return code_of(&end(&mut report, status)),
     };
     let mut site = HostSite::new(rt, rt.alloc());
-    let mut report = StdoutSink::new(rt);
     code_of(&answer(&rt, rt.alloc(), words.as_slice(), &mut site, &mut report))
 }
 
@@ -300,13 +301,4 @@ fn run<R: Threads + Wait + Sync, E: Site, K: Sink, L: Ledger>(
     ensures ended { is_fed (command_of (map string_bytes words.now)) ≡ true → (row_of result.status).completed ≡ true → IsEnded (E.left site.new) }
 {
     serve::<UpdateGroups, R, E, K, L>(rt, alloc, words, site, report, steps)
-}
-
-/// Says the status of a run that could not begin.
-fn refuse(rt: &HostRuntime, status: Status) -> Status
-    requires { is_fixed status ≡ true }
-    ensures { result ≡ status }
-{
-    let _ = io::writer(rt).write_all(status.text());
-    status
 }

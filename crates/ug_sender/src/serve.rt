@@ -1,6 +1,6 @@
 //! What a worker does with its lane.
 
-ghost use Rattle.std.specs.Prelude.{◌≡◌, true, false};
+ghost use Rattle.std.specs.Prelude.{◌≡◌, ◌⊎◌, true, false};
 ghost use Rattle.ug_turnstile.specs.Passes.{StartsWith};
 ghost use Rattle.ug_sender.specs.Lanes.{IsSamePost, IsAtRest, IsOver, pass_deeds};
 ghost use Rattle.ug_sender.specs.Posts.{post_of};
@@ -68,6 +68,7 @@ pub fn labour<R: Wait, W: Wire, M: Machine>(
 ) -> Lane<W, M>
     requires here { lane.pass.turnstile ≡ turnstile.now.id }
     ensures post { post_of result ≡ post_of lane }
+    ensures over { (result ≡ lane) ⊎ IsOver M.rules result.peer result.pass }
 {
     if refused.load(SeqCst) == place {
         return lane;
