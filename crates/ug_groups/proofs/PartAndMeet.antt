@@ -113,6 +113,10 @@ apart_by g h e same = let so = eq-eqb g h same in absurd cc
 pub still_there : {T : Type 0} (xs : List (Option T)) (g h : ℕ) (x : T) → (g == h) ≡ false → value_of g (slice_set xs h None) ≡ Some x → value_of g xs ≡ Some x
 still_there xs g h x e is = sym (set_other xs h g None (apart_by g h e)) ∙ is
 
+-- what is there stays where another goes
+pub stays_there : {T : Type 0} (xs ys : List (Option T)) (g h : ℕ) → (g == h) ≡ false → ys ≡ slice_set xs h None → IsSome (value_of g xs) → IsSome (value_of g ys)
+stays_there xs ys g h apart gone there = subst (λ zs. IsSome (value_of g zs)) (sym gone) (subst IsSome (sym (set_other xs h g None (apart_by g h apart))) there)
+
 module _ (p q : Pooled OutAttrs) (xs ys : Entries) (g h : ℕ) (apart : (g == h) ≡ false) (done : IsMerged p q xs ys g h) where
   with_rows : Entries
   with_rows = slice_set xs g (Some done.now)

@@ -9,8 +9,11 @@ use Rattle.ug_groups.specs.Subgroups.{Grouped}
 use Rattle.ug_groups.specs.Entries.{Entries, IsKept}
 use Rattle.ug_groups.proofs.Accounts.{counted_in}
 use Rattle.ug_groups.proofs.Dones.{at_there}
-use Rattle.ug_groups.proofs.PartAndMeet.{still_there, kept_back}
+use Rattle.ug_groups.proofs.PartAndMeet.{still_there, stays_there, kept_back}
 use Rattle.ug_groups.proofs.comings.merge.Goals as goal
+
+pub at_mut-entry-requires : goal.at_mut-entry-requires
+at_mut-entry-requires c = stays_there c.args.live.now _ c.args.g c.args.h c.requires.other c.remove-subgroup.ensures.gone c.requires.there
 
 pub absorb-requires-clause-apart : goal.absorb-requires-clause-apart
 absorb-requires-clause-apart c =
