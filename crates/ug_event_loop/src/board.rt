@@ -6,7 +6,7 @@ ghost use Rattle.ug_turnstile.specs.Passes.{Adds};
 ghost use Rattle.ug_events.specs.Events.{IsEvent, Says, SaysSync};
 ghost use Rattle.ug_events.specs.Views.{event_of};
 ghost use Rattle.ug_world.specs.Verdicts.{verdict};
-ghost use Rattle.ug_speaker.specs.Speech.{Prepares};
+ghost use Rattle.ug_speaker.specs.Speech.{MarksTold, Prepares};
 ghost use Rattle.ug_event_loop.specs.Turns.{GoesOn, WindsUp, Answers, IsSettled, answer_of};
 ghost use Rattle.ug_event_loop.specs.declared.board.Work.TheVariants.{Settling};
 ghost use Rattle.ug_event_loop.specs.Counts.{least_of, most_of, RisesBy, RisesWithin};
@@ -25,12 +25,13 @@ use ug_world::Refusal;
 /// The number of the builder's pass.
 pub const BUILDER: u32 = 0;
 
-/// Does a job where it may be done, and else answers as where memory runs out.
+/// Does a job where it may be done, and else answers as where memory runs out. Marks are asked for only where everything is told.
 pub(crate) fn do_job<S: Speaker, L: Ledger>(
     board: &mut Board<S>,
     job: S::Job,
     steps: &mut Steps<L>,
 ) -> Result<S::Said, NoMemory>
+    requires told { S.speech.purpose job ≡ MarksTold → S.speech.drained (state_of S.Machine.rules board.old) ≡ true }
     ensures opening { board.new.opening ≡ board.old.opening }
     ensures legal { OnOk result (S.Machine.rules.legal job (state_of S.Machine.rules board.old) ≡ true) }
     ensures said { IfOk result (λ said. said ≡ S.Machine.rules.reply job (state_of S.Machine.rules board.old)) }
@@ -127,6 +128,7 @@ fn take_event<S: Speaker, L: Ledger>(
     ensures opening { board.new.opening ≡ board.old.opening }
     ensures adds { Adds (λ entry. entry.pass) 0 board.old.history board.new.history }
     ensures answers { IfOk result (λ came. Answers S.Machine.rules S.speech board.old.opening (Ok (Says (event_of event))) (answer_of S.speech.marks came) board.old.history board.new.history) }
+    ensures accepted { OnErr result (verdict (S.speech.world (state_of S.Machine.rules board.old)) (event_of event) ≡ None) }
     ensures unchanged { OnErr result (board.new.history ≡ board.old.history) }
     ensures legal { IsLegal S.Machine.rules board.new.opening board.new.history }
     ensures steps_least { RisesBy steps.old steps.new (least_of S.Machine.rules board.old.opening board.old.history) (least_of S.Machine.rules board.old.opening board.new.history) }
