@@ -10,9 +10,9 @@ use rows::ROWS;
 use std::alloc::Global;
 use std::process::Abort;
 use std::test::Fail;
+use ug_events::{Line, read_line};
 use ug_outbound::{GroupKey, key_of};
 use ug_slow_subgroup::{Packet, Says, Subgroup};
-use ug_slow_world::{Answer, take_line};
 use ug_text::write_prefix;
 use ug_types::{Item, Key, NoMemory, PeerEnds, Update};
 use ug_world::World;
@@ -22,10 +22,14 @@ fn take(alloc: Global, world: &mut World, line: &str) -> Result<(), Fail> {
     if world.version() >= 4294967295 {
         return Err("too many events")?;
     }
-    match take_line(alloc, world, line.as_bytes())? {
-        Answer::Accepted => Ok(()),
-        _ => Err("a line isn't accepted")?,
+    let Ok(Line::Happened(event)) = read_line(alloc, line.as_bytes()) else {
+        return Err("a line is no event")?;
+    };
+    if world.judge(&event).is_err() {
+        return Err("an event isn't accepted")?;
     }
+    world.take(alloc, &event)?;
+    Ok(())
 }
 
 /// The group key of the first peer.
