@@ -1,6 +1,6 @@
 # The commands of the repository. Each but `test` needs the toolchain alone, and that Python 3 beside it.
 
-.PHONY: help build check demo test wrong-bodies fmt bench clean
+.PHONY: help build check demo test oracles wrong-bodies fmt bench clean
 
 # What there is.
 help:
@@ -9,6 +9,7 @@ help:
 	@echo "make check         proves the crates that changed since the last commit, and what they stand on"
 	@echo "make fmt           formats the sources"
 	@echo "make test          the gate: proves and tests everything"
+	@echo "make oracles       proves the plain, slow programs with which fast ones are compared (half an hour)"
 	@echo "make wrong-bodies  tries all wrong bodies, or those of the crates in CRATES (an hour or two)"
 	@echo "make bench         measures the program, proved"
 	@echo "make clean         removes what was built"
@@ -41,6 +42,10 @@ endif
 # Proves and tests everything.
 test:
 	.ci/run
+
+# Proves the oracles and their tests, which the gate runs unproved.
+oracles:
+	tests/oracles.sh prove
 
 # Tries all wrong bodies, also those that the gate passes over, or those of the crates in CRATES, several in one check.
 # It takes an hour or two, and wants Python 3.

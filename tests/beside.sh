@@ -1,21 +1,15 @@
 # What the tests share that try a program beside the crates: its sources are tests/NAME/*.rt.txt, and it is run and not proved, over
-# the crates as they stand, in a copy of them. With the word `bugs` and names of wrong bodies (tests/NAME/bugs has those of no
+# the crates and oracles as they stand, in a copy of them (tests/lay.sh). With the word `bugs` and names of wrong bodies (tests/NAME/bugs has those of no
 # names) each of them is tried in the copy, where the program has to find a difference.
 # A test says in `name` and `uses` which program it is and what that stands on, and in `told` how a line begins that tells a
 # difference; then it sources this file.
 work=$(mktemp -d)
 trap 'rm -rf "$work"' EXIT
 
-# lay: the crates without what was made of them, and the program among them.
+# lay: the crates and the program among them.
 lay() {
-    rm -rf "$work/copy"
-    mkdir -p "$work/copy/.git" "$work/copy/crates/beside/src"
-    cp crates.txt HANDLES "$work/copy"
-    for folder in crates/*; do
-        mkdir -p "$work/copy/$folder"
-        cp -r "$folder/src" "$work/copy/$folder"
-        [ ! -d "$folder/specs" ] || cp -r "$folder/specs" "$work/copy/$folder"
-    done
+    tests/lay.sh "$work/copy" src specs
+    mkdir -p "$work/copy/crates/beside/src"
     for file in tests/"$name"/*.rt.txt; do
         cp "$file" "$work/copy/crates/beside/src/$(basename "$file" .txt)"
     done
@@ -30,9 +24,9 @@ play() {
 
 # plant CRATE NAME: puts a wrong body of must-fail/ in.
 plant() {
-    python3 - "$work/copy/crates/$1" crates/"$1"/must-fail/"$2".edit* << 'END'
+    python3 - "$work/copy/crates/$1" {crates,oracles}/"$1"/must-fail/"$2".edit* << 'END'
 import pathlib, sys
-lines = open(sys.argv[2]).read().splitlines()
+lines = next(path for path in map(pathlib.Path, sys.argv[2:]) if path.is_file()).read_text().splitlines()
 file = pathlib.Path(sys.argv[1]) / next(line[6:] for line in lines if line.startswith("file: "))
 texts = [line[5:] for line in lines if line[:5] in ("old: ", "new: ")]
 text = file.read_text()
