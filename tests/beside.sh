@@ -1,6 +1,6 @@
 # What the tests share that try a program beside the crates: its sources are tests/NAME/*.rt.txt, and it is run and not proved, over
-# the crates and oracles as they stand, in a copy of them (tests/lay.sh). With the word `bugs` and names of wrong bodies (tests/NAME/bugs has those of no
-# names) each of them is tried in the copy, where the program has to find a difference.
+# the crates and oracles as they stand, in a copy of them (tests/lay.sh). With the word `bugs` and names of wrong bodies
+# (tests/NAME/bugs has those of no names) each of them is tried in the copy, where the program has to find a difference.
 # A test says in `name` and `uses` which program it is and what that stands on, and in `told` how a line begins that tells a
 # difference; then it sources this file.
 work=$(mktemp -d)

@@ -1,7 +1,7 @@
 #!/bin/bash
-# Lays a copy of the repository without what was made of it into a folder, in which the oracles are crates like others:
-# tests/lay.sh FOLDER PART.., of each crate these parts, as src, specs, proofs, must-fail. (The sources of the oracles have the ending .txt more,
-# since rt ci takes no source that is of no crate.)
+# Lays a copy of the repository into a folder, in which the oracles are crates like others: tests/lay.sh FOLDER PART..,
+# of each crate these parts, as src, specs, proofs, must-fail. In the repository the sources of the oracles have the ending
+# .txt more, since rt ci takes no source that is of no crate.
 set -e
 cd "$(dirname "${BASH_SOURCE[0]}")/.."
 copy=$1
