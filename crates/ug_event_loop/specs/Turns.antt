@@ -11,6 +11,7 @@ use Rattle.ug_events.specs.Events.{Saying}
 use Rattle.ug_events.specs.Reads.{Reads}
 use Rattle.ug_speaker.specs.Speech.{Speech, Ends, Prepares}
 use Rattle.ug_speaker.specs.Told.{world_at}
+use Rattle.ug_speaker.specs.Owes.{IsPrepared}
 use Rattle.ug_report.specs.Report.{Answer, Passed, Refused, Took, Synced, answer_to}
 use Rattle.ug_speaker.specs.Story.{IsBetween, Does}
 use Rattle.ug_event_loop.specs.declared.came.Came.{Came}
@@ -106,6 +107,15 @@ module _ {Opening State Job Said : Type 0} (rules : Rules Opening State Job Said
   abbrev pub IsSettledAt : Option Opening → List (Entry Job Said) → Type 0
   IsSettledAt None seen = Unit {0}
   IsSettledAt (Some opening) seen = IsSettled (replay rules opening seen)
+
+  -- Only lanes can go on: not everything is told, and nothing is left that prepares.
+  abbrev pub IsUntold : State → Type 0
+  IsUntold state = (speech.drained state ≡ false) × IsPrepared rules speech state
+
+  -- the same of a pass
+  abbrev pub IsUntoldAt : Option Opening → List (Entry Job Said) → Type 0
+  IsUntoldAt None seen = Unit {0}
+  IsUntoldAt (Some opening) seen = IsUntold (replay rules opening seen)
 
   -- and the work is ended: everything is told, and no job may be done any more
   abbrev pub IsEndedAt : Option Opening → List (Entry Job Said) → Type 0

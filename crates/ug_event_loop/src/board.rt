@@ -7,8 +7,9 @@ ghost use Rattle.ug_events.specs.Events.{IsEvent, Says, SaysSync};
 ghost use Rattle.ug_events.specs.Views.{event_of};
 ghost use Rattle.ug_world.specs.Verdicts.{verdict};
 ghost use Rattle.ug_speaker.specs.Speech.{MarksTold, Prepares};
-ghost use Rattle.ug_event_loop.specs.Turns.{GoesOn, WindsUp, Answers, IsSettled, answer_of};
-ghost use Rattle.ug_event_loop.specs.declared.board.Work.TheVariants.{Settling};
+ghost use Rattle.ug_speaker.specs.Owes.{IsPrepared};
+ghost use Rattle.ug_event_loop.specs.Turns.{GoesOn, WindsUp, Answers, IsSettled, IsUntold, answer_of};
+ghost use Rattle.ug_event_loop.specs.declared.board.Work.TheVariants.{Settling, Draining};
 ghost use Rattle.ug_event_loop.specs.Counts.{least_of, most_of, RisesBy, RisesWithin};
 
 use crate::came::Came;
@@ -65,6 +66,7 @@ enum Work {
 fn next_job<S: Speaker>(board: &Board<S>, work: Work) -> Result<Option<S::Job>, NoMemory>
     ensures prepares { IfOk result (λ next. IfSome next (λ job. S.speech.purpose job ≡ Prepares)) }
     ensures settled { work ≡ Settling → board.now.spent ≡ false → IfOk result (λ next. IfNone next (IsSettled S.Machine.rules S.speech (state_of S.Machine.rules board.now))) }
+    ensures prepared { work ≡ Draining → board.now.spent ≡ false → IfOk result (λ next. IfNone next (IsPrepared S.Machine.rules S.speech (state_of S.Machine.rules board.now))) }
 {
     match work {
         Work::Settling => board.machine().settling(),
@@ -87,6 +89,7 @@ fn prepare<S: Speaker, R: Wait, L: Ledger>(
     ensures history { GoesOn S.Machine.rules S.speech board.old.history board.new.history }
     ensures unspent { OnOk result (board.new.spent ≡ false) }
     ensures settled { work ≡ Settling → OnOk result (IsSettled S.Machine.rules S.speech (state_of S.Machine.rules board.new)) }
+    ensures prepared { work ≡ Draining → OnOk result (IsPrepared S.Machine.rules S.speech (state_of S.Machine.rules board.new)) }
     ensures legal { IsLegal S.Machine.rules board.new.opening board.new.history }
     ensures steps_least { RisesBy steps.old steps.new (least_of S.Machine.rules board.old.opening board.old.history) (least_of S.Machine.rules board.old.opening board.new.history) }
     ensures steps_most { OnOk result (RisesWithin steps.old steps.new (most_of S.Machine.rules board.old.opening board.old.history) (most_of S.Machine.rules board.old.opening board.new.history)) }
@@ -208,6 +211,7 @@ pub(crate) fn mark<S: Speaker, R: Wait, L: Ledger>(
     ensures adds { Adds (λ entry. entry.pass) 0 board.old.history board.new.history }
     ensures answers { IfOk result (λ marked. IfSome marked.value (λ came. Answers S.Machine.rules S.speech board.old.opening (Ok SaysSync) (answer_of S.speech.marks came) board.old.history board.new.history)) }
     ensures waits { IfOk result (λ marked. IfNone marked.value (GoesOn S.Machine.rules S.speech board.old.history board.new.history)) }
+    ensures untold { IfOk result (λ marked. IfNone marked.value (IsUntold S.Machine.rules S.speech (state_of S.Machine.rules board.new))) }
     ensures stopped { OnErr result (GoesOn S.Machine.rules S.speech board.old.history board.new.history) }
     ensures legal { IsLegal S.Machine.rules board.new.opening board.new.history }
     ensures steps_least { RisesBy steps.old steps.new (least_of S.Machine.rules board.old.opening board.old.history) (least_of S.Machine.rules board.old.opening board.new.history) }
@@ -254,6 +258,7 @@ pub(crate) fn conclude<S: Speaker, R: Wait, L: Ledger>(
     ensures adds { Adds (λ entry. entry.pass) 0 board.old.history board.new.history }
     ensures history { WindsUp S.Machine.rules S.speech board.old.history board.new.history }
     ensures waits { IfOk result (λ told. told.value ≡ false → GoesOn S.Machine.rules S.speech board.old.history board.new.history) }
+    ensures untold { IfOk result (λ told. told.value ≡ false → IsUntold S.Machine.rules S.speech (state_of S.Machine.rules board.new)) }
     ensures drained { IfOk result (λ told. told.value ≡ true → S.speech.drained (state_of S.Machine.rules board.new) ≡ true) }
     ensures closed { IfOk result (λ told. told.value ≡ true → S.speech.closed (state_of S.Machine.rules board.new) ≡ true) }
     ensures legal { IsLegal S.Machine.rules board.new.opening board.new.history }

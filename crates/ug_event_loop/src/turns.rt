@@ -4,7 +4,7 @@ ghost use Rattle.std.specs.Prelude.{◌≡◌, true, false, Ok, OnOk, OnErr, IfO
 ghost use Rattle.ug_turnstile.specs.Passes.{IsSamePass};
 ghost use Rattle.ug_events.specs.Events.{IsEvent, Says, SaysSync};
 ghost use Rattle.ug_events.specs.Views.{event_of};
-ghost use Rattle.ug_event_loop.specs.Turns.{GoesOn, WindsUp, AnswersAt, IsLegalAt, IsSettledAt, IsEndedAt, IsClosedAt, answer_of};
+ghost use Rattle.ug_event_loop.specs.Turns.{GoesOn, WindsUp, AnswersAt, IsLegalAt, IsSettledAt, IsUntoldAt, IsEndedAt, IsClosedAt, answer_of};
 ghost use Rattle.ug_event_loop.specs.Counts.{least_at, most_at, RisesBy, RisesWithin};
 
 use crate::board::{break_off, conclude, mark, offer, settle};
@@ -84,6 +84,7 @@ pub(crate) fn mark_in_turn<S: Speaker, R: Wait, L: Ledger>(
     ensures free { pass.new.holds ≡ false }
     ensures answers { IfOk result (λ marked. IfSome marked.value (λ came. AnswersAt S.Machine.rules S.speech pass.new.root (Ok SaysSync) (answer_of S.speech.marks came) pass.old.seen pass.new.seen)) }
     ensures waits { IfOk result (λ marked. IfNone marked.value (GoesOn S.Machine.rules S.speech pass.old.seen pass.new.seen)) }
+    ensures untold { IfOk result (λ marked. IfNone marked.value (IsUntoldAt S.Machine.rules S.speech pass.new.root pass.new.seen)) }
     ensures stopped { OnErr result (GoesOn S.Machine.rules S.speech pass.old.seen pass.new.seen) }
     ensures legal { IsLegalAt S.Machine.rules S.speech pass.new.root pass.new.seen }
     ensures steps_least { RisesBy steps.old steps.new (least_at S.Machine.rules pass.old.root pass.old.seen) (least_at S.Machine.rules pass.old.root pass.new.seen) }
@@ -110,6 +111,7 @@ pub(crate) fn conclude_in_turn<S: Speaker, R: Wait, L: Ledger>(
     ensures free { pass.new.holds ≡ false }
     ensures history { WindsUp S.Machine.rules S.speech pass.old.seen pass.new.seen }
     ensures waits { IfOk result (λ told. told.value ≡ false → GoesOn S.Machine.rules S.speech pass.old.seen pass.new.seen) }
+    ensures untold { IfOk result (λ told. told.value ≡ false → IsUntoldAt S.Machine.rules S.speech pass.new.root pass.new.seen) }
     ensures ended { IfOk result (λ told. told.value ≡ true → IsEndedAt S.Machine.rules S.speech pass.new.root pass.new.seen) }
     ensures legal { IsLegalAt S.Machine.rules S.speech pass.new.root pass.new.seen }
     ensures steps_least { RisesBy steps.old steps.new (least_at S.Machine.rules pass.old.root pass.old.seen) (least_at S.Machine.rules pass.old.root pass.new.seen) }

@@ -1,7 +1,7 @@
 //! What has to be done: subgroups that merge, members that part, and packets that are owed.
 
 ghost use Rattle.std.specs.Prelude.{◌≡◌, ℕ, true, false, not, ◌&&◌, IfSome, IfNone};
-ghost use Rattle.ug_group_rules.specs.Machine.{is_turn};
+ghost use Rattle.ug_group_rules.specs.Machine.{Job, is_turn};
 ghost use Rattle.ug_groups.specs.Rows.{may_format_row, must_part_row, some_row, some_merge};
 ghost use Rattle.ug_groups.specs.Jobs.{is_work_due};
 
@@ -106,8 +106,10 @@ pub fn next_settling(world: &World, subgroups: &Subgroups) -> Option<GroupJob>
 }
 
 /// A job by which more can be told.
+#[tactic(auto, using(crate::proofs::WorkDue::no_work))]
 pub fn next_draining(world: &World, subgroups: &Subgroups) -> Option<GroupJob>
-    ensures { IfSome result (λ job. is_work_due world.now.local.slow_after subgroups.now job ≡ true) }
+    ensures some { IfSome result (λ job. is_work_due world.now.local.slow_after subgroups.now job ≡ true) }
+    ensures none { IfNone result ((job : Job) → is_work_due world.now.local.slow_after subgroups.now job ≡ false) }
 {
     if let Some(job) = next_order(world, subgroups) {
         return Some(job);

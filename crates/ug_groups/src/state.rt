@@ -208,6 +208,7 @@ impl GroupState {
     pub fn next_draining(&self) -> Option<GroupJob>
         ensures prepares { IfSome result (λ job. purpose job ≡ Prepares) }
         ensures legal { IfSome result (λ job. legal job self.now ≡ true) }
+        ensures prepared { IfNone result ((job : machine.Job) → purpose job ≡ Prepares → legal job self.now ≡ false) }
     {
         if self.closed {
             return None;

@@ -1,6 +1,7 @@
 //! `selfrun`: a run over a drawn workload, beside workers, over wires in memory.
 
-ghost use Rattle.std.specs.Prelude.{◌≡◌, [], map, Some, IfOk};
+ghost use Rattle.std.specs.Prelude.{◌≡◌, [], ◌∷◌, map, Some, IfOk};
+ghost use Rattle.ug_edge.specs.SiteState.{fresh_site};
 ghost use Rattle.ug_edge.specs.Told.{Rose, Bytes, file_told};
 ghost use Rattle.ug_events.specs.Views.{event_of};
 ghost use Rattle.ug_world.specs.Worlds.{last_world};
@@ -99,6 +100,7 @@ fn draw(alloc: Global, number: u64) -> Result<Drawn, NoMemory>
     ensures accepted { IfOk result (λ drawn. drawn.last.accepted ≡ accepted_count drawn_world (lines_of (drawn_events number))) }
     ensures refused { IfOk result (λ drawn. drawn.last.refused ≡ refused_count drawn_world (lines_of (drawn_events number))) }
     ensures site { IfOk result (λ drawn. file_told (Some drawn.site.files) [] ≡ Bytes []) }
+    ensures unfailing { IfOk result (λ drawn. drawn.site ≡ fresh_site (record { name = []; bytes = [] } ∷ []) [] []) }
 {
     workload_laws();
     let Made { world, events } = make(alloc, number, PEERS, EVENTS)?;
@@ -117,7 +119,8 @@ fn draw(alloc: Global, number: u64) -> Result<Drawn, NoMemory>
 
 /// A site with an empty file that has an empty name, and no call of which is to fail.
 fn empty_site(alloc: Global) -> Result<MemSite, NoMemory>
-    ensures { IfOk result (λ site. file_told (Some site.files) [] ≡ Bytes []) }
+    ensures site { IfOk result (λ site. file_told (Some site.files) [] ≡ Bytes []) }
+    ensures unfailing { IfOk result (λ site. site ≡ fresh_site (record { name = []; bytes = [] } ∷ []) [] []) }
 {
     let mut files = Vec::new(alloc);
     files.push(File {

@@ -51,6 +51,10 @@ module _ {Opening State Job Said : Type 0} (rules : Rules Opening State Job Said
   IsTimely Ends legal s = legal ≡ not (speech.closed s)
   IsTimely Prepares legal s = legal ≡ true → speech.closed s ≡ false
 
+  -- Nothing is left that prepares: what goes on now is asked for by a line, or is a lane's.
+  abbrev pub IsPrepared : State → Type 0
+  IsPrepared s = (job : Job) → speech.purpose job ≡ Prepares → rules.legal job s ≡ false
+
   -- The end closes, and nothing else does.
   abbrev pub closed_by : Purpose → Bool → Bool
   closed_by Ends closed = true

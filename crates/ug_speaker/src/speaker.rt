@@ -3,7 +3,7 @@
 ghost use Rattle.std.specs.Prelude.{◌≡◌, true, false, IfOk, IfErr, IfSome, IfNone};
 ghost use Rattle.ug_events.specs.Events.{IsEvent};
 ghost use Rattle.ug_events.specs.Views.{event_of};
-ghost use Rattle.ug_speaker.specs.Owes.{IsOpening, IsSpeaker};
+ghost use Rattle.ug_speaker.specs.Owes.{IsOpening, IsPrepared, IsSpeaker};
 ghost use Rattle.ug_speaker.specs.Speech.{Speech, TakesEvent, MarksTold, Ends, Prepares};
 
 use std::alloc::Global;
@@ -47,7 +47,8 @@ pub trait Speaker: Machine {
     /// A job by which more can be told; none where only lanes can go on.
     fn draining(&self) -> Result<Option<Self::Job>, NoMemory>
         ensures prepares { IfOk result (λ next. IfSome next (λ job. speech.purpose job ≡ Prepares)) }
-        ensures legal { IfOk result (λ next. IfSome next (λ job. Self.rules.legal job (Self.state self.now) ≡ true)) };
+        ensures legal { IfOk result (λ next. IfSome next (λ job. Self.rules.legal job (Self.state self.now) ≡ true)) }
+        ensures prepared { IfOk result (λ next. IfNone next (IsPrepared Self.rules speech (Self.state self.now))) };
 
     /// Whether everything is told.
     fn is_drained(&self) -> bool
