@@ -167,39 +167,39 @@ module _ {K : Type 0} {cmp : K → K → Ordering} (total : IsTotalOrder cmp) (e
   flip q b e = at_turned total exact q key ∙ e
 
   module _ (w : Option ℕ) where
-    abbrev D2 : List (K × ℕ)
-    D2 = with_value cmp D key w
+    abbrev desired_now : List (K × ℕ)
+    desired_now = with_value cmp D key w
 
-    D_here : value_at cmp D2 key ≡ w
+    D_here : value_at cmp desired_now key ≡ w
     D_here = value_at-here total exact D key w (sorted_projected total exact desired_of rows s.ordered)
 
     shown_at : (q : K) (r : Option Row) → value_at cmp rows q ≡ r → is_forced r ≡ true → (is_some (of_row formatted_of r) || is_some (of_row desired_of r)) ≡ true
     shown_at q None e f = absurd cc
     shown_at q (Some row) e f = shown_row row row.change refl (s.sound q row e)
 
-    still : still_forced cmp F D2 now.forced ≡ cond (is_some (of_row formatted_of o) || is_some w) now.forced (without cmp now.forced key)
+    still : still_forced cmp F desired_now now.forced ≡ cond (is_some (of_row formatted_of o) || is_some w) now.forced (without cmp now.forced key)
     still =
-        filter_but_one total exact (λ q. is_some (value_at cmp F q) || is_some (value_at cmp D2 q)) key now.forced
-        (λ q apart listed. ap (λ z. is_some z || is_some (value_at cmp D2 q)) (formatted_at total exact rows waiting next s q)
+        filter_but_one total exact (λ q. is_some (value_at cmp F q) || is_some (value_at cmp desired_now q)) key now.forced
+        (λ q apart listed. ap (λ z. is_some z || is_some (value_at cmp desired_now q)) (formatted_at total exact rows waiting next s q)
         ∙ ap (λ z. is_some (of_row formatted_of (value_at cmp rows q)) || is_some z) (value_at-other total exact D key q w (flip q false apart) ∙ desired_at total exact rows waiting next s q)
         ∙ shown_at q (value_at cmp rows q) refl (sym (forced_at total exact rows waiting next s q) ∙ listed))
         ∙ ap (λ b. cond b now.forced (without cmp now.forced key))
-        (ap (λ z. is_some z || is_some (value_at cmp D2 key)) (formatted_at total exact rows waiting next s key) ∙ ap (λ z. is_some (of_row formatted_of o) || is_some z) D_here)
+        (ap (λ z. is_some z || is_some (value_at cmp desired_now key)) (formatted_at total exact rows waiting next s key) ∙ ap (λ z. is_some (of_row formatted_of o) || is_some z) D_here)
 
-    owes : waits cmp nat_eq F D2 (still_forced cmp F D2 now.forced) key ≡ is_owed (of_row formatted_of o) w (is_forced o)
+    owes : waits cmp nat_eq F desired_now (still_forced cmp F desired_now now.forced) key ≡ is_owed (of_row formatted_of o) w (is_forced o)
     owes =
-        ap (λ z. not (option_eq nat_eq z (value_at cmp D2 key)) || (has cmp (still_forced cmp F D2 now.forced) key && is_some (value_at cmp D2 key))) (formatted_at total exact rows waiting next s key)
-        ∙ ap (λ z. not (option_eq nat_eq (of_row formatted_of o) z) || (has cmp (still_forced cmp F D2 now.forced) key && is_some z)) D_here
+        ap (λ z. not (option_eq nat_eq z (value_at cmp desired_now key)) || (has cmp (still_forced cmp F desired_now now.forced) key && is_some (value_at cmp desired_now key))) (formatted_at total exact rows waiting next s key)
+        ∙ ap (λ z. not (option_eq nat_eq (of_row formatted_of o) z) || (has cmp (still_forced cmp F desired_now now.forced) key && is_some z)) D_here
         ∙ ap (λ b. not (option_eq nat_eq (of_row formatted_of o) w) || (b && is_some w))
-        (has-filter total exact (λ q. is_some (value_at cmp F q) || is_some (value_at cmp D2 q)) now.forced key
-        ∙ ap (λ b. (is_some (value_at cmp F key) || is_some (value_at cmp D2 key)) && b) (forced_at total exact rows waiting next s key)
+        (has-filter total exact (λ q. is_some (value_at cmp F q) || is_some (value_at cmp desired_now q)) now.forced key
+        ∙ ap (λ b. (is_some (value_at cmp F key) || is_some (value_at cmp desired_now key)) && b) (forced_at total exact rows waiting next s key)
         ∙ ap (λ z. (is_some (value_at cmp F key) || is_some z) && is_forced o) D_here)
         ∙ ap (λ b. not (option_eq nat_eq (of_row formatted_of o) w) || b) (forced_twice (is_some (value_at cmp F key)) (is_forced o) (is_some w))
 
-    listed : requeue cmp (waits cmp nat_eq F D2 (still_forced cmp F D2 now.forced)) now.pending (key ∷ [])
+    listed : requeue cmp (waits cmp nat_eq F desired_now (still_forced cmp F desired_now now.forced)) now.pending (key ∷ [])
         ≡ cond (is_owed (of_row formatted_of o) w (is_forced o)) (cond (pends o) now.pending (now.pending ++ key ∷ [])) (without cmp now.pending key)
     listed =
-        requeue_one total exact (waits cmp nat_eq F D2 (still_forced cmp F D2 now.forced)) now.pending key
+        requeue_one total exact (waits cmp nat_eq F desired_now (still_forced cmp F desired_now now.forced)) now.pending key
         (λ q apart there. waits-with_desired total exact nat_eq F D now.forced key q w (flip q false apart) ∙ sym (exact_at total exact rows waiting next s q) ∙ there)
         ∙ ap (λ b. cond b (cond (has cmp now.pending key) now.pending (now.pending ++ key ∷ [])) (without cmp now.pending key)) owes
         ∙ ap (λ b. cond (is_owed (of_row formatted_of o) w (is_forced o)) (cond b now.pending (now.pending ++ key ∷ [])) (without cmp now.pending key)) (pending_at total exact rows waiting next s key)
@@ -212,8 +212,8 @@ module _ {K : Type 0} {cmp : K → K → Ordering} (total : IsTotalOrder cmp) (e
         let fs : projected formatted_of (with_value cmp rows key row) ≡ F =
         projected-with_value total exact formatted_of rows key row s.ordered
         ∙ with_value-same total exact F key _ (sorted_projected total exact formatted_of rows s.ordered) (formatted_at total exact rows waiting next s key ∙ sym fe) in
-        let ds : projected desired_of (with_value cmp rows key row) ≡ D2 = projected-with_value total exact desired_of rows key row s.ordered ∙ ap (with_value cmp D key) de in
-        let ms : keys_of (projected mark_of (with_value cmp rows key row)) ≡ still_forced cmp F D2 now.forced =
+        let ds : projected desired_of (with_value cmp rows key row) ≡ desired_now = projected-with_value total exact desired_of rows key row s.ordered ∙ ap (with_value cmp D key) de in
+        let ms : keys_of (projected mark_of (with_value cmp rows key row)) ≡ still_forced cmp F desired_now now.forced =
         ap keys_of (projected-with_value total exact mark_of rows key row s.ordered)
         ∙ marks total exact (is_forced o) (is_some (of_row formatted_of o) || is_some w) key M _ (sorted_projected total exact mark_of rows s.ordered)
         (value_at-projected total exact mark_of rows key s.ordered ∙ mark_value o) me ∙ sym still in

@@ -1,7 +1,7 @@
 use ug_intern::AttrId;
 
 /// What was formatted for a key before, and what is formatted for it now.
-#[derive(Clone, Copy, Debug, PartialEq, Eq)]
+#[derive(Clone, Copy, PartialEq, Eq)]
 pub struct Marked {
     pub was: Option<AttrId>,
     pub now: Option<AttrId>,

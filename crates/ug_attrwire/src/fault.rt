@@ -6,7 +6,7 @@ ghost use Rattle.ug_attrwire.specs.declared.fault.AttributeFault.TheVariants as 
 use std::alloc::{AllocError, AllocFailed};
 
 /// Why attributes could not be read.
-#[derive(Clone, Copy, Debug, PartialEq, Eq)]
+#[derive(Clone, Copy, PartialEq, Eq)]
 pub enum AttrFault {
     /// The first fault. Its place is that of the attribute's first byte, counted from the first byte given, and 0 for 7.
     ///

@@ -2,7 +2,7 @@ use ug_session_rules::Breach;
 use ug_types::{ByteList, PeerId};
 
 /// Why there is no certificate.
-#[derive(Debug, Drop)]
+#[derive(Drop)]
 pub enum Stop {
     /// A file could not be read.
     Read,

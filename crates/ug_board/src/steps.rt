@@ -3,7 +3,7 @@
 use ug_types::PeerId;
 
 /// A step of a lane, which sends to one peer.
-#[derive(Clone, Copy, Debug, PartialEq, Eq)]
+#[derive(Clone, Copy, PartialEq, Eq)]
 pub enum LaneStep {
     /// What is next to be done on the wire to the peer?
     Next { peer: PeerId },
@@ -12,7 +12,7 @@ pub enum LaneStep {
 }
 
 /// What a machine says to the step of a lane.
-#[derive(Clone, Copy, Debug, PartialEq, Eq)]
+#[derive(Clone, Copy, PartialEq, Eq)]
 pub enum LaneSaid {
     /// This session begins.
     Begun { session: u32 },
@@ -28,14 +28,14 @@ pub enum LaneSaid {
 }
 
 /// A step of a board: a job, or a step of a lane.
-#[derive(Clone, Copy, Debug, Drop, PartialEq, Eq)]
+#[derive(Clone, Copy, Drop, PartialEq, Eq)]
 pub enum BoardStep<J> {
     Job(J),
     Lane(LaneStep),
 }
 
 /// What was said to a step of a board.
-#[derive(Clone, Copy, Debug, Drop, PartialEq, Eq)]
+#[derive(Clone, Copy, Drop, PartialEq, Eq)]
 pub enum BoardSaid<R> {
     Job(R),
     Lane(LaneSaid),

@@ -6,7 +6,7 @@ use std::io::ErrorKind;
 use ug_types::NoMemory;
 
 /// A line that no case may have where it stands, and why; a fault of reading or printing; or running out of memory.
-#[derive(Debug, Drop)]
+#[derive(Drop)]
 pub enum Wrong {
     Line(&'static str),
     Outside(io::Error),

@@ -4,7 +4,7 @@ ghost use Rattle.ug_check.specs.declared.stop.Stop.TheVariants.{NoMemory as OutO
 use ug_types::NoMemory;
 
 /// Why a check ended early.
-#[derive(Clone, Copy, Debug, PartialEq, Eq)]
+#[derive(Clone, Copy, PartialEq, Eq)]
 pub enum Stop {
     /// The stream could not be read.
     Read,

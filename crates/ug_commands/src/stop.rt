@@ -1,7 +1,7 @@
 use ug_types::ByteList;
 
 /// Why no groups were listed, or not all.
-#[derive(Debug, Drop)]
+#[derive(Drop)]
 pub enum Stop {
     /// The configuration could not be read.
     Read,

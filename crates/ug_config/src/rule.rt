@@ -20,7 +20,7 @@ use ug_policy::{MapEntry, OnMatch};
 use ug_types::NoMemory;
 
 /// An entry of a route map. Contracts see what it says.
-#[derive(Debug, Drop)]
+#[derive(Drop)]
 pub struct Rule {
     pub entry: MapEntry,
 }

@@ -19,7 +19,7 @@ use ug_policy::ListEntry;
 use ug_types::Named;
 
 /// What the tables of a configuration say, in their order.
-#[derive(Debug, Drop)]
+#[derive(Drop)]
 pub struct Setup {
     pub local: Local,
     pub lists: Vec<Named<Items<ListEntry>>>,

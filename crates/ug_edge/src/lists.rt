@@ -3,7 +3,7 @@
 use ug_types::{ByteList, NumberList, Sequence};
 
 /// A file of a site in memory.
-#[derive(Debug, Drop)]
+#[derive(Drop)]
 pub struct File {
     pub name: ByteList,
     pub bytes: ByteList,
@@ -12,7 +12,7 @@ pub struct File {
 pub type FileList = Sequence<File>;
 
 /// The kinds of calls whose failures can be listed.
-#[derive(Clone, Copy, Debug, PartialEq, Eq)]
+#[derive(Clone, Copy, PartialEq, Eq)]
 pub enum CallKind {
     Pick,
     Read,
@@ -21,7 +21,7 @@ pub enum CallKind {
 }
 
 /// A call that is to fail. The calls of each kind are numbered by themselves from 1.
-#[derive(Clone, Copy, Debug, PartialEq, Eq)]
+#[derive(Clone, Copy, PartialEq, Eq)]
 pub struct FailAt {
     pub call: CallKind,
     pub number: u32,
@@ -30,7 +30,7 @@ pub struct FailAt {
 pub type CallList = Sequence<FailAt>;
 
 /// The number of bytes that the wires to a peer take before one `send` fails.
-#[derive(Debug, Drop)]
+#[derive(Drop)]
 pub struct Cut {
     pub peer: ByteList,
     pub total: u64,
@@ -39,14 +39,14 @@ pub struct Cut {
 pub type CutList = Sequence<Cut>;
 
 /// The numbers of the sessions whose `begin` fails on the wires to a peer.
-#[derive(Debug, Drop)]
+#[derive(Drop)]
 pub(crate) struct BeginFails {
     pub peer: ByteList,
     pub sessions: NumberList,
 }
 
 /// What a wire was made for: the folder, and the name of the peer.
-#[derive(Debug, Drop)]
+#[derive(Drop)]
 pub(crate) struct Made {
     pub dir: ByteList,
     pub peer: ByteList,

@@ -5,11 +5,11 @@ ghost use Rattle.std.specs.Prelude.{◌≡◌, ℕ, ◌+◌, ◌<◌, ◌≤◌,
 ghost use Rattle.ug_edge.specs.Told.{Rose, TakesFront, IsEnded, AppendsPiece, IsFresh, BeginsSession, SendsPiece, FileText, HasPicked, Picks, WireName, WiresMade, MakesWire, AppendsAll};
 
 /// A call of the outside failed.
-#[derive(Clone, Copy, Debug, PartialEq, Eq)]
+#[derive(Clone, Copy, PartialEq, Eq)]
 pub struct Failed;
 
 /// Why a site could not do what was asked.
-#[derive(Clone, Copy, Debug, PartialEq, Eq)]
+#[derive(Clone, Copy, PartialEq, Eq)]
 pub enum SiteFault {
     Failed,
     NoMemory,

@@ -12,7 +12,7 @@ use std::marker::Model;
 use ug_types::{ByteList, Sequence};
 
 /// A sink that tells what it holds. Its n-th write fails where that is listed, or where memory runs out.
-#[derive(Debug, Drop)]
+#[derive(Drop)]
 pub struct MemSink {
     held: ByteList,
     calls: u64,

@@ -8,7 +8,7 @@ ghost use Rattle.ug_event_loop.specs.Standing.{said_by};
 use ug_events::{Line, LineReader, LineRefusal};
 
 /// Which verbs are known: every one, or those of routes alone.
-#[derive(Clone, Copy, Debug, PartialEq, Eq)]
+#[derive(Clone, Copy, PartialEq, Eq)]
 pub enum Grammar {
     Every,
     Routes,

@@ -29,7 +29,7 @@ use ug_turnstile::Turnstile;
 use ug_types::{NoMemory, Steps};
 
 /// How the reading of a file of events ended.
-#[derive(Clone, Copy, Debug, PartialEq, Eq)]
+#[derive(Clone, Copy, PartialEq, Eq)]
 pub enum End {
     /// All lines were taken, and everything is told.
     Complete,

@@ -1,7 +1,7 @@
 //! Why a builder stopped.
 
 /// Why a builder takes no more lines.
-#[derive(Clone, Copy, Debug, PartialEq, Eq, Drop)]
+#[derive(Clone, Copy, PartialEq, Eq, Drop)]
 pub enum Stop {
     /// Memory ran out.
     NoMemory,

@@ -6,7 +6,7 @@ ghost use Rattle.ug_event_loop.specs.Turns.{is_taken, is_refused};
 use crate::came::Came;
 
 /// How many lines were taken, and how many of them were accepted and refused.
-#[derive(Clone, Copy, Debug, PartialEq, Eq)]
+#[derive(Clone, Copy, PartialEq, Eq)]
 pub struct Tally {
     pub lines: u64,
     pub accepted: u64,

@@ -7,7 +7,7 @@ use ug_types::{Attrs, Name, Prefix, Sequence, Shared};
 /// A path as an event gives it: its identifier, which isn't 0, the peer that it is from, or None where it is the
 /// speaker's own, and its attributes, which are within the bounds of attributes from within, and whose AGGREGATOR and
 /// ORIGINATOR_ID are IPv4 addresses.
-#[derive(Debug, Drop)]
+#[derive(Drop)]
 pub struct Given {
     pub id: u32,
     pub from: Option<Name>,
@@ -33,7 +33,7 @@ impl Model for Given {
 pub type GivenList = Shared<Sequence<Given>>;
 
 /// What happened.
-#[derive(Debug, Drop)]
+#[derive(Drop)]
 pub enum Event {
     /// A session of the peer comes up.
     Up { peer: Name },
@@ -57,7 +57,7 @@ pub enum Event {
 }
 
 /// What a line says.
-#[derive(Debug, Drop)]
+#[derive(Drop)]
 pub enum Line {
     /// Nothing: it has no words, or a comment.
     Blank,

@@ -8,7 +8,7 @@ ghost use Rattle.ug_events.specs.SeenFields.{field_seen};
 use ug_text::cut_at;
 
 /// A field of a path.
-#[derive(Clone, Copy, Debug, PartialEq, Eq)]
+#[derive(Clone, Copy, PartialEq, Eq)]
 pub enum Field {
     Id,
     From,

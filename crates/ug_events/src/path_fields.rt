@@ -4,7 +4,7 @@ ghost use Rattle.std.specs.Option.{ForSome};
 use ug_types::{Addr, Aggregator, Name, NumberList, SegmentList};
 
 /// The fields of a path that have been read.
-#[derive(Debug, Drop)]
+#[derive(Drop)]
 pub struct PathFields {
     pub id: Option<u32>,
     pub from: Option<Option<Name>>,

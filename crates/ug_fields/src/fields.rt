@@ -12,7 +12,7 @@ use ug_policy::OnMatch;
 use ug_types::{Addr, Name, NoMemory, NumberList, Prefix, Sequence};
 
 /// A field that was read.
-#[derive(Debug, Drop)]
+#[derive(Drop)]
 pub struct Field {
     pub name: &'static str,
     pub given: Given,

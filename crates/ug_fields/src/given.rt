@@ -3,7 +3,7 @@ use ug_policy::OnMatch;
 use ug_types::{Addr, Family, Name, Prefix};
 
 /// What a field says.
-#[derive(Debug, Drop)]
+#[derive(Drop)]
 pub enum Given {
     Absent,
     Number(u32),

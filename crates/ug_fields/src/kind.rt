@@ -3,7 +3,7 @@
 use std::marker::Model;
 
 /// What the value of a field has to be.
-#[derive(Clone, Copy, Debug, PartialEq, Eq)]
+#[derive(Clone, Copy, PartialEq, Eq)]
 pub enum Kind {
     /// A whole number between two.
     Number(u32, u32),
@@ -46,7 +46,7 @@ pub enum Kind {
 }
 
 /// Whether a field has to be there, and what stands for one that isn't.
-#[derive(Clone, Copy, Debug, PartialEq, Eq)]
+#[derive(Clone, Copy, PartialEq, Eq)]
 pub enum Need {
     Required,
     /// Nothing stands for it.
@@ -60,7 +60,6 @@ pub enum Need {
 }
 
 /// A field that a table may have.
-#[derive(Debug)]
 pub struct Row {
     pub name: &'static str,
     pub kind: Kind,

@@ -2,7 +2,7 @@ ghost use Rattle.std.specs.Prelude.{◌≡◌};
 ghost use Rattle.ug_groups.specs.TableChanges.{number_of};
 
 /// Which subgroups are changed: one alone, or all that have its key.
-#[derive(Clone, Copy, Debug)]
+#[derive(Clone, Copy)]
 pub enum Reach {
     One(u32),
     Alike(u32),

@@ -2,7 +2,7 @@ use ug_climb::Standing;
 
 /// How a key stands in a session: its climb, the last of its moves, counted from 1 among those of all keys, or 0, and how
 /// many refreshes had begun when it was named last.
-#[derive(Clone, Copy, Debug, PartialEq, Eq)]
+#[derive(Clone, Copy, PartialEq, Eq)]
 pub struct Row {
     pub standing: Standing,
     pub moved: usize,
@@ -11,7 +11,7 @@ pub struct Row {
 
 /// A message at which the place of a key's climb moves, counted from 1, the place that it moves to, counted from the
 /// session's first, and the last move of that key before it.
-#[derive(Clone, Copy, Debug, PartialEq, Eq)]
+#[derive(Clone, Copy, PartialEq, Eq)]
 pub struct Moved {
     pub message: u64,
     pub place: u32,

@@ -9,7 +9,7 @@ use byteorder::{BigEndian, ByteOrder};
 use ug_types::{Family, Key, Prefix};
 
 /// Why bytes don't begin with a route: 1 a length over the family's width (32, or 128), 2 they are cut short.
-#[derive(Clone, Copy, Debug, PartialEq, Eq)]
+#[derive(Clone, Copy, PartialEq, Eq)]
 pub struct NlriRefusal {
     pub number: u8,
 }

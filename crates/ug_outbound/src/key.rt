@@ -3,7 +3,7 @@ use ug_policy::Filter;
 use ug_types::{Family, Name};
 
 /// What decides what goes out to a peer. Peers of equal keys are sent the same routes but for the next hop.
-#[derive(Debug, PartialEq, Eq, Drop)]
+#[derive(PartialEq, Eq, Drop)]
 pub struct GroupKey {
     pub kind: Kind,
     /// The family of the routes that it is sent.

@@ -4,7 +4,7 @@ ghost use Rattle.ug_outbound.specs.Keys.{ends_of};
 use ug_types::{Addr, Family, Name, PeerEnds, Prefix, RouterId, Sequence};
 
 /// A peer as it is configured, with its present policy.
-#[derive(Debug, Drop)]
+#[derive(Drop)]
 pub struct Peer {
     pub name: Name,
     /// Its AS: an internal peer has the local one.

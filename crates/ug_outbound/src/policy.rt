@@ -3,7 +3,7 @@ use ug_policy::{ListTable, MapTable};
 use ug_types::{Name, Named, Sequence};
 
 /// Which prefix list and which route map filter what a peer is sent.
-#[derive(Debug, PartialEq, Eq, Drop)]
+#[derive(PartialEq, Eq, Drop)]
 pub struct Policy {
     pub list: Option<Name>,
     pub map: Option<Name>,
@@ -15,7 +15,7 @@ pub type NamedPolicy = Named<Policy>;
 pub type PolicyTable = Sequence<NamedPolicy>;
 
 /// The prefix lists and the route maps, by name.
-#[derive(Debug, Drop)]
+#[derive(Drop)]
 pub struct Policies {
     pub lists: ListTable,
     pub maps: MapTable,

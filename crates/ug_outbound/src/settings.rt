@@ -1,7 +1,7 @@
 use ug_types::Addr;
 
 /// The speaker's own settings.
-#[derive(Clone, Copy, Debug, PartialEq, Eq)]
+#[derive(Clone, Copy, PartialEq, Eq)]
 pub struct Local {
     /// The local AS.
     pub asn: u32,

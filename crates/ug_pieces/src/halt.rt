@@ -1,7 +1,7 @@
 //! Why reading came to an end before its source did.
 
 /// Why a source was not read to its end. `S` is why what takes its bytes may stop.
-#[derive(Clone, Copy, Debug, PartialEq, Eq, Drop)]
+#[derive(Clone, Copy, PartialEq, Eq, Drop)]
 pub enum Halt<S> {
     /// The source could not be read.
     Read,

@@ -1,7 +1,7 @@
 //! Why reading lines came to an end before its source did.
 
 /// Why not all lines of a source were taken. `S` is why what takes them may stop.
-#[derive(Clone, Copy, Debug, PartialEq, Eq, Drop)]
+#[derive(Clone, Copy, PartialEq, Eq, Drop)]
 pub enum LineHalt<S> {
     /// The source could not be read.
     Read,

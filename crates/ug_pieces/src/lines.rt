@@ -9,7 +9,7 @@ use crate::line_halt::LineHalt;
 use ug_types::NoMemory;
 
 /// Why a line was not taken. `S` is why what takes them may stop.
-#[derive(Clone, Copy, Debug, PartialEq, Eq, Drop)]
+#[derive(Clone, Copy, PartialEq, Eq, Drop)]
 pub enum LineStop<S> {
     /// Memory ran out.
     NoMemory,

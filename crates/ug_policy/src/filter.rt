@@ -14,7 +14,7 @@ use ug_types::{NoMemory, Prefix};
 
 /// A peer's own filter: entries in ascending order of their sequence numbers, which are all different. Contracts see
 /// the entries.
-#[derive(Debug, Drop)]
+#[derive(Drop)]
 pub struct Filter {
     entries: EntryList,
 }

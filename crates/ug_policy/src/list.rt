@@ -14,7 +14,7 @@ use ug_types::{NoMemory, Prefix, Sequence};
 
 /// A prefix list: at most 1,024 good entries, in ascending order of their sequence numbers, which are all different.
 /// Contracts see the entries in that order.
-#[derive(Debug, Drop)]
+#[derive(Drop)]
 pub struct PrefixList {
     entries: EntryList,
 }

@@ -1,5 +1,5 @@
 /// Why there is no prefix list of some entries.
-#[derive(Clone, Copy, Debug, PartialEq, Eq)]
+#[derive(Clone, Copy, PartialEq, Eq)]
 pub enum ListRefusal {
     /// 1 two entries have one sequence number, 2 an entry isn't good, 3 there are over 1,024.
     Refused { number: u8 },

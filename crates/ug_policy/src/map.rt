@@ -26,7 +26,7 @@ pub type MapTable = Sequence<NamedMap>;
 
 /// A route map: at most 256 entries, in ascending order of their sequence numbers, which are all different, with
 /// gotos that lead ahead. Contracts see the entries in that order.
-#[derive(Debug, Drop)]
+#[derive(Drop)]
 pub struct RouteMap {
     entries: MapEntryList,
 }

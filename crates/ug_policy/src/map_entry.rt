@@ -1,7 +1,7 @@
 use ug_types::{Addr, Name, NumberList, Sequence};
 
 /// Where the walk goes on after a permit entry that is met.
-#[derive(Clone, Copy, Debug, PartialEq, Eq)]
+#[derive(Clone, Copy, PartialEq, Eq)]
 pub enum OnMatch {
     /// It ends.
     End,
@@ -13,7 +13,7 @@ pub enum OnMatch {
 
 /// An entry of a route map. It is met where all its matches hold. A met deny entry gives none, whatever it sets. A met
 /// permit entry does its sets, in the order of the fields.
-#[derive(Debug, Drop)]
+#[derive(Drop)]
 pub struct MapEntry {
     /// By these numbers the entries are tried, the lowest first.
     pub seq: u32,

@@ -6,7 +6,7 @@ use std::marker::Model;
 use ug_types::Sequence;
 
 /// One change of the list.
-#[derive(Clone, Copy, Debug)]
+#[derive(Clone, Copy)]
 pub struct OrfEntry {
     pub action: Action,
     /// The match bit: permit, or else deny.
@@ -32,7 +32,7 @@ pub type OrfList = Sequence<OrfEntry>;
 
 /// The changes in their order, and whether the peer asks for its routes at once (IMMEDIATE), or at its next request
 /// (DEFER).
-#[derive(Debug, Drop)]
+#[derive(Drop)]
 pub struct OrfMessage {
     pub now: bool,
     pub entries: OrfList,

@@ -9,7 +9,7 @@ use crate::lines::name_at;
 use ug_types::{Name, NoMemory, PeerId};
 
 /// A session that was lost: the place of its peer, and its number.
-#[derive(Clone, Copy, Debug, PartialEq, Eq)]
+#[derive(Clone, Copy, PartialEq, Eq)]
 pub struct Loss {
     pub peer: PeerId,
     pub session: u32,

@@ -6,7 +6,7 @@ ghost use Rattle.ug_report.specs.Statuses.{row_of, status_text, is_fixed};
 use ug_types::{ByteList, Key, PeerId};
 
 /// How a run ended: as it should, or for which cause.
-#[derive(Debug, PartialEq, Eq, Drop)]
+#[derive(PartialEq, Eq, Drop)]
 pub enum Status {
     /// All events were read, and no session was lost.
     Ok,

@@ -1,5 +1,5 @@
 /// Why a report tells nothing.
-#[derive(Clone, Copy, Debug, PartialEq, Eq)]
+#[derive(Clone, Copy, PartialEq, Eq)]
 pub enum Stop {
     /// Memory ran out.
     NoMemory,

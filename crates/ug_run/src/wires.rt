@@ -30,7 +30,7 @@ pub fn names_of(alloc: Global, world: &World) -> Result<NameList, NoMemory>
 }
 
 /// Why not all wires were made.
-#[derive(Clone, Copy, Debug, PartialEq, Eq)]
+#[derive(Clone, Copy, PartialEq, Eq)]
 pub enum Unmade {
     /// The site could not make one.
     Failed,

@@ -1,7 +1,7 @@
 //! What a lane's step answers, and what a round of steps does.
 
 /// What one step of a lane came to.
-#[derive(Clone, Copy, Debug, PartialEq, Eq)]
+#[derive(Clone, Copy, PartialEq, Eq)]
 pub enum Pumped {
     /// A session began, on the wire too.
     Begun,
@@ -17,7 +17,7 @@ pub enum Pumped {
 
 /// What a round of a lane came to: how many packets were handed out in its turn, and how it ended. It ends as a step does;
 /// at `Sent` all packets are sent, and there may be more.
-#[derive(Clone, Copy, Debug, PartialEq, Eq)]
+#[derive(Clone, Copy, PartialEq, Eq)]
 pub struct Round {
     pub packets: usize,
     pub end: Pumped,

@@ -19,7 +19,7 @@ use ug_turnstile::{Pass, Turnstile};
 use ug_types::PeerId;
 
 /// How a call of the wire went.
-#[derive(Clone, Copy, Debug, PartialEq, Eq)]
+#[derive(Clone, Copy, PartialEq, Eq)]
 pub(crate) enum Went {
     Well,
     /// It failed, and the loss of its session was asked of the board, which noted it or not.

@@ -22,7 +22,7 @@ const PACKETS_OF_A_TURN: usize = 8192;
 const LONGEST_MESSAGE: usize = 65535;
 
 /// What ended a turn of a lane.
-#[derive(Clone, Copy, Debug, PartialEq, Eq)]
+#[derive(Clone, Copy, PartialEq, Eq)]
 pub(crate) enum Ending {
     /// This session begins.
     Begun { session: u32 },
@@ -35,7 +35,7 @@ pub(crate) enum Ending {
 }
 
 /// What a turn of a lane came to.
-#[derive(Clone, Copy, Debug, PartialEq, Eq)]
+#[derive(Clone, Copy, PartialEq, Eq)]
 pub(crate) struct Taken {
     /// How many packets were handed out.
     pub packets: usize,
@@ -45,7 +45,7 @@ pub(crate) struct Taken {
 }
 
 /// What is next within a turn.
-#[derive(Clone, Copy, Debug, PartialEq, Eq)]
+#[derive(Clone, Copy, PartialEq, Eq)]
 pub(crate) enum Next {
     /// A packet, of which the open session gets so many bytes: none where it is of another session.
     Packet { len: usize },

@@ -14,7 +14,7 @@ use std::alloc::Global;
 use ug_types::{NoMemory, NumberList, Segment, SegmentList, Sequence};
 
 /// How the numbers of a list are spelled.
-#[derive(Clone, Copy, Debug, PartialEq, Eq)]
+#[derive(Clone, Copy, PartialEq, Eq)]
 pub enum Spelled {
     /// As one to ten decimal digits.
     Plain,

@@ -1,5 +1,5 @@
 /// A value that holds from a version on, until another does.
-#[derive(Debug, Drop)]
+#[derive(Drop)]
 pub struct Since<T> {
     pub version: u32,
     pub value: T,

@@ -5,7 +5,7 @@ use crate::family::Family;
 
 /// What a session was opened with (RFC 5492): the family of its routes (RFC 4760), whether they have path
 /// identifiers (ADD-PATH, RFC 7911), and whether extended messages are in use (RFC 8654).
-#[derive(Clone, Copy, Debug, PartialEq, Eq)]
+#[derive(Clone, Copy, PartialEq, Eq)]
 pub struct Capabilities {
     pub family: Family,
     pub add_path: bool,

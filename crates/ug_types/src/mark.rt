@@ -3,7 +3,7 @@ use crate::sequence::Sequence;
 
 /// How much a session was told at some time: the version of the world, the peer, the number of its session, counted
 /// from 1, and how many messages were handed out in it so far.
-#[derive(Clone, Copy, Debug, PartialEq, Eq)]
+#[derive(Clone, Copy, PartialEq, Eq)]
 pub struct Mark {
     pub version: u64,
     pub peer: PeerId,

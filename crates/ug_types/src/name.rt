@@ -10,7 +10,7 @@ use std::marker::Model;
 
 /// The name of a peer, a policy, a list or a map: 1 to 32 bytes of a to z, 0 to 9, `-` and `_`, the first of
 /// them a letter.
-#[derive(Debug, Drop)]
+#[derive(Drop)]
 pub struct Name {
     text: String,
 }

@@ -18,7 +18,7 @@ pub type PeerList = Sequence<PeerId>;
 
 /// Which next hop a route goes out with (RFC 4271 section 5.1.3): the one it has, the speaker's own address, its
 /// own unless the one it has lies in the subnet that both share, or the one that a policy fixed.
-#[derive(Clone, Copy, Debug, PartialEq, Eq, PartialOrd, Ord, Hash)]
+#[derive(Clone, Copy, PartialEq, Eq, PartialOrd, Ord, Hash)]
 pub enum NhKind {
     Keep,
     Own,
@@ -28,14 +28,14 @@ pub enum NhKind {
 
 /// The attributes of a route for all peers of equal outbound policy: NEXT_HOP is still the raw one, and the
 /// kind says which each peer is told.
-#[derive(Debug, PartialEq, Eq, PartialOrd, Ord, Hash, Drop)]
+#[derive(PartialEq, Eq, PartialOrd, Ord, Hash, Drop)]
 pub struct OutAttrs {
     pub attrs: Attrs,
     pub nh_kind: NhKind,
 }
 
 /// The ends of the link to a peer: its address, the speaker's own, and the subnet that both share.
-#[derive(Clone, Copy, Debug, PartialEq, Eq)]
+#[derive(Clone, Copy, PartialEq, Eq)]
 pub struct PeerEnds {
     pub address: Addr,
     pub local: Addr,
@@ -43,7 +43,7 @@ pub struct PeerEnds {
 }
 
 /// Where a path comes from: the speaker itself, an external peer, or an internal one with its router id.
-#[derive(Clone, Copy, Debug)]
+#[derive(Clone, Copy)]
 pub enum Learned {
     Local,
     External,
@@ -51,7 +51,7 @@ pub enum Learned {
 }
 
 /// A path to a prefix. Its attributes are shared with whoever has the same.
-#[derive(Debug, Drop)]
+#[derive(Drop)]
 pub struct Path {
     pub id: u32,
     pub learned: Learned,

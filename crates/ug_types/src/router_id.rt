@@ -6,7 +6,7 @@ use crate::address::Addr;
 use std::marker::Model;
 
 /// A BGP Identifier (RFC 4271 section 4.2): four bytes, written as an IPv4 address. Contracts see that address.
-#[derive(Clone, Copy, Debug)]
+#[derive(Clone, Copy)]
 pub struct RouterId {
     number: u32,
 }

@@ -8,7 +8,7 @@ use std::marker::Model;
 use std::sync::Arc;
 
 /// A value in memory that all its owners share, in whatever threads. Contracts see the value.
-#[derive(Debug, Drop)]
+#[derive(Drop)]
 pub struct Shared<T> {
     value: Arc<T>,
 }

@@ -14,7 +14,7 @@ use ug_types::{Key, NoMemory, Shared};
 
 /// A message at which the place of a key's climb moves, counted from 1, and the place that it moves to, counted from the
 /// empty table before the session.
-#[derive(Clone, Copy, Debug)]
+#[derive(Clone, Copy)]
 pub struct Move {
     pub message: u64,
     pub place: u32,
@@ -30,7 +30,7 @@ pub struct Climbs {
 }
 
 /// A key that was named, the number of its last move, and the place behind it.
-#[derive(Clone, Copy, Debug)]
+#[derive(Clone, Copy)]
 pub struct Named {
     pub key: Key,
     pub moved: usize,

@@ -1,5 +1,5 @@
 /// A version from which on a key has another value. The key is told by its place in the course.
-#[derive(Clone, Copy, Debug)]
+#[derive(Clone, Copy)]
 pub struct Dated {
     pub version: u32,
     pub place: usize,

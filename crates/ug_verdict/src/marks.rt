@@ -10,7 +10,7 @@ use ug_hearing::{Standings, passed};
 use ug_types::Key;
 
 /// The least and the greatest version of some marks.
-#[derive(Clone, Copy, Debug)]
+#[derive(Clone, Copy)]
 pub struct Span {
     pub first: u64,
     pub last: u64,

@@ -7,7 +7,7 @@ use std::marker::Model;
 use ug_types::{NoMemory, Path};
 
 /// The paths of a prefix, the best first. Contracts see the list of them.
-#[derive(Debug, Drop)]
+#[derive(Drop)]
 pub struct Best {
     alloc: Global,
     paths: Vec<Path>,

@@ -17,7 +17,7 @@ use ug_policy::{OrfMessage, find_named};
 use ug_types::{Name, Prefix};
 
 /// Why an event is refused.
-#[derive(Clone, Copy, Debug, PartialEq, Eq)]
+#[derive(Clone, Copy, PartialEq, Eq)]
 pub struct Refusal {
     pub number: u8,
 }

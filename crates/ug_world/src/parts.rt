@@ -2,7 +2,7 @@ use ug_outbound::{Local, PeerTable, PolicyTable};
 use ug_policy::{ListTable, MapTable};
 
 /// What a world is made of: settings, lists, maps, policies, and peers in configured order.
-#[derive(Debug, Drop)]
+#[derive(Drop)]
 pub struct WorldParts {
     pub local: Local,
     pub lists: ListTable,

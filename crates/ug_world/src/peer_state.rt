@@ -2,7 +2,7 @@ use ug_outbound::Peer;
 use ug_policy::Filter;
 
 /// A peer with what its sessions made of it.
-#[derive(Debug, Drop)]
+#[derive(Drop)]
 pub struct PeerState {
     pub peer: Peer,
     pub up: bool,

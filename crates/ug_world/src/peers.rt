@@ -15,7 +15,7 @@ use ug_policy::OrfMessage;
 use ug_types::{Name, NoMemory};
 
 /// At most 64 peers, each of another name, in configured order. Contracts see the list of them.
-#[derive(Debug, Drop)]
+#[derive(Drop)]
 pub struct Peers {
     seats: Vec<PeerState>,
 }
