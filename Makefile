@@ -23,7 +23,8 @@ build:
 # Proves and tries the crates that changed since the last commit.
 check:
 	@changed=$$(git status --porcelain -- crates | sed -E 's#^.. ("?crates/[^>]*-> )?"?crates/([^/]*)/.*#\2#' | sort -u | while read -r c; do [ -d "crates/$$c/src" ] && echo "$$c"; done); \
-	if [ -n "$$changed" ]; then rt ci $$changed; else echo "no crate changed"; fi
+	for crate in $$changed; do (cd "crates/$$crate" && rt check) || exit 1; done; \
+	if [ -n "$$changed" ]; then rt must-fail $$changed; else echo "no crate changed"; fi
 
 # Runs an example by an unproved build of the same sources, which takes some minutes and isn't kept. Of `first` it shows the
 # report and the bytes of the session; of one of examples/configurations (make demo NAME=route-server) the report and then

@@ -7,7 +7,12 @@ work=$(mktemp -d)
 trap 'rm -rf "$work"' EXIT
 names=$(sed -n 's/^\(ug_[a-z_]*\):.*/\1/p' oracles/list)
 if [ "$1" = prove ]; then
-    tests/lay.sh "$work/copy" src specs proofs must-fail && cd "$work/copy" && rt ci $names
+    tests/lay.sh "$work/copy" src specs proofs must-fail || exit
+    for name in $names; do
+        (cd "$work/copy/crates/$name" && rt check) || exit
+        ! grep -rq '#\[test\]' "oracles/$name/src" || (cd "$work/copy/crates/$name" && rt test) || exit
+    done
+    cd "$work/copy" && rt must-fail $names
     exit
 fi
 tests/lay.sh "$work/copy" src specs
