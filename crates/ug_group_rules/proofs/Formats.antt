@@ -5,10 +5,9 @@ use Rattle.std.specs.Option.{option_eq}
 use Rattle.std.specs.BTreeMap.{is_at}
 use Rattle.ug_types.specs.declared.key.Key.{Key}
 use Rattle.ug_types.specs.declared.route.OutAttrs.{OutAttrs}
-use Rattle.ug_types.specs.contracts.route.OutAttrsOrd.TheImpl.Laws as out_ord
 use Rattle.ug_types.specs.contracts.route.OutAttrsEq.TheImpl.Laws as out_laws
 use Rattle.ug_types.specs.Keys.{weight_of}
-use Rattle.ug_types.proofs.Orders.{out_order, out_same, is_eq-is}
+use Rattle.ug_types.proofs.Same.{outs_same}
 use Rattle.ug_history_rules.specs.Deeds.{Each}
 use Rattle.ug_outbound.specs.declared.key.GroupKey.{GroupKey}
 use Rattle.ug_outbound.specs.Keys.{limit_of}
@@ -27,7 +26,7 @@ use Rattle.ug_group_rules.proofs.Tables.{row_at}
 -- ---- attributes that are equal
 
 pub same-out : (a b : OutAttrs) → same_out a b ≡ true → a ≡ b
-same-out a b e = out_same a b (sym (out_order a b) ∙ is_eq-is _ (sym (out_ord.lawful.matches_eq a b) ∙ e))
+same-out a b e = outs_same a b e
 
 pub out-same : (a : OutAttrs) → same_out a a ≡ true
 out-same a = out_laws.lawful.laws.refl a

@@ -5,8 +5,7 @@ use Rattle.std.proofs.lemmas.Bool.{eqb-true}
 use Rattle.ug_types.specs.declared.route.OutAttrs.{OutAttrs}
 use Rattle.ug_intern.specs.Pools.{Held, Pooled, held, uses_of, value_of, IsSame}
 use Rattle.ug_group_rules.specs.Packets.{same_out}
-use Rattle.ug_types.proofs.Orders.{out_order, out_same, is_eq-is}
-use Rattle.ug_types.specs.contracts.route.OutAttrsOrd.TheImpl.Laws as out_ord
+use Rattle.ug_types.proofs.Same.{outs_same}
 use Rattle.ug_groups.specs.Values.{value_in}
 use Rattle.ug_groups.specs.Holders.{one_at}
 use Rattle.ug_groups.specs.Entries.{Entries, rows_in, IsKept}
@@ -14,7 +13,7 @@ use Rattle.ug_groups.proofs.Accounts.{rows_same, live_in}
 
 -- attributes that are equal are the same
 same-out : (a b : OutAttrs) → same_out a b ≡ true → a ≡ b
-same-out a b e = out_same a b (sym (out_order a b) ∙ is_eq-is _ (sym (out_ord.lawful.matches_eq a b) ∙ e))
+same-out a b e = outs_same a b e
 
 -- the id of an equal value stands for the value itself
 pub taken_value : (old new : Pooled OutAttrs) (id : ℕ) (value : OutAttrs) → IfSome (held old id) (λ x. (same_out value x.value ≡ true) × (value_in new id ≡ Some x.value)) → IfNone (held old id) (value_in new id ≡ Some value) → value_in new id ≡ Some value

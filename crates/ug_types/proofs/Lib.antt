@@ -1,4 +1,4 @@
 pub mod NameText
 pub mod BareLemmas
-pub mod Orders
+pub mod Same
 pub mod Routers

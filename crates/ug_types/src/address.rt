@@ -5,7 +5,7 @@ use crate::family::Family;
 use std::marker::Model;
 
 /// An address, left aligned as in a prefix: of an IPv4 one the bits past the 32nd are zero.
-#[derive(Clone, Copy, PartialEq, Eq, PartialOrd, Ord, Hash)]
+#[derive(Clone, Copy, PartialEq, Eq, Hash)]
 pub struct Addr {
     pub family: Family,
     pub bits: u128,

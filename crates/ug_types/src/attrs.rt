@@ -11,7 +11,7 @@ use std::alloc::Global;
 use std::marker::Model;
 
 /// A segment of AS_PATH: an AS_SET, or else an AS_SEQUENCE.
-#[derive(PartialEq, Eq, PartialOrd, Ord, Hash, Drop)]
+#[derive(PartialEq, Eq, Hash, Drop)]
 pub struct Segment {
     pub is_set: bool,
     pub numbers: NumberList,
@@ -20,14 +20,14 @@ pub struct Segment {
 pub type SegmentList = Sequence<Segment>;
 
 /// AGGREGATOR: who made the route out of more specific ones.
-#[derive(Clone, Copy, PartialEq, Eq, PartialOrd, Ord, Hash)]
+#[derive(Clone, Copy, PartialEq, Eq, Hash)]
 pub struct Aggregator {
     pub asn: u32,
     pub addr: Addr,
 }
 
 /// The attributes of a path, as they come.
-#[derive(PartialEq, Eq, PartialOrd, Ord, Hash, Drop)]
+#[derive(PartialEq, Eq, Hash, Drop)]
 pub struct AttrParts {
     /// ORIGIN: 0 IGP, 1 EGP, 2 INCOMPLETE.
     pub origin: u8,

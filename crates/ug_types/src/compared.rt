@@ -3,16 +3,11 @@
 ghost use Rattle.std.specs.Prelude.{Some, refl, nat_eq};
 ghost use Rattle.std.specs.Ordering.{nat_cmp};
 ghost use Rattle.std.specs.Cmp as laws;
-ghost use Rattle.std.specs.Cmp.{on_equiv, on_total, on_po, on_per};
+ghost use Rattle.std.specs.Cmp.{on_equiv, on_per};
 ghost use Rattle.std.specs.Cmp.Lexicographic.{pointwise, slice_cmp, nat_list_eq_equiv, nat_list_cmp_total, texts_ties, texts_po};
-ghost use Rattle.std.specs.Hash as fed;
 ghost use Rattle.std.specs.Hash.{on_Alike};
-ghost use Rattle.std.specs.Cmp.Rules.{hashing};
-ghost use Rattle.std.proofs.Common.{rules};
 ghost use Rattle.ug_types.specs.contracts.attrs.AttrPartsPartialEq.TheImpl.Laws as equal;
 ghost use Rattle.ug_types.specs.contracts.attrs.AttrPartsEq.TheImpl.Laws as equivalent;
-ghost use Rattle.ug_types.specs.contracts.attrs.AttrPartsPartialOrd.TheImpl.Laws as partial;
-ghost use Rattle.ug_types.specs.contracts.attrs.AttrPartsOrd.TheImpl.Laws as ordered;
 ghost use Rattle.ug_types.specs.contracts.attrs.AttrPartsHash.TheImpl.Laws as hashed;
 ghost use Rattle.ug_types.specs.Bare.{bare_parts};
 
@@ -33,30 +28,6 @@ impl PartialEq for Attrs {
 
 impl Eq for Attrs {
     ghost laws = { on_equiv bare_parts equivalent.lawful.laws };
-}
-
-impl PartialOrd for Attrs {
-    ghost partial_cmp = { λ a b. ⟦<AttrParts as PartialOrd>⟧.partial_cmp (bare_parts a) (bare_parts b) };
-
-    ghost laws = { on_po bare_parts partial.lawful.laws };
-
-    fn partial_cmp(&self, other: &Self) -> Option<Ordering> {
-        self.parts().partial_cmp(other.parts())
-    }
-}
-
-impl Ord for Attrs {
-    ghost cmp = { λ a b. ⟦<AttrParts as Ord>⟧.cmp (bare_parts a) (bare_parts b) };
-
-    ghost total = { on_total bare_parts ordered.lawful.total };
-
-    ghost matches_partial_cmp = { λ a b. ordered.lawful.matches_partial_cmp (bare_parts a) (bare_parts b) };
-
-    ghost matches_eq = { λ a b. ordered.lawful.matches_eq (bare_parts a) (bare_parts b) };
-
-    fn cmp(&self, other: &Self) -> Ordering {
-        self.parts().cmp(other.parts())
-    }
 }
 
 impl Hash for Attrs {
@@ -104,15 +75,5 @@ impl Ord for Name {
 
     fn cmp(&self, other: &Self) -> Ordering {
         self.text().cmp(other.text())
-    }
-}
-
-impl Hash for Name {
-    ghost hash_input = { fed.str };
-
-    ghost respects_eq = { Prim.search (hashing, rules) };
-
-    fn hash<H: Hasher>(&self, state: &mut H) {
-        self.text().hash(state);
     }
 }

@@ -4,7 +4,7 @@ ghost use Rattle.ug_types.specs.Keys.{weight_of};
 use crate::prefix::Prefix;
 
 /// A route's key: its prefix, and its path identifier (RFC 7911), which is 0 without ADD-PATH.
-#[derive(Clone, Copy, PartialEq, Eq, PartialOrd, Ord, Hash)]
+#[derive(Clone, Copy, PartialEq, Eq, PartialOrd, Ord)]
 pub struct Key {
     pub prefix: Prefix,
     pub id: u32,

@@ -4,7 +4,7 @@ ghost use Rattle.std.specs.Prelude.{◌≡◌, ◌↔◌, List, ℕ, IsTrue};
 ghost use Rattle.ug_types.specs.Ip.{IpPrefix};
 ghost use Rattle.ug_types.specs.Keys.{prefix_cmp, same_prefix, same_key};
 ghost use Rattle.ug_types.specs.Attributes.{Attributes};
-ghost use Rattle.ug_types.specs.Orders.{key_cmp, name_cmp, attributes_cmp, out_cmp};
+ghost use Rattle.ug_types.specs.Orders.{key_cmp, name_cmp};
 ghost use Rattle.ug_types.specs.declared.key.Key.{Key};
 ghost use Rattle.ug_types.specs.declared.route.OutAttrs.{OutAttrs};
 
@@ -25,13 +25,11 @@ pub fn comparison_laws()
     ensures same_keys { (a b : Key) → IsTrue (same_key a b) ↔ (a ≡ b) }
 {}
 
-/// Names, attributes and what goes out are equal exactly where their values are, and order by one part after the
-/// other: names as the lists of their bytes, attributes in the order of their types.
+/// Names, attributes and what goes out are equal exactly where their values are, and names order as the lists of
+/// their bytes.
 pub fn value_laws()
     ensures names { (a b : List ℕ) → IsTrue (⟦<Name as PartialEq>⟧.eq a b) ↔ (a ≡ b) }
     ensures name_order { (a b : List ℕ) → ⟦<Name as Ord>⟧.cmp a b ≡ name_cmp a b }
     ensures attributes { (a b : Attributes) → IsTrue (⟦<Attrs as PartialEq>⟧.eq a b) ↔ (a ≡ b) }
-    ensures attribute_order { (a b : Attributes) → ⟦<Attrs as Ord>⟧.cmp a b ≡ attributes_cmp a b }
     ensures outs { (a b : OutAttrs) → IsTrue (⟦<RouteAttrs as PartialEq>⟧.eq a b) ↔ (a ≡ b) }
-    ensures out_order { (a b : OutAttrs) → ⟦<RouteAttrs as Ord>⟧.cmp a b ≡ out_cmp a b }
 {}

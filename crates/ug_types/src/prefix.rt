@@ -6,7 +6,7 @@ use std::marker::Model;
 
 /// A prefix: an address, left aligned, of which the first `len` bits count. The bits past them are zero.
 /// Prefixes order by family, bits, length.
-#[derive(Clone, Copy, PartialEq, Eq, PartialOrd, Ord, Hash)]
+#[derive(Clone, Copy, PartialEq, Eq, PartialOrd, Ord)]
 pub struct Prefix {
     pub family: Family,
     pub bits: u128,

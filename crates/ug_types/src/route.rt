@@ -18,7 +18,7 @@ pub type PeerList = Sequence<PeerId>;
 
 /// Which next hop a route goes out with (RFC 4271 section 5.1.3): the one it has, the speaker's own address, its
 /// own unless the one it has lies in the subnet that both share, or the one that a policy fixed.
-#[derive(Clone, Copy, PartialEq, Eq, PartialOrd, Ord, Hash)]
+#[derive(Clone, Copy, PartialEq, Eq, Hash)]
 pub enum NhKind {
     Keep,
     Own,
@@ -28,7 +28,7 @@ pub enum NhKind {
 
 /// The attributes of a route for all peers of equal outbound policy: NEXT_HOP is still the raw one, and the
 /// kind says which each peer is told.
-#[derive(PartialEq, Eq, PartialOrd, Ord, Hash, Drop)]
+#[derive(PartialEq, Eq, Hash, Drop)]
 pub struct OutAttrs {
     pub attrs: Attrs,
     pub nh_kind: NhKind,

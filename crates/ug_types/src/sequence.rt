@@ -5,8 +5,8 @@ ghost use Rattle.std.specs.Vec.{vec_len, vec_capacity};
 ghost use Rattle.std.specs.Borrow.{sem, Lends};
 ghost use Rattle.std.specs.Fn.{CalledAt};
 ghost use Rattle.std.specs.List.Retain.{IsFiltered};
-ghost use Rattle.std.specs.Cmp.{on_equiv, on_total, on_po, on_per};
-ghost use Rattle.std.specs.Cmp.Lexicographic.{pointwise, slice_cmp, slice_partial_cmp, lists_equiv, lists_agrees, lists_total, lists_ties, lists_po, lists_per};
+ghost use Rattle.std.specs.Cmp.{on_equiv, on_per};
+ghost use Rattle.std.specs.Cmp.Lexicographic.{pointwise, lists_equiv, lists_per};
 ghost use Rattle.std.specs.Hash as fed;
 ghost use Rattle.std.specs.Hash.{on_Alike, items_Alike};
 ghost use Rattle.ug_types.specs.Listed.{Listed};
@@ -14,7 +14,6 @@ ghost use Rattle.ug_types.specs.contracts.sequence.Sequence.{the_row};
 
 use crate::memory::NoMemory;
 use std::alloc::Global;
-use std::cmp::Ordering;
 use std::hash::{Hash, Hasher};
 use std::marker::Model;
 
@@ -209,30 +208,6 @@ impl<T: PartialEq> PartialEq for Sequence<T> {
 
 impl<T: Eq> Eq for Sequence<T> {
     ghost laws = { on_equiv (λ x. x.items) (lists_equiv T.Eq.laws) };
-}
-
-impl<T: PartialOrd> PartialOrd for Sequence<T> {
-    ghost partial_cmp = { λ x y. slice_partial_cmp T.partial_cmp x.items y.items };
-
-    ghost laws = { on_po (λ x. x.items) (lists_po T.PartialOrd.laws) };
-
-    fn partial_cmp(&self, other: &Self) -> Option<Ordering> {
-        self.items.partial_cmp(&other.items)
-    }
-}
-
-impl<T: Ord> Ord for Sequence<T> {
-    ghost cmp = { λ x y. slice_cmp T.cmp x.items y.items };
-
-    ghost total = { on_total (λ x. x.items) (lists_total T.total) };
-
-    ghost matches_partial_cmp = { λ x y. lists_agrees T.matches_partial_cmp x.items y.items };
-
-    ghost matches_eq = { λ x y. lists_ties T.cmp T.matches_eq x.items y.items };
-
-    fn cmp(&self, other: &Self) -> Ordering {
-        self.items.cmp(&other.items)
-    }
 }
 
 impl<T: Hash> Hash for Sequence<T> {
