@@ -37,7 +37,6 @@ pub fn are_tables(values: &[Value]) -> bool
 }
 
 /// Whole numbers from 1 to 4294967295.
-#[tactic(auto, using(crate::proofs::Elements::each_more))]
 pub fn numbers_in(alloc: Global, values: &[Value]) -> Result<Option<Items<u32>>, NoMemory>
     ensures { IfOk result (λ numbers. numbers ≡ each (number_in 1 4294967295) (map view values.now)) }
 {
@@ -52,7 +51,6 @@ pub fn numbers_in(alloc: Global, values: &[Value]) -> Result<Option<Items<u32>>,
 }
 
 /// Communities.
-#[tactic(auto, using(crate::proofs::Elements::each_more))]
 pub fn communities_in(alloc: Global, values: &[Value]) -> Result<Option<Items<u32>>, NoMemory>
     ensures { IfOk result (λ numbers. numbers ≡ each community_in (map view values.now)) }
 {

@@ -4,7 +4,7 @@ ghost use Rattle.std.specs.Prelude.{map, List, ℕ};
 ghost use Rattle.toml.specs.Data.{Data};
 ghost use Rattle.toml.specs.View.{view};
 ghost use Rattle.ug_fields.specs.Gives.{Gives, GivesItems};
-ghost use Rattle.ug_fields.specs.Reads.{Reads, each_table};
+ghost use Rattle.ug_fields.specs.Reads.{Reads, way_into, each_table};
 
 use crate::refusals::ConfigRefusal;
 use std::alloc::Global;
@@ -21,8 +21,20 @@ pub trait TableReader {
         ensures { Gives result (reading way.now (view table.now)) };
 }
 
+/// What the table at a place of an array says. The way leads to the array.
+fn read_at<T: TableReader>(
+    alloc: Global,
+    array: &str,
+    place: usize,
+    table: &Value,
+) -> Result<T::Item, ConfigRefusal>
+    ensures { Gives result (T.reading (way_into array.now place) (view table.now)) }
+{
+    let way = format!(in alloc; "{array}.{place}.")?;
+    T::read(alloc, way.as_str(), table)
+}
+
 /// What each table of an array says. The way leads to the array.
-#[tactic(auto, using(crate::proofs::Reading::table_more, crate::proofs::Reading::table_refused, crate::proofs::Reading::behind_nothing))]
 pub fn read_each<T: TableReader>(
     alloc: Global,
     array: &str,
@@ -33,8 +45,7 @@ pub fn read_each<T: TableReader>(
     let mut read = Vec::with_capacity(alloc, tables.len())?;
     let mut place: usize = 0;
     for table in tables {
-        let way = format!(in alloc; "{array}.{place}.")?;
-        let one = T::read(alloc, way.as_str(), table)?;
+        let one = read_at::<T>(alloc, array, place, table)?;
         read.push(one)?;
         place += 1;
     }

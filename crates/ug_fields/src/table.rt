@@ -36,7 +36,6 @@ pub fn read_table(
     Ok(fields)
 }
 
-#[tactic(auto, using(crate::proofs::Reading::read_more, crate::proofs::Reading::refused_on, crate::proofs::Reading::behind_nothing))]
 fn read_rows(
     alloc: Global,
     own: Family,
@@ -54,7 +53,6 @@ fn read_rows(
     Ok(fields)
 }
 
-#[tactic(auto, unfolding(crate::specs::Tables::entry))]
 fn read_row(
     alloc: Global,
     own: Family,
