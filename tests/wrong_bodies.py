@@ -39,9 +39,12 @@ class Edit:
             return None
         indent, name = starts[-1]
         if indent:
-            trait, kind = re.findall(r"^impl(?:<.*?>)? (?:(?:\w+::)*(\w+)(?:<.*>)? for )?(\w+)", before, re.M)[-1]
+            params, trait, kind, given = re.findall(
+                r"^impl(<.*?>)? (?:(?:\w+::)*(\w+)(?:<.*>)? for )?(\w+)(?:<(\w+)>)?", before, re.M
+            )[-1]
             path = path if trait else self.module(self.home_of(kind))
-            path.append(kind + trait)
+            # Methods for one type's argument alone have it in their name.
+            path.append(kind + trait + (f"+{given}" if given and not params and not trait else ""))
         return "::".join([*path, name])
 
     def module(self, file):

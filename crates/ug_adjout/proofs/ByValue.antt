@@ -19,11 +19,14 @@ use Rattle.std.proofs.lemmas.Bool.Decides.{nat_tests}
 use Rattle.std.proofs.lemmas.Cmp.{tied_itself}
 use Rattle.ug_adjout_rules.specs.Tables.{value_at, IsTable}
 use Rattle.ug_adjout_rules.specs.Formatting.{fitting}
+use Rattle.ug_adjout.specs.declared.seat.Seat.{Seat}
 use Rattle.ug_adjout.specs.declared.slot.Slot.{Slot}
 use Rattle.ug_adjout.specs.declared.waiting.Waiting.{Waiting}
+use Rattle.ug_adjout.specs.Seats.{key_of}
 use Rattle.ug_adjout.specs.Waits.{waiting_keys, keys_for}
 use Rattle.ug_adjout.specs.Stored.{projected, projected_with, of_row}
 use Rattle.ug_adjout.specs.Places.{slot_cmp, key_for, IsIndexed, of_value}
+use Rattle.ug_adjout.proofs.Handles.{named_with, keys_at}
 use Rattle.ug_adjout.proofs.Lists.{sorted_projected, value_at-projected}
 use Rattle.ug_adjout.proofs.Slots.{slot, option_exact, tied, same_value, itself, at_slot, with_true}
 use Rattle.ug_adjout_rules.proofs.SameTables.{same_table}
@@ -192,12 +195,25 @@ pub other_first : {K : Type 0} (v : Option ℕ) (e : Slot × K) (rest range : Li
 other_first v e rest range step own = sym (ap (λ l. slice_get (map (λ x. x.1) (of_value v l)) 0) step ∙ ap (λ b. slice_get (map (λ x. x.1) (cond b (e ∷ of_value v rest) [])) 0) own)
 
 -- a key more is taken
-pub taken : {K : Type 0} (weigh : K → ℕ) (keys whole now : List K) (left after : ℕ) (v : Option ℕ) (e : Slot × K) (rest iter : List (Slot × K))
-    → iter ≡ e ∷ rest → option_eq nat_eq e.0.value v ≡ true → nat_le (weigh e.1) left ≡ true → after ≡ left - weigh e.1 → now ≡ keys ++ e.1 ∷ []
-    → keys ++ fitting weigh left (map (λ x. x.1) (of_value v iter)) ≡ whole → now ++ fitting weigh after (map (λ x. x.1) (of_value v rest)) ≡ whole
-taken weigh keys whole now left after v e rest iter step own fits is put h =
-    let more = map (λ x. x.1) (of_value v rest) in
-    ap (λ l. l ++ fitting weigh after more) put ∙ append_assoc keys (e.1 ∷ []) (fitting weigh after more) ∙ ap (λ n. keys ++ e.1 ∷ fitting weigh n more) is
-    ∙ sym (ap (λ b. keys ++ cond b (e.1 ∷ fitting weigh (left - weigh e.1) more) []) fits)
-    ∙ sym (ap (λ b. keys ++ fitting weigh left (map (λ x. x.1) (cond b (e ∷ of_value v rest) []))) own)
-    ∙ sym (ap (λ l. keys ++ fitting weigh left (map (λ x. x.1) (of_value v l))) step) ∙ h
+module _ {K : Type 0} (weigh : K → ℕ) (at : ℕ → Option (Seat K)) (keys whole : List K) (left : ℕ) (v : Option ℕ) (e : Slot × ℕ) (rest iter : List (Slot × ℕ))
+    (step : iter ≡ e ∷ rest) (own : option_eq nat_eq e.0.value v ≡ true) (h : keys ++ fitting weigh left (keys_at at (map (λ x. x.1) (of_value v iter))) ≡ whole) where
+  abbrev more : List K
+  more = keys_at at (map (λ x. x.1) (of_value v rest))
+
+  here : keys_at at (map (λ x. x.1) (of_value v iter)) ≡ named_with at (at e.1) more
+  here = ap (λ l. keys_at at (map (λ x. x.1) (of_value v l))) step ∙ ap (λ b. keys_at at (map (λ x. x.1) (cond b (e ∷ of_value v rest) []))) own
+
+  named_here : (key : K) → key_of (at e.1) ≡ Some key → keys_at at (map (λ x. x.1) (of_value v iter)) ≡ key ∷ more
+  named_here key is = here ∙ by (at e.1) is
+    where
+      same_key : (a b : K) → Some a ≡ Some b → a ≡ b
+      same_key a b t = cc
+
+      by : (o : Option (Seat K)) → key_of o ≡ Some key → named_with at o more ≡ key ∷ more
+      by None t = absurd cc
+      by (Some seat) t = ap (λ k. k ∷ more) (same_key seat.key key t)
+
+  pub taken : (key : K) (now : List K) (after : ℕ) → key_of (at e.1) ≡ Some key → nat_le (weigh key) left ≡ true → after ≡ left - weigh key → now ≡ keys ++ key ∷ [] → now ++ fitting weigh after more ≡ whole
+  taken key now after is fits less put =
+      ap (λ l. l ++ fitting weigh after more) put ∙ append_assoc keys (key ∷ []) (fitting weigh after more) ∙ ap (λ n. keys ++ key ∷ fitting weigh n more) less
+      ∙ sym (ap (λ b. keys ++ cond b (key ∷ fitting weigh (left - weigh key) more) []) fits) ∙ ap (λ l. keys ++ fitting weigh left l) (sym (named_here key is)) ∙ h

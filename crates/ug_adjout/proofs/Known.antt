@@ -2,6 +2,7 @@
 use Rattle.std.proofs.Common.{◌≡◌, ℕ, Bool, true, false, ◌||◌, List, [], ◌∷◌, Option, Some, None, refl, sym, ap, ◌∙◌}
 use Rattle.std.specs.Prelude.{nat_eq, is_some}
 use Rattle.std.specs.List.{IsDistinct}
+use Rattle.std.specs.List.Sorted.{IsStrictlySortedBy}
 use Rattle.std.specs.Ordering.{nat_cmp, eq_by_cmp}
 use Rattle.std.specs.Map.{keys_of}
 use Rattle.std.specs.Cmp.{IsTotalOrder, nat_cmp_total}
@@ -79,3 +80,15 @@ module _ {K : Type 0} {cmp : K → K → Ordering} (total : IsTotalOrder cmp) (e
             ap (λ o. is_some o || is_some (value_at cmp adj.desired q)) (formatted_at total exact rows waiting next s q ∙ ap (of_row formatted_of) at)
             ∙ ap (λ o. is_some row.formatted || is_some o) (desired_at total exact rows waiting next s q ∙ ap (of_row desired_of) at)
             ∙ shown_row row row.change refl (s.sound q row at)
+
+-- and of the one without rows
+pub nothing_stored : {K : Type 0} {cmp : K → K → Ordering} → IsStored cmp [] [] 0
+unfolding IsStrictlySortedBy
+nothing_stored = record {
+  ordered = tt;
+  in_line = tt;
+  sound = λ key row e. absurd cc;
+  listed = λ key row change e h. absurd cc;
+  known = λ place w e. absurd cc;
+  before = λ place w e. absurd cc;
+}

@@ -14,3 +14,5 @@ pub mod Values
 pub mod Counts
 pub mod Numbers
 pub mod Stepped
+pub mod Handles
+pub mod Seated

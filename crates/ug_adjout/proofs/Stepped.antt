@@ -1,52 +1,32 @@
 -- One step of a key.
-use Rattle.std.proofs.Common.{◌≡◌, inl, inr, ℕ, ◌+◌, Bool, true, false, cond, List, [], ◌∷◌, Option, Some, None, refl, sym, ap, subst, ◌∙◌, arith}
-use Rattle.std.specs.Prelude.{is_some, IsSome, IfSome, OnErr, nat_eq, if◌then◌else◌}
+use Rattle.std.proofs.Common.{◌≡◌, inl, inr, ℕ, ◌+◌, Bool, true, false, List, Option, Some, None, refl, sym, ap, subst, ◌∙◌, arith}
+use Rattle.std.specs.Prelude.{is_some, IsSome, IfSome, nat_eq, if◌then◌else◌}
 use Rattle.std.specs.Option.{option_eq}
-use Rattle.std.specs.declared.result.Result.{Result}
-use Rattle.std.specs.declared.result.Result.TheVariants.{Ok, Err}
-use Rattle.std.specs.List.{AllByRecursion}
-use Rattle.std.specs.Ordering.{nat_cmp, is_eq, match_ordering}
-use Rattle.std.specs.Map.{lookup, set_value, remove_entry, keys_of}
+use Rattle.std.specs.Ordering.{nat_cmp}
+use Rattle.std.specs.Map.{remove_entry}
 use Rattle.std.specs.BTreeMap.{insert_entry, is_at}
 use Rattle.std.specs.Cmp.{IsTotalOrder}
 use Rattle.std.specs.FinMap.{IsAntisymmetric}
 use Rattle.std.specs.declared.cmp.Ordering.{Ordering}
-use Rattle.std.specs.declared.cmp.Ordering.TheVariants.{Less, Equal, Greater}
-use Rattle.std.proofs.lemmas.Bool.{cond-true, cond-false}
-use Rattle.std.proofs.lemmas.Map.Keys.{sorted_head, sorted_tail}
-use Rattle.ug_adjout_rules.specs.Tables.{value_at, with_value, IsTable}
-use Rattle.ug_adjout_rules.specs.TableLaws.{below_all, none_above, with_value-same}
+use Rattle.ug_adjout_rules.specs.Tables.{value_at, with_value}
+use Rattle.ug_adjout_rules.specs.TableLaws.{with_value-same}
 use Rattle.ug_adjout_rules.specs.Pending.{with_desired, with_formatted}
 use Rattle.ug_adjout.specs.declared.row.Row.{Row}
 use Rattle.ug_adjout.specs.declared.row.Change.{Change}
 use Rattle.ug_adjout.specs.declared.waiting.Waiting.{Waiting}
 use Rattle.ug_adjout.specs.declared.step.Step.{Step}
 use Rattle.ug_adjout.specs.declared.step.Step.TheVariants.{Want, Format}
+use Rattle.ug_adjout.specs.Seats.{HaveRows}
 use Rattle.ug_adjout.specs.Stored.{IsStored, IsRow, IsRowBy, IsFree, is_owed, is_forced, pends, of_row, formatted_of, desired_of, with_change, quiet, adj_of}
 use Rattle.ug_adjout.specs.Stepped.{known, makes_row, wanted_by, formatted_by, stepped, wanted_in, formatted_in, lined, IsReadyBy, IsReady}
 use Rattle.ug_adjout.proofs.Steps.{Agree, IsSound, stored, next_free, agree_free, agree_listed, place_before}
 use Rattle.ug_adjout.proofs.Views.{option_same, idle_owes, idle_desired, waiting_desired, pends_none, pends_quiet, want_same, want_begin, want_change, want_end, view_formatted, keys_end}
 
--- ---- a value is written where its key is
-
-module _ {K V : Type 0} {cmp : K → K → Ordering} (total : IsTotalOrder cmp) (exact : IsAntisymmetric cmp) where
-  write_step : (r : Ordering) (key : K) (v : V) (e : K × V) (es written rest : List (K × V)) → cmp key e.0 ≡ r → AllByRecursion (λ y. cmp e.0 y ≡ Less) (keys_of es)
-      → is_some (lookup (is_at (cmp key)) (e ∷ es)) ≡ true → (is_some (lookup (is_at (cmp key)) es) ≡ true → written ≡ rest)
-      → cond (is_at (cmp key) e.0) ((e.0, v) ∷ es) (e ∷ written) ≡ match_ordering r ((key, v) ∷ e ∷ es) ((e.0, v) ∷ es) (e ∷ rest)
-  write_step Less key v e es written rest at above some h =
-      absurd (let z = sym (ap is_some (none_above total exact key (e ∷ es) (at, below_all total exact key e.0 (keys_of es) at above))) ∙ some in cc)
-  write_step Equal key v e es written rest at above some h = cond-true (is_at (cmp key) e.0) ((e.0, v) ∷ es) (e ∷ written) (ap is_eq at)
-  write_step Greater key v e es written rest at above some h =
-      cond-false (is_at (cmp key) e.0) ((e.0, v) ∷ es) (e ∷ written) (ap is_eq at)
-      ∙ ap (λ l. e ∷ l) (h (ap is_some (sym (cond-false (is_at (cmp key) e.0) (Some e.1) (lookup (is_at (cmp key)) es) (ap is_eq at))) ∙ some))
-
-  pub written_there : (key : K) (v : V) (es : List (K × V)) → IsTable cmp es → is_some (lookup (is_at (cmp key)) es) ≡ true → set_value (is_at (cmp key)) es v ≡ insert_entry cmp es key v
-  written_there key v [] s some = absurd cc
-  written_there key v (e ∷ es) s some =
-      write_step (cmp key e.0) key v e es (set_value (is_at (cmp key)) es v) (insert_entry cmp es key v) refl (sorted_head cmp e.0 (keys_of es) s) some
-      (written_there key v es (sorted_tail cmp e.0 (keys_of es) s))
-
 -- ---- the step keeps rows and list together
+
+-- each key that waits has a row
+pub have_rows : {K : Type 0} {cmp : K → K → Ordering} {rows : List (K × Row)} {waiting : List (ℕ × Waiting K)} {next : ℕ} → IsStored cmp rows waiting next → HaveRows cmp rows waiting
+have_rows s = λ place w e. ap is_some (s.known place w e).1
 
 quiet_agrees : {K : Type 0} (key : K) (place : ℕ) (w : Option ℕ) → Agree key place (quiet w) None
 quiet_agrees key place None = tt
@@ -280,7 +260,11 @@ makes_none (Want want) m = by want.desired m
     by (Some v) h = absurd cc
 makes_none Format m = refl
 
--- what holds anyway holds at an error
-pub at_error : {T E : Type 0} (r : Result T E) (P : Type 0) → P → OnErr r P
-at_error (Ok v) P p = tt
-at_error (Err e) P p = p
+-- a row that is made says nothing of what was formatted, and isn't forced
+pub made_row : (step : Step) → makes_row step ≡ true → (row : Row) × (stepped step (known None) ≡ Some row) × (row.formatted ≡ None) × (row.forced ≡ false)
+made_row (Want want) m = by want.desired m
+  where
+    by : (d : Option ℕ) → is_some d ≡ true → (row : Row) × (wanted_by (known None) (record { place = want.place; desired = d }) None ≡ Some row) × (row.formatted ≡ None) × (row.forced ≡ false)
+    by None h = absurd cc
+    by (Some v) h = (with_change (known None) want.place (Some v), refl, refl, refl)
+made_row Format m = absurd cc

@@ -181,3 +181,11 @@ module _ {K : Type 0} {cmp : K → K → Ordering} (rows : List (K × Row)) (wai
       by : (o : Option Row) → value_at cmp rows key ≡ o → IsSome o → IfSome o (λ row. row.change ≡ Some change) → change.place < next
       by None e h i = absurd cc
       by (Some row) e h i = s.before change.place _ (s.listed key row change e i)
+
+  -- and there it waits
+  pub waits_there : (change : Change) → IsSome (value_at cmp rows key) → IfSome (value_at cmp rows key) (λ row. row.change ≡ Some change) → value_at nat_cmp waiting change.place ≡ Some (record { key = key; value = change.desired })
+  waits_there change some is = by (value_at cmp rows key) refl some is
+    where
+      by : (o : Option Row) → value_at cmp rows key ≡ o → IsSome o → IfSome o (λ row. row.change ≡ Some change) → value_at nat_cmp waiting change.place ≡ Some (record { key = key; value = change.desired })
+      by None e h i = absurd cc
+      by (Some row) e h i = s.listed key row change e i

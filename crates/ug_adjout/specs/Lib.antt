@@ -6,3 +6,4 @@ pub mod Counted
 pub mod Kept
 pub mod KeptSlots
 pub mod Stepped
+pub mod Seats

@@ -12,10 +12,14 @@ mod kept_slot;
 mod line;
 mod marked;
 mod out_key;
+mod queue;
 mod row;
 mod rows;
+mod seat;
+mod seats;
 mod slot;
 mod step;
+mod stepping;
 mod table;
 mod waiting;
 

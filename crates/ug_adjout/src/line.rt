@@ -6,6 +6,7 @@ ghost use Rattle.std.specs.BTreeMap.{insert_entry, is_at};
 ghost use Rattle.ug_adjout_rules.specs.Tables.{value_at, with_value};
 ghost use Rattle.ug_adjout_rules.specs.Formatting.{fitting};
 ghost use Rattle.ug_adjout.specs.Waits.{keys_for, first_announced, from_place};
+ghost use Rattle.ug_adjout.specs.Seats.{named, seat_at};
 ghost use Rattle.ug_adjout.specs.Places.{IsFirstFrom, IsNoneBetween, AreNumbered, withdraws, announces};
 ghost use Rattle.ug_adjout.specs.Stepped.{wanted_in, lined, IsReady, IsReadyBy};
 ghost use Rattle.ug_adjout.specs.declared.step.Step.TheVariants.{Want, Format};
@@ -16,9 +17,12 @@ use crate::first::first_from;
 use crate::kept_slot::KeptSlot;
 use crate::out_key::OutKey;
 use crate::row::{Change, Row};
+use crate::seat::{Handle, Seat};
+use crate::seats::key_at;
 use crate::slot::Slot;
 use crate::step::{Step, owes};
 use crate::waiting::Waiting;
+use slab::Slab;
 use std::alloc::Global;
 use std::collections::BTreeMap;
 use std::marker::Model;
@@ -49,7 +53,7 @@ impl<K> Model for Line<K> {
     ghost invariant = { λ l. IsLine l.keys.entries l.announced };
 }
 
-impl<K: OutKey> Line<K> {
+impl<K: Copy + Drop> Line<K> {
     #[tactic(auto, using(crate::proofs::Values::nothing_waits))]
     pub fn new(alloc: Global) -> Line<K>
         ensures { result ≡ [] }
@@ -205,34 +209,6 @@ impl<K: OutKey> Line<K> {
         self.remove(change.place, was);
     }
 
-    /// The first keys that wait for this value, or for their withdrawal, as many as have room.
-    pub fn first_for(
-        &self,
-        alloc: Global,
-        value: Option<AttrId>,
-        room: usize,
-    ) -> Result<KeyList<K>, NoMemory>
-        ensures { IfOk result (λ keys. keys.items ≡ fitting K.bytes room (keys_for value self.now)) }
-    {
-        let mut keys = Sequence::new(alloc);
-        let mut left = room;
-        let start = KeptSlot::of(Slot { value, place: 0 });
-        for (slot, key) in self.keys.range((Bound::Included(start), Bound::Unbounded)) {
-            if slot.value() != value {
-                break;
-            }
-            let weight = key.weight();
-            if weight > left {
-                break;
-            }
-            left -= weight;
-            let Ok(()) = keys.push(*key) else {
-                return Err(NoMemory);
-            };
-        }
-        Ok(keys)
-    }
-
     /// The first key that waits for this value, or for its withdrawal.
     pub fn first_of(&self, value: Option<AttrId>) -> Option<K>
         ensures { result ≡ slice_get (keys_for value self.now) 0 }
@@ -310,6 +286,40 @@ impl<K: OutKey> Line<K> {
             return Some(withdrawal);
         };
         Some(announcement)
+    }
+}
+
+impl Line<Handle> {
+    /// The first keys that wait for this value, or for their withdrawal, as many as have room.
+    pub fn first_for<K: OutKey>(
+        &self,
+        seats: &Slab<Seat<K>>,
+        alloc: Global,
+        value: Option<AttrId>,
+        room: usize,
+    ) -> Result<KeyList<K>, NoMemory>
+        ensures { IfOk result (λ keys. keys.items ≡ fitting K.bytes room (keys_for value (named (seat_at seats.now.slots) self.now))) }
+    {
+        let mut keys = Sequence::new(alloc);
+        let mut left = room;
+        let start = KeptSlot::of(Slot { value, place: 0 });
+        for (slot, handle) in self.keys.range((Bound::Included(start), Bound::Unbounded)) {
+            if slot.value() != value {
+                break;
+            }
+            let Some(key) = key_at(seats, *handle) else {
+                continue;
+            };
+            let weight = key.weight();
+            if weight > left {
+                break;
+            }
+            left -= weight;
+            let Ok(()) = keys.push(key) else {
+                return Err(NoMemory);
+            };
+        }
+        Ok(keys)
     }
 }
 

@@ -12,14 +12,11 @@ ghost use Rattle.std.specs.Option.{option_map};
 ghost use Rattle.ug_adjout.specs.Waits.{keys_for, first_announced, from_place, waiting_keys};
 ghost use Rattle.ug_adjout.specs.Stored.{is_owed, IsFree, with_change, adj_of, with_one_forced, with_each_forced, IsShown, IsStored};
 
-use crate::after::{first_desired, first_formatted};
-use crate::line::Line;
 use crate::marked::Marked;
 use crate::out_key::OutKey;
+use crate::queue::Queue;
 use crate::row::{Change, Row, known};
-use crate::rows::Rows;
 use crate::step::Step;
-use crate::waiting::Waiting;
 use std::alloc::Global;
 use std::marker::Model;
 use ug_intern::AttrId;
@@ -32,8 +29,7 @@ const SPARE_PLACES: usize = 256;
 /// its key has a place in the list.
 #[derive(Drop)]
 pub struct Table<K: OutKey> {
-    rows: Rows<K>,
-    line: Line<K>,
+    queue: Queue<K>,
     next: u32,
 }
 
@@ -42,9 +38,9 @@ impl<K: OutKey> Model for Table<K> {
 
     ghost Value = { Stored K };
 
-    ghost view = { λ t. record { rows = t.rows; waiting = t.line; next = t.next } };
+    ghost view = { λ t. record { rows = t.queue.rows; waiting = t.queue.waiting; next = t.next } };
 
-    ghost invariant = { λ t. IsStored K.cmp t.rows t.line t.next };
+    ghost invariant = { λ t. IsStored K.cmp t.queue.rows t.queue.waiting t.next };
 }
 
 impl<K: OutKey> Table<K> {
@@ -53,8 +49,7 @@ impl<K: OutKey> Table<K> {
         ensures waiting { result.waiting ≡ [] }
     {
         Table {
-            rows: Rows::new(alloc),
-            line: Line::new(alloc),
+            queue: Queue::new(alloc),
             next: 0,
         }
     }
@@ -63,12 +58,13 @@ impl<K: OutKey> Table<K> {
     pub fn row(&self, key: &K) -> Option<Row>
         ensures { result ≡ value_at K.cmp self.now.rows key.now }
     {
-        self.rows.row(key)
+        self.queue.row(key)
     }
 
     /// A key that waits for nothing waits for this value from now on, at the end of the list. Running out of memory
     /// changes nothing.
     fn begin(&mut self, key: K, row: Row, desired: Option<AttrId>) -> Result<(), NoMemory>
+        requires there { IsSome (value_at K.cmp self.old.rows key) }
         requires free { IsFree (value_at K.cmp self.old.rows key) }
         requires owed { is_owed row.formatted desired row.forced ≡ true }
         requires numbered { self.old.next + 1 < 2 ^ 32 }
@@ -77,56 +73,31 @@ impl<K: OutKey> Table<K> {
         ensures err { OnErr result (self.new ≡ self.old) }
     {
         let place = self.next;
-        let waiting = Waiting {
-            key,
-            value: desired,
-        };
-        self.line.add(place, waiting)?;
         let row = Row {
             formatted: row.formatted,
             forced: row.forced,
             change: Some(Change { place, desired }),
         };
-        let Ok(_) = self.rows.insert(key, row) else {
-            self.line.remove(place, waiting);
-            return Err(NoMemory);
-        };
+        self.queue.begin(key, row, place, desired)?;
         self.next += 1;
         Ok(())
     }
 
-    /// A key that waits waits for this value now, at its place. Running out of memory changes nothing.
-    pub fn change(
-        &mut self,
-        key: K,
-        row: Row,
-        change: Change,
-        desired: Option<AttrId>,
-    ) -> Result<(), NoMemory>
+    /// A key that waits has this row now, and waits for the same at its place.
+    fn keep(&mut self, key: K, row: Row, change: Change)
         requires waits { IfSome (value_at K.cmp self.old.rows key) (λ was. was.change ≡ Some change) }
         requires there { IsSome (value_at K.cmp self.old.rows key) }
-        requires owed { is_owed row.formatted desired row.forced ≡ true }
-        ensures rows { OnOk result (self.new.rows ≡ insert_entry K.cmp self.old.rows key (with_change row change.place desired)) }
-        ensures waiting { OnOk result (self.new.waiting ≡ insert_entry nat_cmp self.old.waiting change.place (record { key = key; value = desired })) }
-        ensures err { OnErr result (self.new ≡ self.old) }
+        requires owed { is_owed row.formatted change.desired row.forced ≡ true }
+        ensures rows { self.new.rows ≡ insert_entry K.cmp self.old.rows key (with_change row change.place change.desired) }
+        ensures waiting { self.new.waiting ≡ self.old.waiting }
     {
-        let was = Waiting {
-            key,
-            value: change.desired,
-        };
-        self.line.change(change.place, was, desired)?;
+        let _next = self.next;
         let row = Row {
             formatted: row.formatted,
             forced: row.forced,
-            change: Some(Change {
-                place: change.place,
-                desired,
-            }),
+            change: Some(change),
         };
-        let Ok(_) = self.rows.insert(key, row) else {
-            unreachable!()
-        };
-        Ok(())
+        self.queue.put(key, row);
     }
 
     /// The first of those that wait from this place on, where none waits before `from`, waits at the place now. Its key
@@ -139,16 +110,15 @@ impl<K: OutKey> Table<K> {
         ensures from { IfOk result (λ behind. from_place behind self.new.waiting ≡ from_place (place + 1) self.new.waiting) }
     {
         let _next = self.next;
-        let Some((was, waiting)) = self.line.first_from(from) else {
+        let Some((was, waiting)) = self.queue.first_from(from) else {
             unreachable!()
         };
         if was == place {
             return Ok(place + 1);
         }
-        let Some(row) = self.rows.row(&waiting.key) else {
+        let Some(row) = self.queue.row(&waiting.key) else {
             unreachable!()
         };
-        self.line.add(place, waiting)?;
         let moved = Row {
             formatted: row.formatted,
             forced: row.forced,
@@ -157,10 +127,7 @@ impl<K: OutKey> Table<K> {
                 desired: waiting.value,
             }),
         };
-        let Ok(_) = self.rows.insert(waiting.key, moved) else {
-            unreachable!()
-        };
-        self.line.remove(was, waiting);
+        self.queue.bring(was, waiting, moved, place)?;
         Ok(was + 1)
     }
 
@@ -170,7 +137,7 @@ impl<K: OutKey> Table<K> {
         ensures room { OnOk result (self.new.next + 1 < 2 ^ 32) }
     {
         let _next = self.next;
-        let waiting = self.line.len();
+        let waiting = self.queue.waiting_len();
         if waiting >= u32::MAX as usize {
             return Err(NoMemory);
         }
@@ -191,7 +158,7 @@ impl<K: OutKey> Table<K> {
         ensures room { OnOk result (self.new.next + 1 < 2 ^ 32) }
     {
         let next = self.next;
-        let waiting = self.line.len();
+        let waiting = self.queue.waiting_len();
         if next == u32::MAX || (next / 4) as usize > waiting + SPARE_PLACES {
             self.renumber()?;
         }
@@ -217,7 +184,7 @@ impl<K: OutKey> Table<K> {
     {
         let place = self.next;
         let step = Step::Want(Change { place, desired });
-        let was = self.rows.step(&mut self.line, key, step)?;
+        let was = self.queue.step(key, step)?;
         self.next = place + 1;
         Ok(known(was).desired())
     }
@@ -232,10 +199,9 @@ impl<K: OutKey> Table<K> {
         ensures none { IfNone result (self.new ≡ self.old) }
     {
         let _next = self.next;
-        let Ok(was) = self.rows.step(&mut self.line, key, Step::Format) else {
-            unreachable!()
+        let Some(row) = self.queue.format(key) else {
+            return None;
         };
-        let row = known(was);
         let Some(change) = row.change else {
             return None;
         };
@@ -260,7 +226,7 @@ impl<K: OutKey> Table<K> {
         ensures stored { IsStored K.cmp self.now.rows self.now.waiting self.now.next }
     {
         let _next = self.next;
-        self.rows.keys(alloc)
+        self.queue.keys(alloc)
     }
 
     /// These keys are forced, which all have a row.
@@ -296,7 +262,7 @@ impl<K: OutKey> Table<K> {
                 Ok(())
             }
             Some(change) => {
-                self.change(key, forced, change, change.desired)?;
+                self.keep(key, forced, change);
                 Ok(())
             }
         }
@@ -331,7 +297,7 @@ impl<K: OutKey> Table<K> {
     pub fn formatted_len(&self) -> usize
         ensures { result ≡ length (adj_of self.now.rows self.now.waiting).formatted }
     {
-        self.rows.formatted_len()
+        self.queue.formatted_len()
     }
 
     /// It does nothing. What is so of each Adj-RIB-Out that is stored.
@@ -349,28 +315,28 @@ impl<K: OutKey> Table<K> {
         ensures desired { length (adj_of self.now.rows self.now.waiting).desired ≤ result }
         ensures small { result < 2 ^ 64 }
     {
-        self.rows.len()
+        self.queue.len()
     }
 
     /// Whether a key is forced.
     pub fn has_forced(&self) -> bool
         ensures { IsTrue result ↔ (0 < length (adj_of self.now.rows self.now.waiting).forced) }
     {
-        self.rows.forced_len() > 0
+        self.queue.forced_len() > 0
     }
 
     /// The least formatted row above the key, or the first one.
     pub fn formatted_after(&self, key: Option<&K>) -> Option<(K, AttrId)>
         ensures { result ≡ slice_get (rows_after K.cmp (option_copied key.entry) (adj_of self.now.rows self.now.waiting).formatted) 0 }
     {
-        first_formatted(self.rows.as_map(), key)
+        self.queue.formatted_after(key)
     }
 
     /// The least desired row above the key, or the first one.
     pub fn desired_after(&self, key: Option<&K>) -> Option<(K, AttrId)>
         ensures { result ≡ slice_get (rows_after K.cmp (option_copied key.entry) (adj_of self.now.rows self.now.waiting).desired) 0 }
     {
-        first_desired(self.rows.as_map(), key)
+        self.queue.desired_after(key)
     }
 
     /// An equal one of its own.
@@ -379,8 +345,7 @@ impl<K: OutKey> Table<K> {
         ensures waiting { IfOk result (λ copy. copy.waiting ≡ self.now.waiting) }
     {
         Ok(Table {
-            rows: self.rows.copy(alloc)?,
-            line: self.line.copy(alloc)?,
+            queue: self.queue.copy(alloc)?,
             next: self.next,
         })
     }
@@ -400,23 +365,23 @@ impl<K: OutKey> Table<K> {
     pub fn waiting_len(&self) -> usize
         ensures { result ≡ length (waiting_keys self.now.waiting) }
     {
-        self.line.len()
+        self.queue.waiting_len()
     }
 
     /// The first keys that wait for their withdrawal, as many as have room.
     pub fn withdrawals(&self, alloc: Global, room: usize) -> Result<KeyList<K>, NoMemory>
         ensures { IfOk result (λ keys. keys.items ≡ fitting K.bytes room (withdrawals K.cmp (adj_of self.now.rows self.now.waiting))) }
     {
-        self.line.first_for(alloc, None, room)
+        self.queue.first_for(alloc, None, room)
     }
 
     /// The first key that waits for its announcement and those of its value, as many as have room.
     pub fn alike(&self, alloc: Global, room: usize) -> Result<KeyList<K>, NoMemory>
         ensures { IfOk result (λ keys. keys.items ≡ fitting K.bytes room (alike K.cmp nat_eq (adj_of self.now.rows self.now.waiting))) }
     {
-        match self.line.first_value() {
+        match self.queue.first_value() {
             None => Ok(Sequence::new(alloc)),
-            Some(value) => self.line.first_for(alloc, Some(value), room),
+            Some(value) => self.queue.first_for(alloc, Some(value), room),
         }
     }
 
@@ -424,7 +389,7 @@ impl<K: OutKey> Table<K> {
     pub fn first_withdrawal(&self) -> Option<K>
         ensures { result ≡ slice_get (withdrawals K.cmp (adj_of self.now.rows self.now.waiting)) 0 }
     {
-        self.line.first_of(None)
+        self.queue.first_of(None)
     }
 
     /// The first key that waits for its announcement, and the value that it waits for.
@@ -432,10 +397,10 @@ impl<K: OutKey> Table<K> {
         ensures key { option_map (λ e. e.0) result ≡ slice_get (alike K.cmp nat_eq (adj_of self.now.rows self.now.waiting)) 0 }
         ensures value { option_map (λ e. e.1) result ≡ value_of_first (value_at K.cmp (adj_of self.now.rows self.now.waiting).desired) (announcements K.cmp (adj_of self.now.rows self.now.waiting)) }
     {
-        let Some(value) = self.line.first_value() else {
+        let Some(value) = self.queue.first_value() else {
             return None;
         };
-        let Some(key) = self.line.first_of(Some(value)) else {
+        let Some(key) = self.queue.first_of(Some(value)) else {
             unreachable!()
         };
         Some((key, value))

@@ -1,4 +1,4 @@
-use Rattle.std.proofs.Common.{◌≡◌, ◌+◌, ◌-◌, ◌<◌, ◌≤◌, ℕ, length, min, sym, ◌∙◌, arith}
+use Rattle.std.proofs.Common.{◌≡◌, ◌+◌, ◌-◌, ◌<◌, ◌≤◌, length, min, ◌∙◌, arith}
 use Rattle.ug_adjout.proofs.Placed.{placed_below, placed_read, placed_numbered, none_more, none_at_all}
 use Rattle.ug_adjout.proofs.by_place.ByPlace.first_between.Goals as goal
 

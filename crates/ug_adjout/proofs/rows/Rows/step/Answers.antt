@@ -1,36 +1,15 @@
-use Rattle.std.proofs.Common.{◌<◌, is_some, ap, subst, ◌∙◌}
-use Rattle.ug_adjout_rules.specs.TableLaws.{with_value-sorted}
-use Rattle.ug_adjout.specs.Stored.{formatted_of, mark_of, of_row}
+use Rattle.std.proofs.Common.{refl, sym, ap, ◌∙◌}
+use Rattle.std.specs.BTreeMap.{is_at}
+use Rattle.ug_adjout_rules.specs.Tables.{with_value}
+use Rattle.ug_adjout_rules.specs.TableLaws.{removed_nothing}
+use Rattle.ug_adjout.specs.Seats.{rows_in}
 use Rattle.ug_adjout.specs.Stepped.{known, stepped}
-use Rattle.ug_adjout.proofs.Counts.{some_counted, few_counted, step_counted}
+use Rattle.ug_adjout.proofs.Stepped.{makes_none}
 use Rattle.ug_adjout.proofs.rows.Rows.step.Goals as goal
 
-pub recounted-self-inside-requires-clause-counted : goal.recounted-self-inside-requires-clause-counted
-recounted-self-inside-requires-clause-counted g c =
-    some_counted formatted_of g.K.Ord.cmp c.self.inside.rows.entries c.args.key _ c.self.invariant.formatted_len _ (c.is_formatted.ensures ∙ ap (λ o. is_some (of_row formatted_of o)) c.in_ok-was.ensures.was)
-
-pub recounted-self-inside-requires-clause-small : goal.recounted-self-inside-requires-clause-small
-recounted-self-inside-requires-clause-small g c =
-    few_counted formatted_of g.K.Ord.cmp c.self.inside.rows.entries c.args.key _ c.self.invariant.formatted_len _ (c.is_formatted.ensures ∙ ap (λ o. is_some (of_row formatted_of o)) c.in_ok-was.ensures.was)
-    (subst (λ n. n < 9223372036854775808) c.len-len.ensures.len c.len-len.ensures.small)
-
-pub recounted-self-inside-requires-2-clause-counted : goal.recounted-self-inside-requires-2-clause-counted
-recounted-self-inside-requires-2-clause-counted g c =
-    some_counted mark_of g.K.Ord.cmp c.self.inside.rows.entries c.args.key _ c.self.invariant.forced_len _ (c.is_forced.ensures ∙ ap (λ o. is_some (of_row mark_of o)) c.in_ok-was.ensures.was)
-
-pub recounted-self-inside-requires-2-clause-small : goal.recounted-self-inside-requires-2-clause-small
-recounted-self-inside-requires-2-clause-small g c =
-    few_counted mark_of g.K.Ord.cmp c.self.inside.rows.entries c.args.key _ c.self.invariant.forced_len _ (c.is_forced.ensures ∙ ap (λ o. is_some (of_row mark_of o)) c.in_ok-was.ensures.was)
-    (subst (λ n. n < 9223372036854775808) c.len-len.ensures.len c.len-len.ensures.small)
-
-pub invariant_of-self-2 : goal.invariant_of-self-2
-invariant_of-self-2 g c =
-    let now = c.row-now.ensures ∙ ap (stepped c.args.step) (c.known.ensures ∙ ap known c.in_ok-was.ensures.was) in
-    rw c.in_ok-was.ensures.rows
-    (record {
-      ordered = with_value-sorted g.met.K.Ord.total g.met.K.OutKey.exact c.self.inside.rows.entries c.args.key _ c.self.invariant.ordered;
-      formatted_len = step_counted formatted_of g.K.Ord.cmp c.self.inside.rows.entries c.args.key _ c.self.invariant.formatted_len _ (c.is_formatted.ensures ∙ ap (λ o. is_some (of_row formatted_of o)) c.in_ok-was.ensures.was)
-          g.met.K.Ord.total c.self.invariant.ordered _ _ _ (c.is_formatted-2.ensures ∙ ap (λ o. is_some (of_row formatted_of o)) now) c.recounted-self-inside.ensures;
-      forced_len = step_counted mark_of g.K.Ord.cmp c.self.inside.rows.entries c.args.key _ c.self.invariant.forced_len _ (c.is_forced.ensures ∙ ap (λ o. is_some (of_row mark_of o)) c.in_ok-was.ensures.was)
-          g.met.K.Ord.total c.self.invariant.ordered _ _ _ (c.is_forced-2.ensures ∙ ap (λ o. is_some (of_row mark_of o)) now) c.recounted-self-inside-2.ensures;
-    })
+pub returns-in_default-handle-clause-rows : goal.returns-in_default-handle-clause-rows
+returns-in_default-handle-clause-rows g c =
+    let none = c.in_default-handle.ensures.missing refl in
+    sym (removed_nothing g.met.K.Ord.total g.met.K.OutKey.exact (is_at (g.K.Ord.cmp c.args.key)) (rows_in c.args.self.now) none)
+    ∙ ap (with_value g.K.Ord.cmp (rows_in c.args.self.now) c.args.key)
+    (sym (ap (λ o. stepped c.args.step (known o)) none ∙ makes_none c.args.step (sym c.makes_row.ensures ∙ c.if-makes_row.false)))

@@ -11,7 +11,7 @@ returns-in_default-clause-value g c =
     rw (← c.self.view_is, first_value_is g.met.K.Ord.total g.met.K.OutKey.exact _ _ _ c.self.invariant) (sym c.in_default.is ∙ c.first_value.ensures)
 
 pub unreachable-requires : goal.unreachable-requires
-unreachable-requires g c = some_key _ c.self.inside.line (sym c.in-Some.ensures) (sym c.first_of.ensures ∙ c.in_default-first_of.is)
+unreachable-requires g c = some_key _ c.self.inside.queue.waiting (sym c.in-Some.ensures) (sym c.first_of.ensures ∙ c.in_default-first_of.is)
 
 pub returns-clause-key : goal.returns-clause-key
 returns-clause-key g c =

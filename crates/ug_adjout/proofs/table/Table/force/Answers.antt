@@ -1,5 +1,9 @@
-use Rattle.std.proofs.Common.{sym, subst, ◌∙◌}
-use Rattle.ug_adjout.specs.Stored.{IsStored}
+use Rattle.std.proofs.Common.{is_some, true, Some, sym, ap, subst, ◌∙◌}
+use Rattle.std.specs.BTreeMap.{insert_entry}
+use Rattle.std.specs.Cmp.{nat_cmp_total}
+use Rattle.std.specs.FinMap.{nat_cmp-IsAntisymmetric}
+use Rattle.ug_adjout_rules.specs.TableLaws.{with_value-same}
+use Rattle.ug_adjout.specs.Stored.{IsStored, adj_of, with_change}
 use Rattle.ug_adjout.proofs.Forced.{no_row, force_idle, force_waiting}
 use Rattle.ug_adjout.proofs.table.Table.force.Goals as goal
 
@@ -16,10 +20,19 @@ returns-in_ok-begin-in-None g c =
           (force_idle g.met.K.Ord.total g.met.K.OutKey.exact _ _ _ s c.args.key c.in-Some.row (sym c.in-Some.ensures) c.in-None.is);
     }
 
-pub returns-in_ok-change-in-Some-change : goal.returns-in_ok-change-in-Some-change
-returns-in_ok-change-in-Some-change g c =
+pub begin-requires-clause-there : goal.begin-requires-clause-there
+begin-requires-clause-there g c = ap is_some (sym c.in-Some.ensures)
+
+pub returns-in-Some-change : goal.returns-in-Some-change
+returns-in-Some-change g c =
     let s = subst (λ v. IsStored g.K.Ord.cmp v.rows v.waiting v.next) c.self.view_is c.self.invariant in
+    let row = sym c.in-Some.ensures in
     record {
-      ok = rw (c.in_ok-change-in-Some-change.ensures.rows, c.in_ok-change-in-Some-change.ensures.waiting)
-          (force_waiting g.met.K.Ord.total g.met.K.OutKey.exact _ _ _ s c.args.key c.in-Some.row c.in-Some-change.change (sym c.in-Some.ensures) c.in-Some-change.is);
+      ok = rw (c.keep.ensures.rows, c.keep.ensures.waiting)
+          (ap
+          (adj_of
+          (insert_entry g.K.Ord.cmp c.args.self.now.rows c.args.key
+          (with_change (record { formatted = c.in-Some.row.formatted; forced = true; change = c.in-Some.row.change }) c.in-Some-change.change.place c.in-Some-change.change.desired)))
+          (sym (with_value-same nat_cmp_total nat_cmp-IsAntisymmetric _ c.in-Some-change.change.place (Some _) s.in_line (s.listed c.args.key c.in-Some.row c.in-Some-change.change row c.in-Some-change.is)))
+          ∙ force_waiting g.met.K.Ord.total g.met.K.OutKey.exact _ _ _ s c.args.key c.in-Some.row c.in-Some-change.change row c.in-Some-change.is);
     }

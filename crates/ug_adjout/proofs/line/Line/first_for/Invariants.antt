@@ -1,8 +1,0 @@
-use Rattle.std.proofs.Common.{◌≡◌, ◌++◌, map}
-use Rattle.ug_adjout_rules.specs.Formatting.{fitting}
-use Rattle.ug_adjout.specs.Waits.{keys_for}
-use Rattle.ug_adjout.specs.Places.{of_value}
-use Rattle.ug_adjout.proofs.line.Line.first_for.Given as goal
-
-abbrev pub invariant-loop-slot : goal.invariant-loop-slot
-invariant-loop-slot g l = l.keys.items ++ fitting g.K.Weighed.bytes l.left (map (λ e. e.1) (of_value l.value l.slot-iterator)) ≡ fitting g.K.Weighed.bytes l.room (keys_for l.value l.self)
