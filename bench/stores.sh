@@ -15,7 +15,7 @@ if [ -z "$program" ]; then
     git clone -q . "$work/copy"
     mkdir -p "$work/copy/crates/adjout/src"
     cp bench/adjout/main.rt.txt "$work/copy/crates/adjout/src/main.rt"
-    for kept in ug_types ug_short_key ug_adjout_rules ug_intern ug_adjout; do
+    for kept in ug_types ug_short_key ug_intern ug_adjout; do
         [ ! -d "crates/$kept/out" ] || cp -r "crates/$kept/out" "$work/copy/crates/$kept/out"
     done
     echo "adjout: ug_adjout ug_short_key ug_types" >> "$work/copy/crates.txt"

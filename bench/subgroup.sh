@@ -43,7 +43,7 @@ if [ -z "$subgroup" ] || [ -z "$adjout" ]; then
     done
     cat >> "$work/copy/crates.txt" << 'END'
 adjout: ug_adjout ug_short_key ug_types
-subgroup: ug_groups ug_pack ug_adjout ug_adjout_rules ug_intern ug_group_rules ug_outbound ug_policy ug_attrwire ug_message ug_types
+subgroup: ug_groups ug_pack ug_adjout ug_intern ug_group_rules ug_outbound ug_policy ug_update ug_message ug_types
 END
     build adjout 1000 10 1
     build subgroup 1000 10 1 1

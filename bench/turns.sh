@@ -9,7 +9,7 @@ cd "$(dirname "${BASH_SOURCE[0]}")/.."
 work=$(mktemp -d)
 trap 'rm -rf "$work"' EXIT
 git clone -q . "$work/copy"
-for crate in ug_types ug_edge ug_turnstile ug_board ug_history_rules ug_sender; do
+for crate in ug_types ug_edge ug_turnstile ug_board ug_sender; do
     [ ! -d "crates/$crate/out" ] || cp -r "crates/$crate/out" "$work/copy/crates/$crate/out"
 done
 cat >> "$work/copy/crates.txt" << 'END'

@@ -12,9 +12,9 @@ use Rattle.std.specs.declared.cmp.Ordering.{Ordering}
 use Rattle.std.specs.declared.cmp.Ordering.TheVariants.{Less, Equal, Greater}
 use Rattle.std.proofs.lemmas.Bool.{cond-true, cond-false}
 use Rattle.std.proofs.lemmas.Map.Keys.{sorted_head, sorted_tail}
-use Rattle.ug_adjout_rules.specs.Tables.{value_at, IsTable}
-use Rattle.ug_adjout_rules.proofs.SameTables.{same_some, found_behind, found_first, same_table}
-use Rattle.ug_adjout_rules.specs.TableLaws.{none_above, value_at-here, value_at-other, with_value-sorted}
+use Rattle.ug_adjout.specs.Tables.{value_at, IsTable}
+use Rattle.ug_adjout.proofs.SameTables.{same_some, found_behind, found_first, same_table}
+use Rattle.ug_adjout.specs.TableLaws.{none_above, value_at-here, value_at-other, with_value-sorted}
 use Rattle.ug_adjout.specs.declared.slot.Slot.{Slot}
 use Rattle.ug_adjout.specs.declared.waiting.Waiting.{Waiting}
 use Rattle.ug_adjout.specs.Places.{slot_cmp, slot_total, key_for, by_place, IsIndexed}

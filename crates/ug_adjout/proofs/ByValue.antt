@@ -17,8 +17,8 @@ use Rattle.std.specs.declared.cmp.Ordering.TheVariants.{Less, Equal, Greater}
 use Rattle.std.proofs.lemmas.Bool.{cond-true, cond-false, false_from_ne_true}
 use Rattle.std.proofs.lemmas.Bool.Decides.{nat_tests}
 use Rattle.std.proofs.lemmas.Cmp.{tied_itself}
-use Rattle.ug_adjout_rules.specs.Tables.{value_at, IsTable}
-use Rattle.ug_adjout_rules.specs.Formatting.{fitting}
+use Rattle.ug_adjout.specs.Tables.{value_at, IsTable}
+use Rattle.ug_adjout.specs.Formatting.{fitting}
 use Rattle.ug_adjout.specs.declared.seat.Seat.{Seat}
 use Rattle.ug_adjout.specs.declared.slot.Slot.{Slot}
 use Rattle.ug_adjout.specs.declared.waiting.Waiting.{Waiting}
@@ -29,7 +29,7 @@ use Rattle.ug_adjout.specs.Places.{slot_cmp, key_for, IsIndexed, of_value}
 use Rattle.ug_adjout.proofs.Handles.{named_with, keys_at}
 use Rattle.ug_adjout.proofs.Lists.{sorted_projected, value_at-projected}
 use Rattle.ug_adjout.proofs.Slots.{slot, option_exact, tied, same_value, itself, at_slot, with_true}
-use Rattle.ug_adjout_rules.proofs.SameTables.{same_table}
+use Rattle.ug_adjout.proofs.SameTables.{same_table}
 
 zero_first : (n : ℕ) → is_le (nat_cmp 0 n) ≡ true
 zero_first zero = refl

@@ -8,7 +8,7 @@ use Rattle.std.specs.Cmp.{IsTotalOrder}
 use Rattle.std.specs.declared.cmp.Ordering.{Ordering}
 use Rattle.std.proofs.lemmas.List.Sums.{sum_by-cons}
 use Rattle.std.proofs.lemmas.Map.Entries.{sum_by-insert_entry, sum_by-remove_entry}
-use Rattle.ug_adjout_rules.specs.Tables.{value_at, with_value, IsTable}
+use Rattle.ug_adjout.specs.Tables.{value_at, with_value, IsTable}
 use Rattle.ug_adjout.specs.Stored.{projected, projected_with, of_row}
 
 abbrev pub one : Bool → ℕ

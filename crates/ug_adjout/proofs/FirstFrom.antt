@@ -13,7 +13,7 @@ use Rattle.std.specs.declared.cmp.Ordering.TheVariants.{Less}
 use Rattle.std.proofs.lemmas.Bool.{cond-true, cond-false}
 use Rattle.std.proofs.lemmas.Bool.Decides.{nat_tests}
 use Rattle.std.proofs.lemmas.Map.Keys.{sorted_head, sorted_tail}
-use Rattle.ug_adjout_rules.specs.Tables.{value_at, IsTable}
+use Rattle.ug_adjout.specs.Tables.{value_at, IsTable}
 use Rattle.ug_adjout.specs.declared.slot.Slot.{Slot}
 use Rattle.ug_adjout.specs.declared.waiting.Waiting.{Waiting}
 use Rattle.ug_adjout.specs.Waits.{from_place}
@@ -22,7 +22,7 @@ use Rattle.ug_adjout.specs.Places.{slot_cmp, value_of, key_for, by_place, withdr
 use Rattle.ug_adjout.proofs.Lists.{first_lookup, tail_lookup, value_at-projected}
 use Rattle.ug_adjout.proofs.Steps.{at_number}
 use Rattle.ug_adjout.proofs.Slots.{slot, itself}
-use Rattle.ug_adjout_rules.proofs.SameTables.{same_some}
+use Rattle.ug_adjout.proofs.SameTables.{same_some}
 use Rattle.ug_adjout.proofs.ByPlace.{told}
 use Rattle.ug_adjout.proofs.Numbers.{from_yes, from_no, from_less}
 

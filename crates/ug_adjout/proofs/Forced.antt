@@ -15,10 +15,10 @@ use Rattle.std.specs.declared.cmp.Ordering.TheVariants.{Less, Equal, Greater}
 use Rattle.std.proofs.lemmas.List.{append_assoc, append-nil}
 use Rattle.std.proofs.lemmas.Bool.{cond-true, or_right}
 use Rattle.std.proofs.lemmas.Map.Keys.{IsDistinct-from_sorted}
-use Rattle.ug_adjout_rules.specs.Tables.{has, joined, value_at, with_value}
-use Rattle.ug_adjout_rules.specs.TableLaws.{with_value-same, has-append, has-keys_of, has-joined, sorted-joined, filter_agreeing, all_from_has, at_turned}
-use Rattle.ug_adjout_rules.proofs.SameTables.{same_list}
-use Rattle.ug_adjout_rules.specs.Pending.{AdjRibOut, waits, with_all_forced}
+use Rattle.ug_adjout.specs.Tables.{has, joined, value_at, with_value}
+use Rattle.ug_adjout.specs.TableLaws.{with_value-same, has-append, has-keys_of, has-joined, sorted-joined, filter_agreeing, all_from_has, at_turned}
+use Rattle.ug_adjout.proofs.SameTables.{same_list}
+use Rattle.ug_adjout.specs.Pending.{AdjRibOut, waits, with_all_forced}
 use Rattle.ug_adjout.specs.declared.row.Row.{Row}
 use Rattle.ug_adjout.specs.declared.row.Change.{Change}
 use Rattle.ug_adjout.specs.declared.waiting.Waiting.{Waiting}

@@ -12,8 +12,8 @@ use Rattle.std.specs.FinMap.{nat_cmp-IsAntisymmetric}
 use Rattle.std.specs.declared.cmp.Ordering.{Ordering}
 use Rattle.std.specs.declared.cmp.Ordering.TheVariants.{Less, Equal, Greater}
 use Rattle.std.proofs.lemmas.Map.Keys.{sorted_tail}
-use Rattle.ug_adjout_rules.specs.Tables.{value_at, with_value, IsTable}
-use Rattle.ug_adjout_rules.specs.TableLaws.{value_at-other, one_key, with_value-sorted}
+use Rattle.ug_adjout.specs.Tables.{value_at, with_value, IsTable}
+use Rattle.ug_adjout.specs.TableLaws.{value_at-other, one_key, with_value-sorted}
 use Rattle.ug_adjout.specs.declared.row.Row.{Row}
 use Rattle.ug_adjout.specs.declared.row.Change.{Change}
 use Rattle.ug_adjout.specs.declared.seat.Seat.{Seat}

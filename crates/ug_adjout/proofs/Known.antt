@@ -10,11 +10,11 @@ use Rattle.std.specs.FinMap.{IsAntisymmetric, nat_cmp-IsAntisymmetric}
 use Rattle.std.specs.declared.cmp.Ordering.{Ordering}
 use Rattle.std.proofs.lemmas.Bool.{false_from_ne_true}
 use Rattle.std.proofs.lemmas.Map.Keys.{sorted_head, sorted_tail}
-use Rattle.ug_adjout_rules.specs.Tables.{has, value_at, IsTable}
-use Rattle.ug_adjout_rules.specs.TableLaws.{one_key, none_above, distinct-append, distinct-one}
-use Rattle.ug_adjout_rules.specs.Pending.{AdjRibOut, IsExact}
-use Rattle.ug_adjout_rules.specs.Desiring.{AreForcedShown}
-use Rattle.ug_adjout_rules.proofs.SameTables.{same_some, found_behind, found_first}
+use Rattle.ug_adjout.specs.Tables.{has, value_at, IsTable}
+use Rattle.ug_adjout.specs.TableLaws.{one_key, none_above, distinct-append, distinct-one}
+use Rattle.ug_adjout.specs.Pending.{AdjRibOut, IsExact}
+use Rattle.ug_adjout.specs.Desiring.{AreForcedShown}
+use Rattle.ug_adjout.proofs.SameTables.{same_some, found_behind, found_first}
 use Rattle.ug_adjout.specs.declared.row.Row.{Row}
 use Rattle.ug_adjout.specs.declared.row.Change.{Change}
 use Rattle.ug_adjout.specs.declared.waiting.Waiting.{Waiting}

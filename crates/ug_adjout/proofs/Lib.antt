@@ -16,3 +16,5 @@ pub mod Numbers
 pub mod Stepped
 pub mod Handles
 pub mod Seated
+pub mod SameTables
+pub mod Desiring

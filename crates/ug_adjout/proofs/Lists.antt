@@ -13,9 +13,9 @@ use Rattle.std.specs.declared.cmp.Ordering.TheVariants.{Less, Equal, Greater}
 use Rattle.std.proofs.lemmas.Bool.{cond-true, cond-false, or_left, or_right, or_cases, not_from_true, not_from_false, false_from_ne_true}
 use Rattle.std.proofs.lemmas.Bool.Decides.{nat_tests}
 use Rattle.std.proofs.lemmas.Map.Keys.{sorted_head, sorted_tail}
-use Rattle.ug_adjout_rules.specs.Tables.{has, without, value_at, with_value, IsTable}
-use Rattle.ug_adjout_rules.specs.TableLaws.{none_above, removed_nothing, below_all, one_key, at_itself}
-use Rattle.ug_adjout_rules.specs.PendingLaws.{without_absent}
+use Rattle.ug_adjout.specs.Tables.{has, without, value_at, with_value, IsTable}
+use Rattle.ug_adjout.specs.TableLaws.{none_above, removed_nothing, below_all, one_key, at_itself}
+use Rattle.ug_adjout.specs.PendingLaws.{without_absent}
 use Rattle.ug_adjout.specs.declared.waiting.Waiting.{Waiting}
 use Rattle.ug_adjout.specs.Waits.{waiting_keys}
 use Rattle.ug_adjout.specs.Stored.{projected, projected_with, of_row}

@@ -12,8 +12,8 @@ use Rattle.std.specs.declared.cmp.Ordering.TheVariants.{Less, Equal, Greater}
 use Rattle.std.proofs.lemmas.Bool.{cond-true, cond-false}
 use Rattle.std.proofs.lemmas.Bool.Decides.{nat_tests}
 use Rattle.std.proofs.lemmas.Map.Keys.{sorted_head, sorted_tail}
-use Rattle.ug_adjout_rules.specs.Tables.{value_at, with_value, IsTable}
-use Rattle.ug_adjout_rules.specs.TableLaws.{value_at-here, value_at-other, with_value-same, with_value-sorted, none_above, below_all, at_itself, one_key}
+use Rattle.ug_adjout.specs.Tables.{value_at, with_value, IsTable}
+use Rattle.ug_adjout.specs.TableLaws.{value_at-here, value_at-other, with_value-same, with_value-sorted, none_above, below_all, at_itself, one_key}
 use Rattle.ug_adjout.specs.declared.row.Row.{Row}
 use Rattle.ug_adjout.specs.declared.waiting.Waiting.{Waiting}
 use Rattle.ug_adjout.specs.Waits.{waiting_keys, from_place}

@@ -12,8 +12,8 @@ use Rattle.std.specs.FinMap.{nat_cmp-IsAntisymmetric}
 use Rattle.std.specs.declared.cmp.Ordering.TheVariants.{Less, Equal}
 use Rattle.std.proofs.lemmas.List.{take_more, take_all, replicate_more, at_drop_more, at_drop_all}
 use Rattle.std.proofs.lemmas.Bool.{cond-true, cond-false}
-use Rattle.ug_adjout_rules.specs.Tables.{value_at, with_value, IsTable}
-use Rattle.ug_adjout_rules.specs.TableLaws.{removed_nothing}
+use Rattle.ug_adjout.specs.Tables.{value_at, with_value, IsTable}
+use Rattle.ug_adjout.specs.TableLaws.{removed_nothing}
 use Rattle.ug_adjout.specs.Stored.{projected, of_row}
 use Rattle.ug_adjout.specs.Placed.{numbered, placed}
 use Rattle.ug_adjout.proofs.Numbers.{less, greater, from_yes, from_no}

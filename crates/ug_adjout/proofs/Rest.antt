@@ -11,7 +11,7 @@ use Rattle.std.specs.declared.cmp.Ordering.{Ordering}
 use Rattle.std.specs.declared.cmp.Ordering.TheVariants.{Less}
 use Rattle.std.proofs.lemmas.List.{append_assoc}
 use Rattle.std.proofs.lemmas.Map.Keys.{sorted_head, sorted_tail}
-use Rattle.ug_adjout_rules.specs.Tables.{IsTable, rows_after}
+use Rattle.ug_adjout.specs.Tables.{IsTable, rows_after}
 use Rattle.ug_adjout.specs.Stored.{projected, projected_with, of_row, start_at}
 
 module _ {X : Type 0} where

@@ -9,8 +9,8 @@ use Rattle.std.specs.Cmp.{IsTotalOrder}
 use Rattle.std.specs.FinMap.{IsAntisymmetric}
 use Rattle.std.specs.declared.cmp.Ordering.{Ordering}
 use Rattle.std.proofs.lemmas.Map.Keys.{sorted_tail}
-use Rattle.ug_adjout_rules.specs.Tables.{value_at, IsTable}
-use Rattle.ug_adjout_rules.specs.Formatting.{withdrawals, announcements, of_first_value, value_of_first, alike}
+use Rattle.ug_adjout.specs.Tables.{value_at, IsTable}
+use Rattle.ug_adjout.specs.Formatting.{withdrawals, announcements, of_first_value, value_of_first, alike}
 use Rattle.ug_adjout.specs.declared.row.Row.{Row}
 use Rattle.ug_adjout.specs.declared.waiting.Waiting.{Waiting}
 use Rattle.ug_adjout.specs.Waits.{waiting_keys, keys_for, first_announced, value_or}

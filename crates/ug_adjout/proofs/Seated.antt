@@ -10,9 +10,9 @@ use Rattle.std.specs.Cmp.{IsTotalOrder, nat_cmp_total}
 use Rattle.std.specs.FinMap.{IsAntisymmetric, nat_cmp-IsAntisymmetric}
 use Rattle.std.specs.declared.cmp.Ordering.{Ordering}
 use Rattle.std.proofs.lemmas.Map.Keys.{sorted_tail}
-use Rattle.ug_adjout_rules.specs.Tables.{value_at, with_value, IsTable}
-use Rattle.ug_adjout_rules.specs.TableLaws.{value_at-here, value_at-other, with_value-sorted, with_value-same, one_key, at_itself}
-use Rattle.ug_adjout_rules.proofs.SameTables.{same_table, found_behind, found_first}
+use Rattle.ug_adjout.specs.Tables.{value_at, with_value, IsTable}
+use Rattle.ug_adjout.specs.TableLaws.{value_at-here, value_at-other, with_value-sorted, with_value-same, one_key, at_itself}
+use Rattle.ug_adjout.proofs.SameTables.{same_table, found_behind, found_first}
 use Rattle.ug_adjout.specs.declared.row.Row.{Row}
 use Rattle.ug_adjout.specs.declared.row.Change.{Change}
 use Rattle.ug_adjout.specs.declared.seat.Seat.{Seat}

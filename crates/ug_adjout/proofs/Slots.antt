@@ -10,8 +10,8 @@ use Rattle.std.specs.FinMap.{IsAntisymmetric, nat_cmp-IsAntisymmetric}
 use Rattle.std.specs.declared.cmp.Ordering.TheVariants.{Equal}
 use Rattle.std.proofs.lemmas.Cmp.{tied_itself}
 use Rattle.ug_types.specs.OrderLaws.{then_both, same_on}
-use Rattle.ug_adjout_rules.specs.Tables.{value_at, with_value, IsTable}
-use Rattle.ug_adjout_rules.specs.TableLaws.{equal_is, at_itself, value_at-here, value_at-other, with_value-sorted}
+use Rattle.ug_adjout.specs.Tables.{value_at, with_value, IsTable}
+use Rattle.ug_adjout.specs.TableLaws.{equal_is, at_itself, value_at-here, value_at-other, with_value-sorted}
 use Rattle.ug_adjout.specs.declared.slot.Slot.{Slot}
 use Rattle.ug_adjout.specs.declared.waiting.Waiting.{Waiting}
 use Rattle.ug_adjout.specs.Places.{slot_cmp, slot_total, key_for, IsIndexed}

@@ -8,9 +8,9 @@ use Rattle.std.specs.BTreeMap.{insert_entry, is_at}
 use Rattle.std.specs.Cmp.{IsTotalOrder}
 use Rattle.std.specs.FinMap.{IsAntisymmetric}
 use Rattle.std.specs.declared.cmp.Ordering.{Ordering}
-use Rattle.ug_adjout_rules.specs.Tables.{value_at, with_value}
-use Rattle.ug_adjout_rules.specs.TableLaws.{with_value-same}
-use Rattle.ug_adjout_rules.specs.Pending.{with_desired, with_formatted}
+use Rattle.ug_adjout.specs.Tables.{value_at, with_value}
+use Rattle.ug_adjout.specs.TableLaws.{with_value-same}
+use Rattle.ug_adjout.specs.Pending.{with_desired, with_formatted}
 use Rattle.ug_adjout.specs.declared.row.Row.{Row}
 use Rattle.ug_adjout.specs.declared.row.Change.{Change}
 use Rattle.ug_adjout.specs.declared.waiting.Waiting.{Waiting}

@@ -9,8 +9,8 @@ use Rattle.std.specs.FinMap.{IsAntisymmetric, nat_cmp-IsAntisymmetric}
 use Rattle.std.specs.declared.cmp.Ordering.{Ordering}
 use Rattle.std.specs.declared.cmp.Ordering.TheVariants.{Less, Equal, Greater}
 use Rattle.std.proofs.lemmas.Bool.{false_from_ne_true, cond-true, cond-false}
-use Rattle.ug_adjout_rules.specs.Tables.{value_at, with_value}
-use Rattle.ug_adjout_rules.specs.TableLaws.{value_at-here, value_at-other, with_value-sorted, one_key, at_itself}
+use Rattle.ug_adjout.specs.Tables.{value_at, with_value}
+use Rattle.ug_adjout.specs.TableLaws.{value_at-here, value_at-other, with_value-sorted, one_key, at_itself}
 use Rattle.ug_adjout.specs.declared.row.Row.{Row}
 use Rattle.ug_adjout.specs.declared.row.Change.{Change}
 use Rattle.ug_adjout.specs.declared.waiting.Waiting.{Waiting}

@@ -6,8 +6,8 @@ use Rattle.std.specs.BTreeMap.{is_at}
 use Rattle.std.specs.Cmp.{nat_cmp_total}
 use Rattle.std.specs.List.Sorted.{IsStrictlySortedBy}
 use Rattle.std.specs.FinMap.{nat_cmp-IsAntisymmetric}
-use Rattle.ug_adjout_rules.specs.Tables.{value_at, with_value}
-use Rattle.ug_adjout_rules.specs.TableLaws.{removed_nothing}
+use Rattle.ug_adjout.specs.Tables.{value_at, with_value}
+use Rattle.ug_adjout.specs.TableLaws.{removed_nothing}
 use Rattle.ug_adjout.specs.declared.slot.Slot.{Slot}
 use Rattle.ug_adjout.specs.declared.waiting.Waiting.{Waiting}
 use Rattle.ug_adjout.specs.Waits.{first_announced, value_or}

@@ -11,10 +11,10 @@ use Rattle.std.specs.declared.cmp.Ordering.{Ordering}
 use Rattle.std.proofs.lemmas.Map.Keys.{sorted_head, sorted_tail}
 use Rattle.std.proofs.lemmas.Bool.{cond-true, cond-false, not_from_true, not_from_false}
 use Rattle.std.proofs.lemmas.Bool.Decides.{nat_tests}
-use Rattle.ug_adjout_rules.specs.Tables.{has, without, value_at, with_value, IsTable}
-use Rattle.ug_adjout_rules.specs.TableLaws.{value_at-here, value_at-other, with_value-same, none_above, has-keys_of, has-filter, filter_but_one, one_key, at_itself, at_turned}
-use Rattle.ug_adjout_rules.specs.Pending.{AdjRibOut, waits, still_forced, requeue, with_desired, with_formatted}
-use Rattle.ug_adjout_rules.specs.PendingLaws.{requeue_one, without_absent, waits-with_desired, waits-with_formatted}
+use Rattle.ug_adjout.specs.Tables.{has, without, value_at, with_value, IsTable}
+use Rattle.ug_adjout.specs.TableLaws.{value_at-here, value_at-other, with_value-same, none_above, has-keys_of, has-filter, filter_but_one, one_key, at_itself, at_turned}
+use Rattle.ug_adjout.specs.Pending.{AdjRibOut, waits, still_forced, requeue, with_desired, with_formatted}
+use Rattle.ug_adjout.specs.PendingLaws.{requeue_one, without_absent, waits-with_desired, waits-with_formatted}
 use Rattle.ug_adjout.specs.declared.row.Row.{Row}
 use Rattle.ug_adjout.specs.declared.row.Change.{Change}
 use Rattle.ug_adjout.specs.declared.waiting.Waiting.{Waiting}

@@ -1,7 +1,7 @@
 -- Rows, and how many of them are of formatted and of forced keys.
 use Rattle.std.specs.Prelude.{◌≡◌, ℕ, List, length}
 use Rattle.std.specs.declared.cmp.Ordering.{Ordering}
-use Rattle.ug_adjout_rules.specs.Tables.{IsTable}
+use Rattle.ug_adjout.specs.Tables.{IsTable}
 use Rattle.ug_adjout.specs.declared.row.Row.{Row}
 use Rattle.ug_adjout.specs.Stored.{projected, formatted_of, mark_of}
 

@@ -7,3 +7,10 @@ pub mod Kept
 pub mod KeptSlots
 pub mod Stepped
 pub mod Seats
+pub mod Tables
+pub mod Pending
+pub mod Formatting
+pub mod Desiring
+pub mod TableLaws
+pub mod PendingLaws
+pub mod FormattingLaws

@@ -4,7 +4,7 @@ use Rattle.std.specs.Prelude.{◌≡◌, ◌≢◌, ℕ, List, Option, Some, Non
 use Rattle.std.specs.List.{AllByRecursion}
 use Rattle.std.specs.Ordering.{nat_cmp}
 use Rattle.std.specs.declared.cmp.Ordering.{Ordering}
-use Rattle.ug_adjout_rules.specs.Tables.{value_at, with_value, IsTable}
+use Rattle.ug_adjout.specs.Tables.{value_at, with_value, IsTable}
 use Rattle.ug_adjout.specs.declared.row.Row.{Row}
 use Rattle.ug_adjout.specs.declared.seat.Seat.{Seat}
 use Rattle.ug_adjout.specs.declared.waiting.Waiting.{Waiting}

@@ -5,7 +5,7 @@ use Rattle.std.specs.Option.{option_eq}
 use Rattle.std.specs.Ordering.{nat_cmp}
 use Rattle.std.specs.Map.{remove_entry}
 use Rattle.std.specs.BTreeMap.{insert_entry, is_at}
-use Rattle.ug_adjout_rules.specs.Tables.{value_at}
+use Rattle.ug_adjout.specs.Tables.{value_at}
 use Rattle.ug_adjout.specs.declared.row.Row.{Row}
 use Rattle.ug_adjout.specs.declared.row.Change.{Change}
 use Rattle.ug_adjout.specs.declared.waiting.Waiting.{Waiting}

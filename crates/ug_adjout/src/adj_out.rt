@@ -1,8 +1,8 @@
 ghost use Rattle.std.specs.Prelude.{◌≡◌, ◌<◌, ◌≤◌, ◌^◌, ℕ, nat_eq, is_some, true, ◌==◌, length, Some, None, OnOk, OnErr, IfOk, IsOk, IfSome, IfNone, option_copied, slice_get, IsTrue, ◌↔◌};
-ghost use Rattle.ug_adjout_rules.specs.Tables.{value_at, has, rows_after};
-ghost use Rattle.ug_adjout_rules.specs.Pending.{nothing_out, with_desired, with_all_forced, with_formatted, IsExact};
-ghost use Rattle.ug_adjout_rules.specs.Desiring.{AreForcedShown};
-ghost use Rattle.ug_adjout_rules.specs.Formatting.{fitting, withdrawals, announcements, alike, value_of_first};
+ghost use Rattle.ug_adjout.specs.Tables.{value_at, has, rows_after};
+ghost use Rattle.ug_adjout.specs.Pending.{nothing_out, with_desired, with_all_forced, with_formatted, IsExact};
+ghost use Rattle.ug_adjout.specs.Desiring.{AreForcedShown};
+ghost use Rattle.ug_adjout.specs.Formatting.{fitting, withdrawals, announcements, alike, value_of_first};
 ghost use Rattle.std.specs.Option.{option_map};
 
 use crate::marked::Marked;
@@ -25,7 +25,7 @@ pub struct AdjOut<K: OutKey> {
 
 impl<K: OutKey> Model for AdjOut<K> {
     ghost use Rattle.std.specs.Prelude.{ℕ};
-    ghost use Rattle.ug_adjout_rules.specs.Pending.{AdjRibOut};
+    ghost use Rattle.ug_adjout.specs.Pending.{AdjRibOut};
 
     ghost Value = { AdjRibOut K ℕ };
 

@@ -1,6 +1,6 @@
 //! The rows behind a key.
 ghost use Rattle.std.specs.Prelude.{◌≡◌, slice_get, option_copied};
-ghost use Rattle.ug_adjout_rules.specs.Tables.{rows_after};
+ghost use Rattle.ug_adjout.specs.Tables.{rows_after};
 ghost use Rattle.ug_adjout.specs.Stored.{projected, formatted_of, desired_of, of_row, start_at};
 ghost use Rattle.ug_adjout.specs.Seats.{seat_at, row_of, rows_by};
 

@@ -4,7 +4,7 @@ ghost use Rattle.std.specs.Option.{option_map};
 ghost use Rattle.std.specs.Map.{remove_entry};
 ghost use Rattle.std.specs.Ordering.{nat_cmp};
 ghost use Rattle.std.specs.BTreeMap.{insert_entry, is_at};
-ghost use Rattle.ug_adjout_rules.specs.Tables.{value_at};
+ghost use Rattle.ug_adjout.specs.Tables.{value_at};
 ghost use Rattle.ug_adjout.specs.Placed.{placed};
 
 use std::alloc::Global;

@@ -1,5 +1,5 @@
 ghost use Rattle.std.specs.Prelude.{◌≡◌, [], Some, None, OnOk, OnErr, IfOk, option_copied, option_map, slice_get};
-ghost use Rattle.ug_adjout_rules.specs.Tables.{value_at, with_value, rows_after};
+ghost use Rattle.ug_adjout.specs.Tables.{value_at, with_value, rows_after};
 ghost use Rattle.ug_adjout.specs.Stored.{row_lent};
 
 use crate::after::start_of;

@@ -1,4 +1,5 @@
-//! The Adj-RIB-Out of a subgroup: what was formatted, what is desired, and the keys for which a packet is owed.
+//! The Adj-RIB-Out of a subgroup: what was formatted, what is desired, and the keys for which a packet is owed; its
+//! words, which are tables, the pending list and the packet that is owed next, and laws about them.
 #![tactic(auto)]
 
 mod adj_out;
@@ -9,6 +10,7 @@ mod desired;
 mod first;
 mod kept;
 mod kept_slot;
+mod laws;
 mod line;
 mod marked;
 mod out_key;
@@ -25,5 +27,6 @@ mod waiting;
 
 pub use adj_out::AdjOut;
 pub use desired::Desired;
+pub use laws::{all_desired_law, exact_laws, fitting_law, requeue_law};
 pub use marked::Marked;
 pub use out_key::OutKey;

@@ -3,8 +3,8 @@ ghost use Rattle.std.specs.Prelude.{◌≡◌, ◌<◌, ◌^◌, [], length, OnO
 ghost use Rattle.std.specs.Map.{remove_entry};
 ghost use Rattle.std.specs.Ordering.{nat_cmp};
 ghost use Rattle.std.specs.BTreeMap.{insert_entry, is_at};
-ghost use Rattle.ug_adjout_rules.specs.Tables.{value_at, with_value};
-ghost use Rattle.ug_adjout_rules.specs.Formatting.{fitting};
+ghost use Rattle.ug_adjout.specs.Tables.{value_at, with_value};
+ghost use Rattle.ug_adjout.specs.Formatting.{fitting};
 ghost use Rattle.ug_adjout.specs.Waits.{keys_for, first_announced, from_place};
 ghost use Rattle.ug_adjout.specs.Seats.{named, seat_at};
 ghost use Rattle.ug_adjout.specs.Places.{IsFirstFrom, IsNoneBetween, AreNumbered, withdraws, announces};

@@ -3,8 +3,8 @@ ghost use Rattle.std.specs.Prelude.{◌≡◌, ◌<◌, ◌^◌, [], length, IsS
 ghost use Rattle.std.specs.Map.{keys_of, remove_entry};
 ghost use Rattle.std.specs.Ordering.{nat_cmp};
 ghost use Rattle.std.specs.BTreeMap.{insert_entry, is_at};
-ghost use Rattle.ug_adjout_rules.specs.Tables.{value_at, with_value, rows_after};
-ghost use Rattle.ug_adjout_rules.specs.Formatting.{fitting};
+ghost use Rattle.ug_adjout.specs.Tables.{value_at, with_value, rows_after};
+ghost use Rattle.ug_adjout.specs.Formatting.{fitting};
 ghost use Rattle.ug_adjout.specs.Seats.{HaveRows, rows_in};
 ghost use Rattle.ug_adjout.specs.Stored.{projected, formatted_of, desired_of, mark_of};
 ghost use Rattle.ug_adjout.specs.Stepped.{known, stepped, lined, IsReady};

@@ -2,7 +2,7 @@
 ghost use Rattle.std.specs.Prelude.{◌≡◌, ◌+◌, ◌<◌, ◌^◌, ℕ, [], is_some, length, IsTrue, IsOk, IfOk, IfSome, IfNone, OnOk, OnErr, Some, None, true, false, if◌then◌else◌, option_copied, slice_get};
 ghost use Rattle.std.specs.Map.{keys_of};
 ghost use Rattle.std.specs.BTreeMap.{insert_entry};
-ghost use Rattle.ug_adjout_rules.specs.Tables.{value_at, with_value, rows_after};
+ghost use Rattle.ug_adjout.specs.Tables.{value_at, with_value, rows_after};
 ghost use Rattle.ug_adjout.specs.Seats.{seat_in, rows_in, named_in, key_of, IsLined, HaveRows};
 ghost use Rattle.ug_adjout.specs.Stored.{projected, formatted_of, desired_of, mark_of, of_row};
 ghost use Rattle.ug_adjout.specs.Stepped.{known, makes_row, stepped, lined, IsReady};

@@ -1,6 +1,6 @@
 //! A step, done where the row lies.
 ghost use Rattle.std.specs.Prelude.{◌≡◌, ◌<◌, ◌^◌, ℕ, true, OnOk, OnErr, IsOk, IfOk, IfSome, IfNone, IsSome, Some, None};
-ghost use Rattle.ug_adjout_rules.specs.Tables.{value_at, with_value, IsTable};
+ghost use Rattle.ug_adjout.specs.Tables.{value_at, with_value, IsTable};
 ghost use Rattle.ug_adjout.specs.Seats.{seat_at, key_of, row_of, handle_with, IsReseated, IsChanged};
 ghost use Rattle.ug_adjout.specs.Stepped.{known, makes_row, stepped, lined, IsReady};
 ghost use Rattle.ug_adjout.specs.declared.step.Step.TheVariants.{Format};

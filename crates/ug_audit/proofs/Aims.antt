@@ -5,23 +5,23 @@ use Rattle.std.proofs.lemmas.List.{length-map}
 use Rattle.ug_types.specs.declared.key.Key.{Key}
 use Rattle.ug_types.specs.declared.mark.Mark.{Mark}
 use Rattle.ug_types.specs.Messages.{Message}
-use Rattle.ug_table_rules.specs.Tables.{Table}
-use Rattle.ug_climb.specs.declared.change.Change.{Change}
+use Rattle.ug_message.specs.Tables.{Table}
+use Rattle.ug_hearing.specs.declared.change.Change.{Change}
 use Rattle.ug_hearing.specs.Courses.{IsCourse}
 use Rattle.ug_hearing.specs.Logs.{IsLog}
 use Rattle.ug_world.specs.declared.peer_state.PeerState.{PeerState}
 use Rattle.ug_world.specs.World.{World}
 use Rattle.ug_world.specs.Private.{private_table}
 use Rattle.ug_world.specs.Worlds.{past}
-use Rattle.ug_session_rules.specs.declared.breach.Ending.{Ending}
-use Rattle.ug_session_rules.specs.declared.breach.Breach.{Breach}
-use Rattle.ug_session_rules.specs.Breaches as breaches
-use Rattle.ug_session_rules.specs.Breaches.{IsOneOf, Unread, Stuck, Amiss, Short, Off, breach_cmp}
+use Rattle.ug_hearing.specs.declared.breach.Ending.{Ending}
+use Rattle.ug_hearing.specs.declared.breach.Breach.{Breach}
+use Rattle.ug_hearing.specs.Breaches as breaches
+use Rattle.ug_hearing.specs.Breaches.{IsOneOf, Unread, Stuck, Amiss, Short, Off, breach_cmp}
 use Rattle.ug_audit_rules.specs.declared.entry.Entry.{Entry}
 use Rattle.ug_audit_rules.specs.Audited.{is_lost_in, marks_in, marks_to, open_table, IsHeardRight, IsFirstBreach}
 use Rattle.ug_audit_rules.proofs.Timelines.{right-by, first-by}
-use Rattle.ug_verdict.specs.declared.session.Session.{Session}
-use Rattle.ug_verdict.specs.Judged.{IsSession, table_in, last_table}
+use Rattle.ug_hearing.specs.declared.session.Session.{Session}
+use Rattle.ug_hearing.specs.Judged.{IsSession, table_in, last_table}
 use Rattle.ug_timeline.specs.Timelines.{IsSpan, end_of}
 use Rattle.ug_timeline.proofs.Following.{course}
 use Rattle.ug_audit.specs.declared.asked.Asked.{Asked}

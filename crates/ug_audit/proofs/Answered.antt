@@ -6,7 +6,7 @@ use Rattle.ug_world.specs.declared.peer_state.PeerState.{PeerState}
 use Rattle.ug_world.specs.World.{World}
 use Rattle.ug_config.specs.Worlds as configs
 use Rattle.ug_types.specs.declared.key.Key.{Key}
-use Rattle.ug_session_rules.specs.declared.breach.Breach.{Breach}
+use Rattle.ug_hearing.specs.declared.breach.Breach.{Breach}
 use Rattle.ug_audit_rules.proofs.Refuted.{heard-sound, refuted}
 use Rattle.ug_audit_rules.specs.Audited.{IsSound, IsAudited, marks_in, is_lost_in}
 use Rattle.ug_report.specs.declared.status.Status.{Status}

@@ -4,8 +4,8 @@ use Rattle.std.proofs.lemmas.List.{append-nil}
 use Rattle.ug_edge.specs.Told.{AppendsAll, TakesFront, IsEnded, HasPicked, FileText, Untold, Missing, Bytes, file_told, missing_or_bytes}
 use Rattle.ug_pieces.specs.Lines.{lines_of, ended_from}
 use Rattle.ug_pieces.specs.Pieces.{HasRead}
-use Rattle.ug_report_reader.specs.Told.{most_lines}
-use Rattle.ug_report_reader.specs.Reading.{most_bytes}
+use Rattle.ug_audit_rules.specs.Told.{most_lines}
+use Rattle.ug_audit_rules.specs.Reading.{most_bytes}
 use Rattle.ug_audit.specs.Files.{IsFile, IsWithin, IsPast}
 
 -- what is left of it, where that is told

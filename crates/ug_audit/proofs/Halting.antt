@@ -4,7 +4,7 @@ use Rattle.ug_types.specs.declared.memory.NoMemory.{NoMemory}
 use Rattle.ug_pieces.specs.declared.halt.Halt.{Halt}
 use Rattle.ug_pieces.specs.declared.halt.Halt.TheVariants as halts
 use Rattle.ug_pieces.specs.Pieces.{IsHalt}
-use Rattle.ug_verdict.specs.declared.session.Session.{Session}
+use Rattle.ug_hearing.specs.declared.session.Session.{Session}
 use Rattle.ug_audit.specs.declared.listener.Listener.{Listener}
 use Rattle.ug_audit.specs.Heard.{HasGone}
 use Rattle.ug_audit.specs.Verdicts.{IsStop, most_bytes}

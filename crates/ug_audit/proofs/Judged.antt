@@ -7,24 +7,24 @@ use Rattle.ug_types.specs.declared.mark.Mark.{Mark}
 use Rattle.ug_types.specs.Messages.{Message}
 use Rattle.ug_text.specs.Cutting.{pieces, ◌>>=◌}
 use Rattle.ug_pieces.specs.Lines.{lines_of}
-use Rattle.ug_table_rules.specs.Tables.{Table}
+use Rattle.ug_message.specs.Tables.{Table}
 use Rattle.ug_world.specs.declared.peer_state.PeerState.{PeerState}
 use Rattle.ug_world.specs.World.{World}
 use Rattle.ug_world.specs.Private.{private_table}
 use Rattle.ug_world.specs.Worlds.{past}
-use Rattle.ug_session_rules.specs.declared.breach.Ending.{Ending}
-use Rattle.ug_session_rules.specs.declared.breach.Breach.{Breach}
-use Rattle.ug_session_rules.specs.Breaches.{IsOneOf, IsReadAs}
+use Rattle.ug_hearing.specs.declared.breach.Ending.{Ending}
+use Rattle.ug_hearing.specs.declared.breach.Breach.{Breach}
+use Rattle.ug_hearing.specs.Breaches.{IsOneOf, IsReadAs}
 use Rattle.ug_audit_rules.specs.declared.entry.Entry.{Entry}
 use Rattle.ug_audit_rules.specs.declared.entry.Entry.TheVariants.{Passes, Sync, Lost, Unclear}
 use Rattle.ug_audit_rules.specs.Audited.{opened_with, mark_in, marks_in, is_lost_in, IsHeardRight, IsFirstBreach}
 use Rattle.ug_audit_rules.specs.Reports.{entry_by, entry_of, entries_of, mark_or, mark_said, loss_or, loss_said, peer_names_in, place_from, written_number, where_true, had_session}
-use Rattle.ug_report_reader.specs.Told.{TellsAsMuch}
-use Rattle.ug_session_rules.specs.Certificates.{KeyClimb}
-use Rattle.ug_verdict.specs.declared.session.Session.{Session}
-use Rattle.ug_verdict.specs.declared.judge.Judge.{Judge}
-use Rattle.ug_verdict.specs.Judged.{IsSession}
-use Rattle.ug_verdict.specs.Climbed.{AreOfJudged}
+use Rattle.ug_audit_rules.specs.Told.{TellsAsMuch}
+use Rattle.ug_hearing.specs.Certificates.{KeyClimb}
+use Rattle.ug_hearing.specs.declared.session.Session.{Session}
+use Rattle.ug_hearing.specs.declared.judge.Judge.{Judge}
+use Rattle.ug_hearing.specs.Judged.{IsSession}
+use Rattle.ug_hearing.specs.Climbed.{AreOfJudged}
 use Rattle.ug_audit.specs.declared.verdict.Verdict.{Verdict}
 use Rattle.ug_audit.specs.declared.verdict.Verdict.TheVariants as verdicts
 use Rattle.ug_audit.specs.Verdicts.{most_bytes, Agrees, IsVerdictOn}

@@ -5,8 +5,8 @@ use Rattle.ug_types.specs.declared.capabilities.Capabilities.{Capabilities}
 use Rattle.ug_types.specs.Messages.{Message}
 use Rattle.ug_message.specs.Received.{AreSpelled, IsStream, IsUnfinished, IsFaultyAt, Front, Says, Faulty, Awaited}
 use Rattle.ug_update.specs.Readers.{ReaderState, HasRead, Gives, Waits, answer_at, front, state_after, fed}
-use Rattle.ug_session_rules.specs.declared.breach.Ending.TheVariants.{Whole, Cut, Malformed}
-use Rattle.ug_session_rules.specs.Breaches.{IsReadAs}
+use Rattle.ug_hearing.specs.declared.breach.Ending.TheVariants.{Whole, Cut, Malformed}
+use Rattle.ug_hearing.specs.Breaches.{IsReadAs}
 use Rattle.ug_audit.specs.Heard.{IsReadTo}
 use Rattle.ug_audit.proofs.Reading.{fault-stays, same_session, gave, fed_open}
 

@@ -6,10 +6,10 @@ use Rattle.std.specs.List.Sorted.{IsPermutation, IsNonDecreasingBy}
 use Rattle.std.proofs.lemmas.List.Sorted.{Contains-permutation, IsPermutation-sym}
 use Rattle.std.proofs.lemmas.List.Elements.{filter-append}
 use Rattle.ug_types.specs.declared.mark.Mark.{Mark}
-use Rattle.ug_session_rules.specs.Breaches.{IsOneOf}
+use Rattle.ug_hearing.specs.Breaches.{IsOneOf}
 use Rattle.ug_audit_rules.specs.declared.entry.Entry.{Entry}
 use Rattle.ug_audit_rules.specs.Audited.{mark_in, marks_in, marks_to}
-use Rattle.ug_verdict.specs.Judged.{Rise}
+use Rattle.ug_hearing.specs.Judged.{Rise}
 
 pub marks_more : (p n : ℕ) (xs : List Entry) (i : ℕ) (d : Entry) → i < length xs → marks_to p n (marks_in (drop i xs)) ≡ marks_to p n (mark_in (get_or xs i d)) ++ marks_to p n (marks_in (drop (suc i) xs))
 marks_more p n [] i d inside = absurd (omega arith)

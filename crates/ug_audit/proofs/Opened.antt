@@ -23,7 +23,7 @@ use Rattle.ug_speaker.specs.Owes.{IsOpening}
 use Rattle.ug_timeline.specs.Lines.{said_in}
 use Rattle.ug_timeline.specs.Timelines.{IsFirst}
 use Rattle.ug_timeline.proofs.Naming.{names-after}
-use Rattle.ug_report_reader.specs.Told.{most_lines}
+use Rattle.ug_audit_rules.specs.Told.{most_lines}
 use Rattle.ug_audit.specs.Files.{IsWithin}
 use Rattle.ug_audit.specs.Auditing.{last_of}
 

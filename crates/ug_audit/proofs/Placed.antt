@@ -8,11 +8,11 @@ use Rattle.std.proofs.lemmas.Option.{slice_get_within, get_or_from_slice_get}
 use Rattle.ug_edge.specs.Told.{AppendsAll, FileTold, FileText, file_told}
 use Rattle.ug_world.specs.declared.peer_state.PeerState.{PeerState}
 use Rattle.ug_world.specs.World.{World}
-use Rattle.ug_session_rules.specs.declared.breach.Breach.{Breach}
+use Rattle.ug_hearing.specs.declared.breach.Breach.{Breach}
 use Rattle.ug_audit_rules.specs.declared.entry.Entry.{Entry}
 use Rattle.ug_audit_rules.specs.Audited.{opened_with}
-use Rattle.ug_verdict.specs.declared.session.Session.{Session}
-use Rattle.ug_verdict.specs.declared.judge.Judge.{Judge}
+use Rattle.ug_hearing.specs.declared.session.Session.{Session}
+use Rattle.ug_hearing.specs.declared.judge.Judge.{Judge}
 use Rattle.ug_audit.specs.declared.verdict.Verdict.{Verdict}
 use Rattle.ug_audit.specs.declared.verdict.Verdict.TheVariants as verdicts
 use Rattle.ug_audit.specs.Verdicts.{most_bytes, IsVerdictOn}
@@ -23,7 +23,7 @@ use Rattle.ug_audit.specs.Asked.{IsAsked, IsAimed, IsAimedBy}
 use Rattle.ug_command_line.specs.Words.{AuditCommand}
 use Rattle.ug_audit.specs.Files.{IsFile}
 use Rattle.ug_audit.specs.Sessions.{SessionOf, sessions_from, sessions_of, sessions_of_peers, file_name, file_of}
-use Rattle.ug_fields.specs.Reads.{Reads}
+use Rattle.ug_config.specs.Reads.{Reads}
 use Rattle.ug_audit.specs.Auditing.{worlds_of, last_of, told_by, StandsFor, HasEvents, HasReport, IsRight}
 use Rattle.ug_audit.specs.Auditing as audits
 use Rattle.ug_audit.specs.declared.last.LastPeer.{LastPeer}
@@ -34,7 +34,7 @@ use Rattle.ug_timeline.proofs.GroupTables.{which-world, same-one}
 use Rattle.ug_audit.specs.declared.stop.Stop.{Stop}
 use Rattle.ug_audit.specs.declared.stop.Stop.TheVariants as stops
 use Rattle.ug_audit.specs.declared.run.Run.{Run}
-use Rattle.ug_report_reader.specs.Told.{TellsAsMuch}
+use Rattle.ug_audit_rules.specs.Told.{TellsAsMuch}
 use Rattle.ug_audit.specs.Stopping.{IsFileStop, IsRefutedBy, IsStopped, last_in, IsRun, IsOf, IsAt}
 use Rattle.ug_audit.proofs.FilesTold.{more_names}
 use Rattle.ug_audit.proofs.Steps.{at_first, at_last, goes_on, starves_before, starves_behind, session_stop, refuted_stop}

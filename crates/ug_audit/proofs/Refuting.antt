@@ -4,14 +4,14 @@ use Rattle.std.proofs.lemmas.List.{append-nil}
 use Rattle.ug_types.specs.declared.key.Key.{Key}
 use Rattle.ug_types.specs.declared.mark.Mark.{Mark}
 use Rattle.ug_types.specs.Messages.{Message}
-use Rattle.ug_table_rules.specs.Tables.{Table, table_of, tables_after}
-use Rattle.ug_table_rules.specs.Climbing.{ClimbsFrom, values_at}
-use Rattle.ug_session_rules.specs.declared.breach.Ending.{Ending}
-use Rattle.ug_session_rules.specs.declared.breach.Breach.{Breach}
-use Rattle.ug_session_rules.specs.Breaches.{IsAmiss, IsShort, IsBreach, Unread, Stuck, Amiss, Short, Off, IsHeardRight}
-use Rattle.ug_verdict.specs.declared.session.Session.{Session}
-use Rattle.ug_verdict.specs.declared.judge.Judge.{Judge}
-use Rattle.ug_verdict.specs.Judged.{IsJudged, IsSo, table_in, last_table}
+use Rattle.ug_message.specs.Tables.{Table, table_of, tables_after}
+use Rattle.ug_message.specs.Climbing.{ClimbsFrom, values_at}
+use Rattle.ug_hearing.specs.declared.breach.Ending.{Ending}
+use Rattle.ug_hearing.specs.declared.breach.Breach.{Breach}
+use Rattle.ug_hearing.specs.Breaches.{IsAmiss, IsShort, IsBreach, Unread, Stuck, Amiss, Short, Off, IsHeardRight}
+use Rattle.ug_hearing.specs.declared.session.Session.{Session}
+use Rattle.ug_hearing.specs.declared.judge.Judge.{Judge}
+use Rattle.ug_hearing.specs.Judged.{IsJudged, IsSo, table_in, last_table}
 
 -- a climb is one to each of its messages
 climbs-front : {V : Type 0} (past vs : List V) (from m : ℕ) → ClimbsFrom past from vs → ClimbsFrom past from (take m vs)

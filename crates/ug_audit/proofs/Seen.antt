@@ -12,10 +12,10 @@ use Rattle.ug_world.specs.World.{World}
 use Rattle.ug_audit_rules.specs.declared.entry.Entry.{Entry}
 use Rattle.ug_audit_rules.specs.declared.entry.Entry.TheVariants.{Unclear}
 use Rattle.ug_audit_rules.specs.Reports.{entry_of, AreClear}
-use Rattle.ug_report_reader.specs.Told.{IsFirstUnclear}
-use Rattle.ug_report_reader.specs.declared.stop.Stop.TheVariants as stops
-use Rattle.ug_report_reader.specs.Told.{most_lines}
-use Rattle.ug_report_reader.specs.Reading.{most_bytes, IsReport, IsReportHalt}
+use Rattle.ug_audit_rules.specs.Told.{IsFirstUnclear}
+use Rattle.ug_audit_rules.specs.declared.stop.Stop.TheVariants as stops
+use Rattle.ug_audit_rules.specs.Told.{most_lines}
+use Rattle.ug_audit_rules.specs.Reading.{most_bytes, IsReport, IsReportHalt}
 use Rattle.ug_commands.specs.Files.{IsPartOf}
 use Rattle.ug_commands.proofs.Ends as ends
 use Rattle.ug_commands.proofs.Ends.{part_read, part_unread}

@@ -4,8 +4,8 @@ use Rattle.std.specs.String.{string_bytes}
 use Rattle.std.proofs.lemmas.List.{append-nil, map-append}
 use Rattle.ug_edge.specs.Told.{AppendsAll, FileTold}
 use Rattle.ug_world.specs.World.{World}
-use Rattle.ug_session_rules.specs.declared.breach.Breach.{Breach}
-use Rattle.ug_session_rules.specs.Breaches.{kind_number}
+use Rattle.ug_hearing.specs.declared.breach.Breach.{Breach}
+use Rattle.ug_hearing.specs.Breaches.{kind_number}
 use Rattle.ug_audit.specs.Verdicts as verdicts
 use Rattle.ug_audit.specs.Texts.{refuted_text}
 use Rattle.ug_command_line.specs.Words.{AuditCommand}

@@ -5,10 +5,10 @@ use Rattle.std.specs.Fmt.{decimal}
 use Rattle.std.specs.List.{flat_map}
 use Rattle.std.proofs.lemmas.Grind.{flat_map-append}
 use Rattle.std.proofs.lemmas.List.{append-nil}
-use Rattle.ug_session_rules.specs.Certificates.{KeyClimb}
-use Rattle.ug_verdict.specs.declared.judge.Judge.{Judge}
-use Rattle.ug_verdict.specs.declared.climbs.Climbs.{Climbs}
-use Rattle.ug_verdict.specs.Climbed.{HandedOut}
+use Rattle.ug_hearing.specs.Certificates.{KeyClimb}
+use Rattle.ug_hearing.specs.declared.judge.Judge.{Judge}
+use Rattle.ug_hearing.specs.declared.climbs.Climbs.{Climbs}
+use Rattle.ug_hearing.specs.Climbed.{HandedOut}
 use Rattle.ug_audit.specs.Texts.{climb_text, session_text}
 use Rattle.ug_audit.specs.Certified.{AddsClimbs, AddsSession, HasAdded, IsNext}
 

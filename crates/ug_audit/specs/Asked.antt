@@ -6,8 +6,8 @@ use Rattle.ug_hearing.specs.Logs.{IsLog}
 use Rattle.ug_world.specs.declared.peer_state.PeerState.{PeerState}
 use Rattle.ug_world.specs.World.{World}
 use Rattle.ug_world.specs.Private.{private_table}
-use Rattle.ug_verdict.specs.declared.session.Session.{Session}
-use Rattle.ug_session_rules.specs.Breaches.{IsOneOf}
+use Rattle.ug_hearing.specs.declared.session.Session.{Session}
+use Rattle.ug_hearing.specs.Breaches.{IsOneOf}
 use Rattle.ug_audit_rules.specs.declared.entry.Entry.{Entry}
 use Rattle.ug_audit_rules.specs.Audited.{is_lost_in, marks_in, marks_to}
 use Rattle.ug_timeline.specs.Timelines.{IsSpan, end_of}

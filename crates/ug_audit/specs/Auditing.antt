@@ -5,18 +5,18 @@ use Rattle.ug_types.specs.Messages.{Message}
 use Rattle.ug_edge.specs.Told.{AppendsPiece, FileTold}
 use Rattle.ug_pieces.specs.Lines.{ended_from}
 use Rattle.ug_pieces.specs.Reporting.{AppendsFront}
-use Rattle.ug_fields.specs.Reads.{Reads}
+use Rattle.ug_config.specs.Reads.{Reads}
 use Rattle.ug_world.specs.World.{World}
 use Rattle.ug_world.specs.Worlds.{worlds, last_world, past}
 use Rattle.ug_config.specs.Worlds as configs
-use Rattle.ug_session_rules.specs.declared.breach.Ending.{Ending}
-use Rattle.ug_session_rules.specs.declared.breach.Breach.{Breach}
-use Rattle.ug_session_rules.specs.Breaches.{IsReadAs, kind_number}
-use Rattle.ug_session_rules.specs.Certificates.{KeyClimb, AreClimbs}
+use Rattle.ug_hearing.specs.declared.breach.Ending.{Ending}
+use Rattle.ug_hearing.specs.declared.breach.Breach.{Breach}
+use Rattle.ug_hearing.specs.Breaches.{IsReadAs, kind_number}
+use Rattle.ug_hearing.specs.Certificates.{KeyClimb, AreClimbs}
 use Rattle.ug_audit_rules.specs.declared.entry.Entry.{Entry}
 use Rattle.ug_audit_rules.specs.Audited.{opened_with, marks_in, is_lost_in, IsHeardRight, IsFirstBreach}
 use Rattle.ug_audit_rules.specs.Reports.{entry_of, entries_of, AreClear}
-use Rattle.ug_report_reader.specs.Told.{IsFirstUnclear}
+use Rattle.ug_audit_rules.specs.Told.{IsFirstUnclear}
 use Rattle.ug_timeline.specs.Lines.{said_in}
 use Rattle.ug_audit.specs.Verdicts as verdicts
 use Rattle.ug_audit.specs.Texts.{session_text, refuted_text, unclear_text}

@@ -1,10 +1,10 @@
 -- What the certificate of a session adds to a text.
 use Rattle.std.specs.Prelude.{◌≡◌, ℕ, Bool, true, false, List, [], ◌∷◌, ◌++◌}
 use Rattle.std.specs.List.{flat_map}
-use Rattle.ug_session_rules.specs.Certificates.{KeyClimb}
-use Rattle.ug_verdict.specs.declared.judge.Judge.{Judge}
-use Rattle.ug_verdict.specs.declared.climbs.Climbs.{Climbs}
-use Rattle.ug_verdict.specs.Climbed.{HandedOut, AreOfJudged}
+use Rattle.ug_hearing.specs.Certificates.{KeyClimb}
+use Rattle.ug_hearing.specs.declared.judge.Judge.{Judge}
+use Rattle.ug_hearing.specs.declared.climbs.Climbs.{Climbs}
+use Rattle.ug_hearing.specs.Climbed.{HandedOut, AreOfJudged}
 use Rattle.ug_audit.specs.Texts.{climb_text, session_text}
 
 -- A line for each climb of the session behind whose messages the judge stands.

@@ -2,8 +2,8 @@
 use Rattle.std.specs.Prelude.{◌≡◌, ℕ, ◌<◌, ◌≤◌, ◌⊎◌, nat_le, Bool, true, false, List, [], length, take}
 use Rattle.ug_edge.specs.Told.{FileTold, Untold, Missing, Bytes}
 use Rattle.ug_pieces.specs.Lines.{lines_of, ended_from}
-use Rattle.ug_report_reader.specs.Told.{most_lines}
-use Rattle.ug_report_reader.specs.Reading.{most_bytes}
+use Rattle.ug_audit_rules.specs.Told.{most_lines}
+use Rattle.ug_audit_rules.specs.Reading.{most_bytes}
 
 -- These are the bytes of the file, where it is told.
 abbrev pub IsFile : FileTold → List ℕ → Type 0

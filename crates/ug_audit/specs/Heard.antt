@@ -2,11 +2,11 @@
 use Rattle.std.specs.Prelude.{◌≡◌, ℕ, ◌+◌, ◌-◌, ◌^◌, Bool, true, false, List, ◌++◌, length}
 use Rattle.ug_types.specs.declared.capabilities.Capabilities.{Capabilities}
 use Rattle.ug_types.specs.Messages.{Message}
-use Rattle.ug_table_rules.specs.Tables.{Table}
+use Rattle.ug_message.specs.Tables.{Table}
 use Rattle.ug_message.specs.Received.{IsUnfinished, IsFaultyAt}
 use Rattle.ug_update.specs.Readers.{ReaderState, HasRead}
-use Rattle.ug_verdict.specs.declared.session.Session.{Session}
-use Rattle.ug_verdict.specs.Judged.{IsSession, IsJudged}
+use Rattle.ug_hearing.specs.declared.session.Session.{Session}
+use Rattle.ug_hearing.specs.Judged.{IsSession, IsJudged}
 use Rattle.ug_audit.specs.declared.listener.Listener.{Listener}
 
 -- how many bytes the reader was given, and how many more it can be given

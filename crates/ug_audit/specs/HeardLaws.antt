@@ -1,7 +1,7 @@
 -- Bytes that came one piece after another.
 use Rattle.std.proofs.Common.{ℕ, List, [], ◌++◌, refl, sym, subst, ◌∙◌, append_assoc}
 use Rattle.std.proofs.lemmas.List.{append-nil}
-use Rattle.ug_verdict.specs.declared.session.Session.{Session}
+use Rattle.ug_hearing.specs.declared.session.Session.{Session}
 use Rattle.ug_audit.specs.declared.listener.Listener.{Listener}
 use Rattle.ug_audit.specs.Heard.{HasHeard, HasGone}
 

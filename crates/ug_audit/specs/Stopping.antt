@@ -6,11 +6,11 @@ use Rattle.ug_pieces.specs.Lines.{lines_of, ended_from}
 use Rattle.ug_world.specs.World.{World}
 use Rattle.ug_timeline.specs.Timelines.{IsFirst}
 use Rattle.ug_timeline.specs.Histories.{AreTimelines}
-use Rattle.ug_session_rules.specs.declared.breach.Breach.{Breach}
-use Rattle.ug_session_rules.specs.Breaches.{kind_number}
+use Rattle.ug_hearing.specs.declared.breach.Breach.{Breach}
+use Rattle.ug_hearing.specs.Breaches.{kind_number}
 use Rattle.ug_audit_rules.specs.declared.entry.Entry.{Entry}
 use Rattle.ug_audit_rules.specs.Reports.{entry_of, entries_of, AreClear}
-use Rattle.ug_report_reader.specs.Told.{TellsAsMuch, IsFirstUnclear}
+use Rattle.ug_audit_rules.specs.Told.{TellsAsMuch, IsFirstUnclear}
 use Rattle.ug_audit.specs.Texts.{refuted_text}
 use Rattle.ug_commands.specs.Files.{IsPartOf}
 use Rattle.ug_command_line.specs.Words.{AuditCommand}

@@ -4,10 +4,10 @@ use Rattle.std.specs.List.{flat_map}
 use Rattle.std.specs.Fmt.{decimal}
 use Rattle.ug_types.specs.declared.key.Key.{Key}
 use Rattle.ug_text.specs.Rows.{route_text}
-use Rattle.ug_climb.specs.Shifts.{Shift}
-use Rattle.ug_session_rules.specs.declared.breach.Breach.{Breach}
-use Rattle.ug_session_rules.specs.Breaches.{kind_number}
-use Rattle.ug_session_rules.specs.Certificates.{KeyClimb}
+use Rattle.ug_hearing.specs.Shifts.{Shift}
+use Rattle.ug_hearing.specs.declared.breach.Breach.{Breach}
+use Rattle.ug_hearing.specs.Breaches.{kind_number}
+use Rattle.ug_hearing.specs.Certificates.{KeyClimb}
 
 -- ` MESSAGE@PLACE`
 abbrev pub shift_text : Shift → List ℕ

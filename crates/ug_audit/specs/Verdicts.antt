@@ -3,14 +3,14 @@ use Rattle.std.specs.Prelude.{◌≡◌, ℕ, ◌<◌, ◌≤◌, List, length, 
 use Rattle.ug_types.specs.declared.memory.NoMemory.{NoMemory}
 use Rattle.ug_types.specs.declared.capabilities.Capabilities.{Capabilities}
 use Rattle.ug_types.specs.Messages.{Message}
-use Rattle.ug_table_rules.specs.Tables.{Table}
+use Rattle.ug_message.specs.Tables.{Table}
 use Rattle.ug_edge.specs.Told.{IsEnded}
 use Rattle.ug_pieces.specs.declared.halt.Halt.{Halt}
 use Rattle.ug_pieces.specs.declared.halt.Halt.TheVariants as halts
-use Rattle.ug_session_rules.specs.declared.breach.Ending.{Ending}
-use Rattle.ug_session_rules.specs.Breaches.{IsReadAs, IsHeardRight, IsFirstBreach}
-use Rattle.ug_verdict.specs.declared.session.Session.{Session}
-use Rattle.ug_verdict.specs.Judged.{IsSession, IsJudged, table_in, last_table}
+use Rattle.ug_hearing.specs.declared.breach.Ending.{Ending}
+use Rattle.ug_hearing.specs.Breaches.{IsReadAs, IsHeardRight, IsFirstBreach}
+use Rattle.ug_hearing.specs.declared.session.Session.{Session}
+use Rattle.ug_hearing.specs.Judged.{IsSession, IsJudged, table_in, last_table}
 use Rattle.ug_audit.specs.declared.verdict.Verdict.{Verdict}
 use Rattle.ug_audit.specs.declared.verdict.Verdict.TheVariants as verdicts
 

@@ -2,12 +2,12 @@
 
 ghost use Rattle.std.specs.Prelude.{◌≡◌, ◌++◌, IfOk, OnOk};
 ghost use Rattle.std.specs.String.{string_bytes};
-ghost use Rattle.ug_session_rules.specs.Breaches.{kind_number};
+ghost use Rattle.ug_hearing.specs.Breaches.{kind_number};
 ghost use Rattle.ug_audit.specs.Texts.{key_text, refuted_session, refuted_at, refuted_text, unclear_text};
 
 use crate::certificate::write_route;
 use std::alloc::Global;
-use ug_session_rules::{Breach, BreachKind};
+use ug_hearing::{Breach, BreachKind};
 use ug_types::{Key, NoMemory};
 
 /// The line of the first breach of a session.

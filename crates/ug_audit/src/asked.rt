@@ -8,10 +8,9 @@ ghost use Rattle.ug_audit.specs.Asked.{IsAsked, IsAimedBy};
 use crate::told::{is_lost, marks_to};
 use std::alloc::Global;
 use ug_audit_rules::Entry;
-use ug_hearing::Course;
+use ug_hearing::{Course, Session};
 use ug_timeline::Timeline;
 use ug_types::{NoMemory, PeerId};
-use ug_verdict::Session;
 
 /// What is asked of the session of a peer that it aims at, and what it knows of the others.
 #[derive(Drop)]

@@ -18,8 +18,8 @@ use std::alloc::Global;
 use ug_command_line::AuditWords;
 use ug_edge::{Sink, Site, Source};
 use ug_input_laws::configurations_open;
+use ug_pieces::ShortText;
 use ug_report::Status;
-use ug_short_text::ShortText;
 use ug_timeline::history_of;
 use ug_types::NoMemory;
 

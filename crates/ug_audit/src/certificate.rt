@@ -5,17 +5,17 @@ ghost use Rattle.std.specs.Fmt.{decimal};
 ghost use Rattle.std.specs.List.{flat_map};
 ghost use Rattle.std.specs.String.{string_bytes};
 ghost use Rattle.ug_text.specs.Rows.{route_text};
-ghost use Rattle.ug_session_rules.specs.Certificates.{KeyClimb};
-ghost use Rattle.ug_verdict.specs.Climbed.{shift_of, climb_with, keys_left, HandedOut};
+ghost use Rattle.ug_hearing.specs.Certificates.{KeyClimb};
+ghost use Rattle.ug_hearing.specs.Climbed.{shift_of, climb_with, keys_left, HandedOut};
 ghost use Rattle.ug_audit.specs.Texts.{shift_text, climb_text, session_text};
 ghost use Rattle.ug_audit.specs.Certified.{AddsSession, AddsClimbs, IsNext};
 
 use itoa::Buffer;
 use std::alloc::Global;
-use ug_short_text::ShortText;
+use ug_hearing::{Climbs, Judge, Move};
+use ug_pieces::ShortText;
 use ug_text::write_prefix;
 use ug_types::{Key, NoMemory};
-use ug_verdict::{Climbs, Judge, Move};
 
 /// From how many bytes on lines are added to a text.
 const PIECE: usize = 4096;

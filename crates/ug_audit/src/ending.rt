@@ -3,7 +3,7 @@
 ghost use Rattle.std.specs.Prelude.{◌≡◌, ◌⊎◌, [], ℕ, Option, List};
 ghost use Rattle.ug_edge.specs.Told.{Rose, AppendsPiece, AppendsAll, FileText, file_told};
 ghost use Rattle.ug_pieces.specs.Reporting.{AppendsFront};
-ghost use Rattle.ug_session_rules.specs.Breaches.{kind_number};
+ghost use Rattle.ug_hearing.specs.Breaches.{kind_number};
 ghost use Rattle.ug_audit.specs.Texts as texts;
 ghost use Rattle.ug_commands.specs.Files.{AppendsThenStatus};
 ghost use Rattle.ug_report.specs.Statuses.{status_text};
@@ -16,9 +16,8 @@ use crate::stop::Stop;
 use std::alloc::Global;
 use ug_commands::{end, end_refused};
 use ug_edge::{Failed, Sink};
-use ug_pieces::write_all;
+use ug_pieces::{ShortText, write_all};
 use ug_report::Status;
-use ug_short_text::ShortText;
 use ug_types::NoMemory;
 
 /// Writes the certificate, a piece after another. It takes no memory.

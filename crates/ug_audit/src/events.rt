@@ -12,8 +12,7 @@ use crate::stop::Stop;
 use std::alloc::Global;
 use ug_command_line::AuditWords;
 use ug_edge::{Site, Source};
-use ug_lines::count_lines;
-use ug_pieces::{Halt, read_whole};
+use ug_pieces::{Halt, count_lines, read_whole};
 use ug_types::{ByteList, NoMemory};
 
 /// The most bytes of a file of events, and the most lines.

@@ -17,7 +17,7 @@ use crate::stop::Stop;
 use crate::verdict::Verdict;
 use std::alloc::Global;
 use ug_edge::{Site, Source};
-use ug_short_text::ShortText;
+use ug_pieces::ShortText;
 use ug_types::{NoMemory, PeerId};
 
 impl Run {

@@ -8,13 +8,13 @@ ghost use Rattle.ug_world.specs.declared.peer_state.PeerState.{PeerState};
 ghost use Rattle.ug_world.specs.World.{World};
 ghost use Rattle.ug_world.specs.Private.{private_table};
 ghost use Rattle.ug_world.specs.Worlds.{worlds, last_world, past};
-ghost use Rattle.ug_session_rules.specs.declared.breach.Ending as endings;
-ghost use Rattle.ug_session_rules.specs.declared.breach.Breach as breaches;
-ghost use Rattle.ug_session_rules.specs.Breaches as session_rules;
+ghost use Rattle.ug_hearing.specs.declared.breach.Ending as endings;
+ghost use Rattle.ug_hearing.specs.declared.breach.Breach as breaches;
+ghost use Rattle.ug_hearing.specs.Breaches as session_rules;
 ghost use Rattle.ug_audit_rules.specs.declared.entry.Entry as entries;
 ghost use Rattle.ug_audit_rules.specs.Audited.{is_lost_in, marks_in, IsHeardRight, IsFirstBreach};
-ghost use Rattle.ug_verdict.specs.declared.session.Session as sessions;
-ghost use Rattle.ug_verdict.specs.Judged.{IsSession, table_in, last_table};
+ghost use Rattle.ug_hearing.specs.declared.session.Session as sessions;
+ghost use Rattle.ug_hearing.specs.Judged.{IsSession, table_in, last_table};
 ghost use Rattle.ug_audit.specs.declared.asked.Asked as asked;
 ghost use Rattle.ug_audit.specs.Asked.{IsAsked, IsAimed, AreWithin, EndsWith};
 

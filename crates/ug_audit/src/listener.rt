@@ -1,14 +1,13 @@
 //! A session heard as far as its bytes have come.
 
 ghost use Rattle.std.specs.Prelude.{◌≡◌, ◌<◌, ◌≤◌, ◌+◌, ◌++◌, ◌^◌, ℕ, List, [], length, true, false, OnOk, IfOk};
-ghost use Rattle.ug_session_rules.specs.Breaches.{IsReadAs};
+ghost use Rattle.ug_hearing.specs.Breaches.{IsReadAs};
 ghost use Rattle.ug_audit.specs.Heard.{HasHeard, IsSettled, bytes_in};
 
 use std::alloc::Global;
-use ug_session_rules::Ending;
+use ug_hearing::{Ending, Judge, Session};
 use ug_types::{Capabilities, Next, NoMemory};
 use ug_update::Reader;
-use ug_verdict::{Judge, Session};
 
 /// A reader of the bytes, a judge of the messages that they say, and whether a fault was found, behind which nothing is
 /// heard.

@@ -12,9 +12,9 @@ use crate::listener::Listener;
 use crate::verdict::Verdict;
 use std::alloc::Global;
 use ug_edge::Source;
+use ug_hearing::Session;
 use ug_pieces::{Halt, Taker, read_pieces};
 use ug_types::{Capabilities, NoMemory};
-use ug_verdict::Session;
 
 /// The most bytes of a session.
 const MOST_BYTES: usize = 1 << 30;

@@ -3,18 +3,17 @@
 ghost use Rattle.std.specs.Prelude.{◌≡◌, ◌∷◌, [], ℕ, Option, List, OnOk, IfOk, IfErr, IsErrOf};
 ghost use Rattle.ug_edge.specs.Told.{Rose, AppendsAll, file_told};
 ghost use Rattle.ug_world.specs.World as worlds;
-ghost use Rattle.ug_report_reader.specs.Told.{TellsAsMuch};
+ghost use Rattle.ug_audit_rules.specs.Told.{TellsAsMuch};
 ghost use Rattle.ug_audit.specs.Auditing.{HasEvents, HasReport, last_of, told_by};
 ghost use Rattle.ug_audit.specs.Stopping.{said, IsStopped, IsTold, IsToldStop};
 
 use crate::picking::pick;
 use crate::stop::Stop;
 use std::alloc::Global;
-use ug_audit_rules::Entry;
+use ug_audit_rules::{Entry, Stop as LineStop, read_report};
 use ug_command_line::AuditWords;
 use ug_edge::{Site, Source};
 use ug_pieces::Halt;
-use ug_report_reader::{Stop as LineStop, read_report};
 use ug_world::World;
 
 /// What the lines of the report tell, after events that lead to this world.

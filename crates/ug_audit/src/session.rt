@@ -17,10 +17,9 @@ use crate::stop::Stop;
 use crate::verdict::Verdict;
 use std::alloc::Global;
 use ug_edge::{Site, Source};
+use ug_hearing::{Breach, Session};
 use ug_pieces::Halt;
-use ug_session_rules::Breach;
 use ug_types::{NoMemory, PeerId};
-use ug_verdict::Session;
 
 /// What is found of a session of a peer, all of whose file is read.
 pub fn hear_file<E: Site>(

@@ -1,4 +1,4 @@
-use ug_session_rules::Breach;
+use ug_hearing::Breach;
 use ug_types::{ByteList, PeerId};
 
 /// Why there is no certificate.

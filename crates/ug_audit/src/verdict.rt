@@ -1,5 +1,4 @@
-use ug_session_rules::Breach;
-use ug_verdict::Judge;
+use ug_hearing::{Breach, Judge};
 
 /// What is found of a session: the judge that stands behind its messages, which found no breach, or its first breach.
 #[derive(Drop)]

@@ -6,7 +6,7 @@ use Rattle.std.specs.Fmt.{decimal, digits, digits_onto, digit_glyph}
 use Rattle.std.proofs.lemmas.Bool.Decides.{nat_tests}
 use Rattle.ug_types.specs.declared.mark.Mark.{Mark}
 use Rattle.ug_pieces.specs.Lines.{ended_from, rest_from, where_some}
-use Rattle.ug_history_rules.specs.Deeds.{Each}
+use Rattle.ug_board.specs.Deeds.{Each}
 use Rattle.ug_world.specs.World.{World}
 use Rattle.ug_report.specs.declared.endings.Loss.{Loss}
 use Rattle.ug_report.specs.Report.{names_in, mark_text, loss_text}

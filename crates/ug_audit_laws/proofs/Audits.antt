@@ -12,8 +12,8 @@ use Rattle.ug_command_line.specs.Words.{AuditCommand}
 use Rattle.ug_audit_rules.specs.declared.entry.Entry.{Entry}
 use Rattle.ug_audit_rules.specs.declared.entry.Entry.TheVariants.{Unclear}
 use Rattle.ug_audit_rules.specs.Reports.{entry_of, entries_of, AreClear}
-use Rattle.ug_report_reader.specs.Told.{most_lines}
-use Rattle.ug_report_reader.specs.Reading.{most_bytes}
+use Rattle.ug_audit_rules.specs.Told.{most_lines}
+use Rattle.ug_audit_rules.specs.Reading.{most_bytes}
 use Rattle.ug_audit.specs.Files.{IsFile, lines_where, lines_within}
 use Rattle.ug_audit.specs.Auditing.{last_of, StandsFor, IsUnclear, IsAuditing}
 use Rattle.ug_audit.specs.Right.{AreRight}

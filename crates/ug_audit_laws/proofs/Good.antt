@@ -6,7 +6,7 @@ use Rattle.std.specs.List.{list_all}
 use Rattle.std.proofs.lemmas.Bool.{ltb-true}
 use Rattle.std.proofs.lemmas.Bool.Decides.{nat_tests}
 use Rattle.ug_types.specs.declared.mark.Mark.{Mark}
-use Rattle.ug_history_rules.specs.Deeds.{Each}
+use Rattle.ug_board.specs.Deeds.{Each}
 use Rattle.ug_events.specs.Events.{Happening, Saying, SaysNothing, SaysSync, Says}
 use Rattle.ug_events.specs.Reads.{Reads}
 use Rattle.ug_world.specs.declared.peer_state.PeerState.{PeerState}
@@ -17,10 +17,10 @@ use Rattle.ug_world.specs.Worlds.{judged, outcome, world_after, last_world}
 use Rattle.ug_speaker.specs.Right.{IsAmong}
 use Rattle.ug_report.specs.declared.endings.Loss.{Loss}
 use Rattle.ug_report.specs.Report.{is_of_64, AreOf64, losses_from}
-use Rattle.ug_run_rules.specs.Contents.{WireTold, Content, has_number, RiseFrom}
-use Rattle.ug_run_rules.proofs.EachWires.{EachWireFrom}
-use Rattle.ug_run_rules.specs.Marks.{asks_mark, AreMarks}
-use Rattle.ug_run_rules.specs.Kept.{IsWireOf}
+use Rattle.ug_event_loop.specs.Contents.{WireTold, Content, has_number, RiseFrom}
+use Rattle.ug_event_loop.proofs.EachWires.{EachWireFrom}
+use Rattle.ug_event_loop.specs.Marks.{asks_mark, AreMarks}
+use Rattle.ug_event_loop.specs.Kept.{IsWireOf}
 use Rattle.ug_speaker.proofs.Peers.{peer_after, peers-after, next-of, sessions-rise}
 use Rattle.ug_audit_rules.specs.Reports.{is_number_of}
 use Rattle.ug_audit_laws.proofs.Worlds.{IsNamed, CanBeTold, EachHad}

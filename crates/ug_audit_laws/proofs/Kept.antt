@@ -9,18 +9,18 @@ use Rattle.ug_world.specs.declared.peer_state.PeerState.{PeerState}
 use Rattle.ug_world.specs.World.{World}
 use Rattle.ug_world.specs.Worlds.{worlds, last_world}
 use Rattle.ug_speaker.specs.Right.{IsAmong}
-use Rattle.ug_run_rules.specs.Contents.{WireTold, Content, has_rest, EachSession, session_at, content_at, has_number, is_lost_of, is_lost_at}
-use Rattle.ug_run_rules.specs.Marks.{asks_mark}
-use Rattle.ug_run_rules.specs.Kept.{IsSent, IsSessionRight, IsSessionWhole, AreCounted, IsWireRight, IsWireOf, IsKept}
-use Rattle.ug_run_rules.proofs.Lists.{some-same}
-use Rattle.ug_session_rules.specs.Breaches.{IsOneOf}
+use Rattle.ug_event_loop.specs.Contents.{WireTold, Content, has_rest, EachSession, session_at, content_at, has_number, is_lost_of, is_lost_at}
+use Rattle.ug_event_loop.specs.Marks.{asks_mark}
+use Rattle.ug_event_loop.specs.Kept.{IsSent, IsSessionRight, IsSessionWhole, AreCounted, IsWireRight, IsWireOf, IsKept}
+use Rattle.ug_event_loop.proofs.Lists.{some-same}
+use Rattle.ug_hearing.specs.Breaches.{IsOneOf}
 use Rattle.ug_audit_rules.specs.declared.entry.Entry.{Entry}
 use Rattle.ug_audit_rules.specs.Audited.{opened_with, marks_in, is_lost_in, IsSynced, IsSound, IsAudited}
 use Rattle.ug_audit_laws.specs.Files.{bytes_of, held_by, all_syncs, TellAll}
 use Rattle.ug_audit_laws.specs.Reports.{AreTold}
 use Rattle.ug_audit_laws.proofs.Versions.{world-there}
 use Rattle.ug_audit_laws.proofs.Marked.{mark-of, marks-at, sync-line}
-use Rattle.ug_run_rules.proofs.EachWires.{one-by-one}
+use Rattle.ug_event_loop.proofs.EachWires.{one-by-one}
 use Rattle.ug_audit_laws.proofs.Wires.{peer-there, IsWireAt, wire-at, IsSessionAt, session-at}
 
 one_among : (m : Mark) (ms : List Mark) → IsOneOf m ms → IsAmong m ms

@@ -6,7 +6,7 @@ use Rattle.std.proofs.lemmas.Bool.Decides.{nat_tests}
 use Rattle.std.proofs.lemmas.List.Folds.{list_any-append}
 use Rattle.ug_report.specs.declared.endings.Loss.{Loss}
 use Rattle.ug_report.specs.Report.{losses_from}
-use Rattle.ug_run_rules.specs.Contents.{has_number, is_lost_of, is_lost_at}
+use Rattle.ug_event_loop.specs.Contents.{has_number, is_lost_of, is_lost_at}
 
 -- the loss is that of session `n` of the peer at a place
 abbrev pub is_loss : ℕ → ℕ → Loss → Bool

@@ -8,8 +8,8 @@ use Rattle.ug_world.specs.declared.peer_state.PeerState.{PeerState}
 use Rattle.ug_world.specs.World.{World}
 use Rattle.ug_world.specs.Worlds.{outcome, world_after, last_world}
 use Rattle.ug_speaker.specs.Right.{IsAmong}
-use Rattle.ug_run_rules.specs.Marks.{FirstIs, IsMarkOf, HasMarkOr, AreMarksFrom, AreMarksOf, AreMarks}
-use Rattle.ug_run_rules.specs.Kept.{HasMark}
+use Rattle.ug_event_loop.specs.Marks.{FirstIs, IsMarkOf, HasMarkOr, AreMarksFrom, AreMarksOf, AreMarks}
+use Rattle.ug_event_loop.specs.Kept.{HasMark}
 use Rattle.ug_audit_laws.specs.Files.{sync_marks, all_syncs}
 
 -- The mark is of a peer that is up, in its present session.

@@ -8,20 +8,20 @@ use Rattle.ug_types.specs.Names.{is_name}
 use Rattle.ug_types.specs.declared.family.Family.{Family}
 use Rattle.ug_types.specs.declared.family.Family.TheVariants.{V4}
 use Rattle.ug_text.specs.Cutting.{◌>>=◌ as ◌>=>◌}
-use Rattle.ug_history_rules.specs.Deeds.{Each}
+use Rattle.ug_board.specs.Deeds.{Each}
 use Rattle.ug_outbound.specs.declared.peer.Peer.{Peer}
 use Rattle.ug_world.specs.Parts.{fresh}
 use Rattle.ug_world.specs.World.{World}
 use Rattle.ug_report.specs.Report.{names_in}
-use Rattle.ug_fields.specs.declared.kind.Kind.TheVariants as kinds
-use Rattle.ug_fields.specs.declared.kind.Need.TheVariants as needs
-use Rattle.ug_fields.specs.declared.given.Given.{Given}
-use Rattle.ug_fields.specs.declared.given.Given.TheVariants as givens
-use Rattle.ug_fields.specs.Reads.{Refusal, ◌>>=◌, or_refused, missing}
-use Rattle.ug_fields.specs.Kinds.{peer_name, family_at, tables_at}
-use Rattle.ug_fields.specs.Tables.{document, fields}
-use Rattle.ug_fields.specs.Looks.{value_at, as_name}
-use Rattle.ug_fields.specs.Kinds.{value_as}
+use Rattle.ug_config.specs.declared.kind.Kind.TheVariants as kinds
+use Rattle.ug_config.specs.declared.kind.Need.TheVariants as needs
+use Rattle.ug_config.specs.declared.given.Given.{Given}
+use Rattle.ug_config.specs.declared.given.Given.TheVariants as givens
+use Rattle.ug_config.specs.Reads.{Refusal, ◌>>=◌, or_refused, missing}
+use Rattle.ug_config.specs.Kinds.{peer_name, family_at, tables_at}
+use Rattle.ug_config.specs.Tables.{document, fields}
+use Rattle.ug_config.specs.Looks.{value_at, as_name}
+use Rattle.ug_config.specs.Kinds.{value_as}
 use Rattle.ug_config.specs.Rows.{document_rows, peer_rows}
 use Rattle.ug_config.specs.Readings.{Tables, local_table, local, lists, maps, policies, peers, tables, peer, peer_of, own_name}
 use Rattle.ug_config.specs.Checks.{checked, fault, where_none, setup}

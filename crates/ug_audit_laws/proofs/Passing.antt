@@ -4,7 +4,7 @@ use Rattle.std.specs.Prelude.{codes, not, ◌&&◌, if◌then◌else◌}
 use Rattle.std.specs.List.{list_all}
 use Rattle.std.specs.Fmt.{decimal}
 use Rattle.ug_types.specs.declared.mark.Mark.{Mark}
-use Rattle.ug_history_rules.specs.Deeds.{Each}
+use Rattle.ug_board.specs.Deeds.{Each}
 use Rattle.ug_events.specs.Events.{Saying, SaysNothing, SaysSync, Says}
 use Rattle.ug_events.specs.Reads.{Refusal, Reads}
 use Rattle.ug_world.specs.World.{World}

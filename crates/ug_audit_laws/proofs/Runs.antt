@@ -5,7 +5,7 @@ use Rattle.ug_types.specs.declared.mark.Mark.{Mark}
 use Rattle.ug_edge.specs.Told.{FileTold, Bytes, AppendsPiece, file_told}
 use Rattle.ug_pieces.specs.Lines.{lines_of}
 use Rattle.ug_board.specs.Rules.{Rules}
-use Rattle.ug_history_rules.specs.Deeds.{Each}
+use Rattle.ug_board.specs.Deeds.{Each}
 use Rattle.ug_events.specs.Events.{Saying}
 use Rattle.ug_events.specs.Grammar.{line_of}
 use Rattle.ug_events.specs.Reads.{Reads}
@@ -26,7 +26,7 @@ use Rattle.ug_event_loop.specs.Files.{lines_read, IsPastLimits, most_lines}
 use Rattle.ug_commands.specs.Files.{IsPartOf, AppendsThenStatus}
 use Rattle.ug_commands.specs.Listed.{IsConfigured}
 use Rattle.ug_command_line.specs.Words.{RunCommand}
-use Rattle.ug_run_rules.specs.Kept.{IsKept}
+use Rattle.ug_event_loop.specs.Kept.{IsKept}
 use Rattle.ug_run.specs.Told.{RunTold, HasFailed, picked_before}
 use Rattle.ug_run.specs.Outcomes.{Course, Completes, IsOutcome, whole_text}
 use Rattle.ug_run.specs.Promise.{IsEarly, IsRun}

@@ -11,8 +11,8 @@ use Rattle.ug_config.specs.Worlds.{config}
 use Rattle.ug_config.proofs.Inverting.{ok_is}
 use Rattle.ug_command_line.specs.Words.{AuditCommand}
 use Rattle.ug_timeline.specs.Lines.{said_in}
-use Rattle.ug_run_rules.specs.Contents.{WireTold}
-use Rattle.ug_run_rules.proofs.Lists.{some-same}
+use Rattle.ug_event_loop.specs.Contents.{WireTold}
+use Rattle.ug_event_loop.proofs.Lists.{some-same}
 use Rattle.ug_audit_rules.specs.Audited.{IsAudited}
 use Rattle.ug_audit_rules.specs.Reports.{entries_of}
 use Rattle.ug_audit.specs.Right.{AreRight, held_by}

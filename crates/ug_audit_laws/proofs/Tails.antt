@@ -7,7 +7,7 @@ use Rattle.ug_pieces.specs.Lines.{ended_from, rest_from, where_some}
 use Rattle.ug_world.specs.World.{World}
 use Rattle.ug_report.specs.declared.endings.Loss.{Loss}
 use Rattle.ug_report.specs.Report.{names_in, name_at, lost_status, losses_status}
-use Rattle.ug_history_rules.specs.Deeds.{Each}
+use Rattle.ug_board.specs.Deeds.{Each}
 use Rattle.ug_audit_rules.specs.declared.entry.Entry.{Entry}
 use Rattle.ug_audit_rules.specs.declared.entry.Entry.TheVariants.{Passes}
 use Rattle.ug_audit_rules.specs.Audited.{mark_in}

@@ -1,7 +1,7 @@
 -- The report of a completed run is read as it was meant.
 use Rattle.std.proofs.Common.{◌≡◌, ℕ, ◌<◌, true, List, ◌++◌, length, sym, ◌∙◌, ap, subst, refl, arith}
 use Rattle.ug_types.specs.declared.mark.Mark.{Mark}
-use Rattle.ug_history_rules.specs.Deeds.{Each}
+use Rattle.ug_board.specs.Deeds.{Each}
 use Rattle.ug_events.specs.Events.{Saying}
 use Rattle.ug_events.specs.Reads.{Reads}
 use Rattle.ug_world.specs.Names.{are_distinct}
@@ -11,15 +11,15 @@ use Rattle.ug_speaker.specs.Owes.{IsOpening}
 use Rattle.std.specs.List.{concat}
 use Rattle.ug_report.specs.declared.endings.Loss.{Loss}
 use Rattle.ug_report.specs.Report.{AreOf64, names_in, line_texts, end_text, accepted_count, refused_count, completed_text, losses_from, losses_status}
-use Rattle.ug_run_rules.specs.Contents.{WireTold, Content, is_lost_at}
-use Rattle.ug_run_rules.specs.Kept.{IsKept, IsWireOf}
+use Rattle.ug_event_loop.specs.Contents.{WireTold, Content, is_lost_at}
+use Rattle.ug_event_loop.specs.Kept.{IsKept, IsWireOf}
 use Rattle.ug_audit_rules.specs.Reports.{IsWord, entries_of}
 use Rattle.ug_audit_laws.specs.Files.{all_syncs}
 use Rattle.ug_audit_laws.specs.Reports.{IsReport}
 use Rattle.ug_audit_laws.proofs.Worlds.{CanBeTold, EachHad}
 use Rattle.ug_audit_laws.proofs.Losses.{is_lost_among, lost-in}
 use Rattle.ug_audit_laws.proofs.Telling.{Tell, lost-told, report-read}
-use Rattle.ug_run_rules.proofs.EachWires.{one-by-one}
+use Rattle.ug_event_loop.proofs.EachWires.{one-by-one}
 use Rattle.ug_audit_laws.proofs.Good.{marks-good, losses-good}
 use Rattle.ug_audit_laws.proofs.Tails.{status-silent}
 use Rattle.ug_audit_laws.proofs.Ranges.{is-named, names-stay, IsWithin, within-lines, first-had, first-within, first-distinct}

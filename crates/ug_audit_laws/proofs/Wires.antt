@@ -8,11 +8,11 @@ use Rattle.ug_world.specs.World.{World}
 use Rattle.ug_world.specs.After.{after}
 use Rattle.ug_world.specs.Worlds.{last_world}
 use Rattle.ug_speaker.specs.Told.{world_after}
-use Rattle.ug_run_rules.specs.Contents.{WireTold, Content, EachFrom}
-use Rattle.ug_run_rules.proofs.EachWires.{EachWireFrom}
-use Rattle.ug_run_rules.proofs.Lists.{get-within}
+use Rattle.ug_event_loop.specs.Contents.{WireTold, Content, EachFrom}
+use Rattle.ug_event_loop.proofs.EachWires.{EachWireFrom}
+use Rattle.ug_event_loop.proofs.Lists.{get-within}
 use Rattle.ug_speaker.proofs.Peers.{peer_after, peers-after}
-use Rattle.ug_run_rules.proofs.Lines.{accepted, last-accepted}
+use Rattle.ug_event_loop.proofs.StoryLines.{accepted, last-accepted}
 
 -- ---- peers stay
 

@@ -4,7 +4,7 @@ use Rattle.ug_types.specs.declared.mark.Mark.{Mark}
 use Rattle.ug_events.specs.Events.{Saying, SaysNothing, SaysSync, Says}
 use Rattle.ug_events.specs.Reads.{Reads}
 use Rattle.ug_report.specs.Report.{first_marks, later_marks}
-use Rattle.ug_run_rules.specs.Contents.{WireTold}
+use Rattle.ug_event_loop.specs.Contents.{WireTold}
 
 -- the marks of a line that says `sync`
 abbrev pub sync_marks : Reads Saying → List Mark → List Mark

@@ -2,7 +2,7 @@
 use Rattle.std.specs.Prelude.{◌≡◌, ℕ, List}
 use Rattle.ug_types.specs.declared.mark.Mark.{Mark}
 use Rattle.ug_world.specs.World.{World}
-use Rattle.ug_run_rules.specs.Contents.{is_lost_at}
+use Rattle.ug_event_loop.specs.Contents.{is_lost_at}
 use Rattle.ug_audit_rules.specs.declared.entry.Entry.{Entry}
 use Rattle.ug_audit_rules.specs.Audited.{marks_in, is_lost_in}
 use Rattle.ug_audit_rules.specs.Reports.{AreClear, entries_of}

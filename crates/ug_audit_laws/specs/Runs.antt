@@ -5,7 +5,7 @@ use Rattle.ug_world.specs.World.{World}
 use Rattle.ug_world.specs.Worlds.{last_world}
 use Rattle.ug_event_loop.specs.Files.{most_bytes, most_lines}
 use Rattle.ug_timeline.specs.Lines.{said_in}
-use Rattle.ug_run_rules.specs.Contents.{WireTold}
+use Rattle.ug_event_loop.specs.Contents.{WireTold}
 use Rattle.ug_audit_rules.specs.Audited.{IsAudited}
 use Rattle.ug_audit_rules.specs.Reports.{entries_of, AreClear}
 use Rattle.ug_audit_laws.specs.Files.{held_by}

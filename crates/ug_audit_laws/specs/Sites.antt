@@ -3,7 +3,7 @@ use Rattle.std.specs.Prelude.{◌≡◌, ℕ, List, slice_get, Some}
 use Rattle.ug_edge.specs.Told.{FileText, file_named}
 use Rattle.ug_report.specs.declared.status.Status.{Status}
 use Rattle.ug_report.specs.declared.status.Status.TheVariants as statuses
-use Rattle.ug_run_rules.specs.Contents.{WireTold}
+use Rattle.ug_event_loop.specs.Contents.{WireTold}
 use Rattle.ug_audit.specs.Sessions.{file_name}
 use Rattle.ug_audit_laws.specs.Files.{held_by}
 

@@ -1,3 +1,10 @@
 pub mod Refuted
 pub mod Named
 pub mod Timelines
+pub mod Digits
+pub mod Places
+pub mod Words
+pub mod Kept
+pub mod Long
+pub mod Between
+pub mod Sourced

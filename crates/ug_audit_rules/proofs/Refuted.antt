@@ -7,17 +7,17 @@ use Rattle.ug_types.specs.declared.key.Key.{Key}
 use Rattle.ug_types.specs.declared.mark.Mark.{Mark}
 use Rattle.ug_types.specs.Messages.{Message}
 use Rattle.ug_message.proofs.WholeMessages.{one_stream, no_fault_there}
-use Rattle.ug_table_rules.specs.Tables.{Table, table_of, tables_after}
-use Rattle.ug_table_rules.specs.Climbing.{ClimbsFrom, NeverBack, values_at}
+use Rattle.ug_message.specs.Tables.{Table, table_of, tables_after}
+use Rattle.ug_message.specs.Climbing.{ClimbsFrom, NeverBack, values_at}
 use Rattle.ug_world.specs.declared.peer_state.PeerState.{PeerState}
 use Rattle.ug_world.specs.World.{World}
 use Rattle.ug_world.specs.Private.{private_table}
 use Rattle.ug_world.specs.Worlds.{past}
-use Rattle.ug_session_rules.specs.declared.breach.Ending.{Ending}
-use Rattle.ug_session_rules.specs.declared.breach.Ending.TheVariants.{Whole, Cut, Malformed}
-use Rattle.ug_session_rules.specs.declared.breach.Breach.{Breach}
-use Rattle.ug_session_rules.specs.Breaches as breaches
-use Rattle.ug_session_rules.specs.Breaches.{AreAlike, IsOneOf, IsReadAs, IsUnread, Unread, Stuck, Amiss, Short, Off}
+use Rattle.ug_hearing.specs.declared.breach.Ending.{Ending}
+use Rattle.ug_hearing.specs.declared.breach.Ending.TheVariants.{Whole, Cut, Malformed}
+use Rattle.ug_hearing.specs.declared.breach.Breach.{Breach}
+use Rattle.ug_hearing.specs.Breaches as breaches
+use Rattle.ug_hearing.specs.Breaches.{AreAlike, IsOneOf, IsReadAs, IsUnread, Unread, Stuck, Amiss, Short, Off}
 use Rattle.ug_audit_rules.specs.Audited.{opened_with, marks_to, table_at, open_table, IsWholeAt, IsSynced, IsSound, IsHeardRight, IsBreach}
 
 -- a climb is one to each of its messages

@@ -3,14 +3,14 @@ use Rattle.std.proofs.Common.{◌≡◌, ℕ, Bool, List, map, slice_get, Option
 use Rattle.std.proofs.lemmas.Option.{slice_get-map}
 use Rattle.ug_types.specs.declared.mark.Mark.{Mark}
 use Rattle.ug_types.specs.Messages.{Message}
-use Rattle.ug_table_rules.specs.Tables.{Table}
+use Rattle.ug_message.specs.Tables.{Table}
 use Rattle.ug_world.specs.declared.peer_state.PeerState.{PeerState}
 use Rattle.ug_world.specs.World.{World}
 use Rattle.ug_world.specs.Private.{private_table}
 use Rattle.ug_world.specs.Worlds.{past}
-use Rattle.ug_session_rules.specs.declared.breach.Ending.{Ending}
-use Rattle.ug_session_rules.specs.declared.breach.Breach.{Breach}
-use Rattle.ug_session_rules.specs.Breaches as breaches
+use Rattle.ug_hearing.specs.declared.breach.Ending.{Ending}
+use Rattle.ug_hearing.specs.declared.breach.Breach.{Breach}
+use Rattle.ug_hearing.specs.Breaches as breaches
 use Rattle.ug_audit_rules.specs.Audited.{marks_to, table_at, open_table, IsHeardRight, IsFirstBreach}
 
 alike_functions : {A B : Type 0} (f h : A → B) → ((x : A) → f x ≡ h x) → f ≡ h

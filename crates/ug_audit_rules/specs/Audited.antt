@@ -7,8 +7,8 @@ use Rattle.ug_types.specs.declared.mark.Mark.{Mark}
 use Rattle.ug_types.specs.declared.capabilities.Capabilities.{Capabilities}
 use Rattle.ug_types.specs.Messages.{Message}
 use Rattle.ug_message.specs.Received.{IsStream}
-use Rattle.ug_table_rules.specs.Tables.{Table, table_of, tables_after}
-use Rattle.ug_table_rules.specs.Climbing.{NeverBack}
+use Rattle.ug_message.specs.Tables.{Table, table_of, tables_after}
+use Rattle.ug_message.specs.Climbing.{NeverBack}
 use Rattle.ug_outbound.specs.declared.peer.Peer.{Peer}
 use Rattle.ug_events.specs.Events.{Saying}
 use Rattle.ug_events.specs.Reads.{Reads}
@@ -16,10 +16,10 @@ use Rattle.ug_world.specs.declared.peer_state.PeerState.{PeerState}
 use Rattle.ug_world.specs.World.{World}
 use Rattle.ug_world.specs.Private.{private_table}
 use Rattle.ug_world.specs.Worlds.{worlds, last_world, past}
-use Rattle.ug_session_rules.specs.declared.breach.Ending.{Ending}
-use Rattle.ug_session_rules.specs.declared.breach.Breach.{Breach}
-use Rattle.ug_session_rules.specs.Breaches as breaches
-use Rattle.ug_session_rules.specs.Breaches.{AreAlike, IsOneOf}
+use Rattle.ug_hearing.specs.declared.breach.Ending.{Ending}
+use Rattle.ug_hearing.specs.declared.breach.Breach.{Breach}
+use Rattle.ug_hearing.specs.Breaches as breaches
+use Rattle.ug_hearing.specs.Breaches.{AreAlike, IsOneOf}
 use Rattle.ug_audit_rules.specs.declared.entry.Entry.{Entry}
 use Rattle.ug_audit_rules.specs.declared.entry.Entry.TheVariants.{Passes, Sync, Lost, Unclear}
 

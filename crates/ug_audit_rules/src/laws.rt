@@ -4,10 +4,10 @@ ghost use Rattle.std.specs.Prelude.{◌≡◌, ℕ, List, Bool, true, map, slice
 ghost use Rattle.ug_types.specs.declared.mark.Mark as marks;
 ghost use Rattle.ug_types.specs.Messages.{Message};
 ghost use Rattle.ug_types.specs.Names.{is_name};
-ghost use Rattle.ug_session_rules.specs.declared.breach.Ending as endings;
-ghost use Rattle.ug_session_rules.specs.declared.breach.Breach as breaches;
-ghost use Rattle.ug_session_rules.specs.Breaches as session;
-ghost use Rattle.ug_session_rules.specs.Breaches.{IsReadAs};
+ghost use Rattle.ug_hearing.specs.declared.breach.Ending as endings;
+ghost use Rattle.ug_hearing.specs.declared.breach.Breach as breaches;
+ghost use Rattle.ug_hearing.specs.Breaches as session;
+ghost use Rattle.ug_hearing.specs.Breaches.{IsReadAs};
 ghost use Rattle.ug_world.specs.declared.peer_state.PeerState.{PeerState};
 ghost use Rattle.ug_world.specs.World.{World};
 ghost use Rattle.ug_world.specs.Private.{private_table};

@@ -1,2 +1,5 @@
 pub mod Histories
 pub mod Stored
+pub mod Beginnings
+pub mod Folding
+pub mod Growth

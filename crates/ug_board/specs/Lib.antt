@@ -3,3 +3,5 @@ pub mod History
 pub mod Kept
 pub mod Rules
 pub mod Seen
+pub mod Deeds
+pub mod Sessions

@@ -10,7 +10,7 @@ use Rattle.ug_types.specs.declared.family.Family.TheVariants.{V4, V6}
 use Rattle.ug_types.specs.contracts.key.KeyOrd.TheImpl as key_ord
 use Rattle.ug_types.specs.declared.capabilities.Capabilities.{Capabilities}
 use Rattle.ug_update.specs.Readers.{ReaderState}
-use Rattle.ug_receiver.specs.Rows.{Rows}
+use Rattle.ug_check.specs.Rows.{Rows}
 use Rattle.ug_types.specs.Orders.{key_cmp}
 use Rattle.ug_check.specs.Decoded.{row_texts, totals_text, LeavesRows}
 use Rattle.ug_check.specs.Checks.{IsDone}

@@ -6,7 +6,7 @@ use Rattle.std.proofs.lemmas.List.{append-nil, take-append-drop, length-take-le}
 use Rattle.std.proofs.lemmas.List.Folds.{concat-append}
 use Rattle.ug_types.specs.declared.key.Key.{Key}
 use Rattle.ug_types.specs.Messages.{Message, Updates, Begins, Ends, Ignored}
-use Rattle.ug_table_rules.specs.Tables.{Reading, applied, reading_from, nothing_read, among}
+use Rattle.ug_message.specs.Tables.{Reading, applied, reading_from, nothing_read, among}
 use Rattle.ug_types.specs.declared.capabilities.Capabilities.{Capabilities}
 use Rattle.ug_types.specs.declared.family.Family.{Family}
 use Rattle.ug_message.specs.Reading.{message_size, Spells, ends_rib}
@@ -14,7 +14,7 @@ use Rattle.ug_message.specs.Received.{Front, Says, Faulty, Awaited}
 use Rattle.ug_update.specs.Readers.{ReaderState, Gives, answer_at, front, behind_message, fed}
 use Rattle.ug_message.proofs.Fronts.{says_first}
 use Rattle.ug_update.proofs.Goes.{one_given}
-use Rattle.ug_receiver.specs.Rows.{Rows, reading_of}
+use Rattle.ug_check.specs.Rows.{Rows, reading_of}
 use Rattle.ug_check.specs.Decoded.{EachSpells, end_of_rib_texts}
 use Rattle.ug_check.specs.Checkers.{HasChecked}
 

@@ -6,7 +6,7 @@ use Rattle.ug_pieces.specs.ReadingLaws.{TakesFront-none, TakesFront-more, ended_
 use Rattle.ug_types.specs.declared.capabilities.Capabilities.{Capabilities}
 use Rattle.ug_message.specs.Received.{IsStream, IsFaultyAt}
 use Rattle.ug_update.specs.Readers.{ReaderState, new_reader}
-use Rattle.ug_receiver.specs.Rows.{Rows, no_rows}
+use Rattle.ug_check.specs.Rows.{Rows, no_rows}
 use Rattle.ug_check.specs.Checks.{most_bytes, IsCause, HasStopped}
 use Rattle.ug_check.specs.Checkers.{HasChecked, IsSettled, IsBehind, HasReadAll, IsPieceCause}
 use Rattle.ug_check.specs.declared.stop.Stop.{Stop}

@@ -4,11 +4,11 @@ use Rattle.std.specs.List.{concat}
 use Rattle.ug_types.specs.declared.capabilities.Capabilities.{Capabilities}
 use Rattle.ug_types.specs.declared.key.Key.{Key}
 use Rattle.ug_types.specs.Messages.{Message}
-use Rattle.ug_table_rules.specs.Tables.{nothing_read, reading_from}
+use Rattle.ug_message.specs.Tables.{nothing_read, reading_from}
 use Rattle.ug_edge.specs.Told.{TakesFront, IsEnded}
 use Rattle.ug_message.specs.Received.{IsUnfinished, IsFaultyAt}
 use Rattle.ug_update.specs.Readers.{ReaderState, HasRead}
-use Rattle.ug_receiver.specs.Rows.{Rows, reading_of}
+use Rattle.ug_check.specs.Rows.{Rows, reading_of}
 use Rattle.ug_check.specs.Decoded.{EachSpells, end_of_rib_texts}
 use Rattle.ug_check.specs.Checks.{most_bytes}
 use Rattle.ug_check.specs.declared.stop.Stop.{Stop}

@@ -10,10 +10,10 @@ use Rattle.ug_types.specs.declared.key.Key.{Key}
 use Rattle.ug_types.specs.Orders.{key_cmp}
 use Rattle.ug_types.specs.Attributes.{Attributes}
 use Rattle.ug_types.specs.Messages.{Message}
-use Rattle.ug_table_rules.specs.Tables.{Table, table_of}
+use Rattle.ug_message.specs.Tables.{Table, table_of}
 use Rattle.ug_message.specs.Reading.{Spells, ends_rib}
 use Rattle.ug_message.specs.Received.{IsStream}
-use Rattle.ug_receiver.specs.Rows.{row_at}
+use Rattle.ug_check.specs.Rows.{row_at}
 use Rattle.ug_text.specs.Rows.{row_text}
 
 -- The texts spell these messages, one each.

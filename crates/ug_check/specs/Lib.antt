@@ -2,3 +2,5 @@ pub mod Decoded
 pub mod Checks
 pub mod Checkers
 pub mod Written
+pub mod Rows
+pub mod Stored

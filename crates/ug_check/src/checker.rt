@@ -3,16 +3,16 @@
 ghost use Rattle.std.specs.Prelude.{◌≡◌, ◌+◌, ◌<◌, ◌≤◌, ◌^◌, ◌++◌, List, ℕ, length, OnOk, IfOk, IfErr, IfSome, IfNone, true, false, if◌then◌else◌};
 ghost use Rattle.ug_types.specs.Messages.{Message, message_of};
 ghost use Rattle.ug_types.specs.declared.key.Key as route_keys;
-ghost use Rattle.ug_table_rules.specs.Tables.{applied};
+ghost use Rattle.ug_message.specs.Tables.{applied};
 ghost use Rattle.ug_message.specs.Reading.{message_size};
 ghost use Rattle.ug_message.specs.Received.{IsUnfinished, Says, Awaited};
 ghost use Rattle.ug_update.specs.Readers.{new_reader, front, behind_message, HasRead};
-ghost use Rattle.ug_receiver.specs.Rows.{no_rows, reading_of};
+ghost use Rattle.ug_check.specs.Rows.{no_rows, reading_of};
 ghost use Rattle.ug_check.specs.Checkers.{HasChecked, IsSettled, IsPieceCause};
 
 use crate::stop::Stop;
+use crate::table::Table;
 use std::alloc::Global;
-use ug_receiver::Table;
 use ug_types::{Capabilities, Item, Next, NoMemory};
 use ug_update::Reader;
 

@@ -13,10 +13,10 @@ ghost use Rattle.ug_check.specs.Written.{HasWritten};
 
 use crate::checker::Checker;
 use crate::stop::Stop;
+use crate::table::Table;
 use std::alloc::Global;
 use ug_edge::{Failed, Sink};
 use ug_pieces::write_all;
-use ug_receiver::Table;
 use ug_text::RowWriter;
 use ug_types::{Attrs, Key, NoMemory};
 

@@ -4,7 +4,7 @@ use Rattle.std.specs.List.{concat}
 use Rattle.std.proofs.lemmas.List.{append-nil}
 use Rattle.ug_edge.specs.Told.{AppendsPiece, HasPicked, FileText, file_told}
 use Rattle.ug_pieces.specs.Reporting.{AppendsFront}
-use Rattle.ug_fields.specs.Reads.{Reads}
+use Rattle.ug_config.specs.Reads.{Reads}
 use Rattle.ug_world.specs.World.{World}
 use Rattle.ug_commands.specs.Texts.{group_lines}
 use Rattle.ug_commands.specs.Grouped.{IsWholly, IsGrouped, HasEnded}

@@ -2,7 +2,7 @@
 use Rattle.std.proofs.Common.{◌≡◌, ℕ, ◌≤◌, List, length, Option, Some, Err, Ok, ap, subst}
 use Rattle.ug_edge.specs.Told.{IsEnded}
 use Rattle.ug_pieces.specs.Pieces.{HasRead}
-use Rattle.ug_fields.specs.Reads.{Reads, Refusal, fault_of}
+use Rattle.ug_config.specs.Reads.{Reads, Refusal, fault_of}
 use Rattle.ug_world.specs.World.{World}
 use Rattle.ug_config.specs.Worlds.{config}
 use Rattle.ug_commands.specs.Grouped.{most_bytes, IsWholly}

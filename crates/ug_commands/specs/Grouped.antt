@@ -4,7 +4,7 @@ use Rattle.std.specs.List.{concat}
 use Rattle.ug_edge.specs.Told.{IsEnded}
 use Rattle.ug_pieces.specs.Reporting.{AppendsFront}
 use Rattle.ug_pieces.specs.Pieces.{HasRead}
-use Rattle.ug_fields.specs.Reads.{Reads}
+use Rattle.ug_config.specs.Reads.{Reads}
 use Rattle.ug_world.specs.World.{World}
 use Rattle.ug_config.specs.Worlds.{config}
 use Rattle.ug_commands.specs.Texts.{group_lines}

@@ -12,7 +12,7 @@ use Rattle.ug_types.specs.Bytes.{same_bytes}
 use Rattle.ug_policy.specs.Order.{repeats}
 use Rattle.ug_world.specs.Names.{is_name_among, are_distinct}
 use Rattle.ug_world.specs.Parts.{are_few, names_of}
-use Rattle.ug_fields.specs.Reads.{Refusal, way_into}
+use Rattle.ug_config.specs.Reads.{Refusal, way_into}
 use Rattle.ug_config.specs.Checks.{refused_where, first_fault, repeated_name, repeated_sequence, repeated_in, over}
 use Rattle.ug_config.proofs.Inverting.{both, first_of, second_of}
 

@@ -1,10 +1,10 @@
 -- The first fault of some.
 use Rattle.std.proofs.Common.{◌≡◌, ℕ, ◌+◌, List, ◌∷◌, Option, Some, None, refl}
 use Rattle.std.specs.Option.{option_or}
-use Rattle.ug_fields.specs.declared.refusals.ConfigRefusal.{ConfigRefusal}
-use Rattle.ug_fields.specs.declared.refusals.ConfigRefusal.TheVariants as refusals
-use Rattle.ug_fields.specs.Reads.{Refusal}
-use Rattle.ug_fields.specs.Gives.{Tells}
+use Rattle.ug_config.specs.declared.refusals.ConfigRefusal.{ConfigRefusal}
+use Rattle.ug_config.specs.declared.refusals.ConfigRefusal.TheVariants as refusals
+use Rattle.ug_config.specs.Reads.{Refusal}
+use Rattle.ug_config.specs.Gives.{Tells}
 use Rattle.ug_config.specs.Checks.{first_fault}
 
 -- a fault that comes first is the fault

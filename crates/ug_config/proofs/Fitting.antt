@@ -11,15 +11,15 @@ use Rattle.ug_text.specs.Addresses.{bits_in, length_in, address_in, prefix_in}
 use Rattle.ug_text.specs.Paths.{origin}
 use Rattle.ug_types.specs.Bytes.{same_bytes}
 use Rattle.ug_world.specs.Parts.{may_filter}
-use Rattle.ug_fields.specs.declared.kind.Kind.{Kind}
-use Rattle.ug_fields.specs.declared.kind.Kind.TheVariants as kinds
-use Rattle.ug_fields.specs.declared.given.Given.{Given}
-use Rattle.ug_fields.specs.declared.given.Given.TheVariants as givens
-use Rattle.ug_fields.specs.Rows.{FieldRow}
-use Rattle.ug_fields.specs.Reads.{◌>>=◌, each_read, or_refused, missing, malformed}
-use Rattle.ug_fields.specs.Kinds.{natural, between, number_in, name, peer_name, ipv4_flag, value_as}
-use Rattle.ug_fields.specs.Tables.{Entry, default_of, given, entry}
-use Rattle.ug_fields.specs.Looks.{value_at, as_number, as_octet, as_flag, as_name, as_address, as_prefix}
+use Rattle.ug_config.specs.declared.kind.Kind.{Kind}
+use Rattle.ug_config.specs.declared.kind.Kind.TheVariants as kinds
+use Rattle.ug_config.specs.declared.given.Given.{Given}
+use Rattle.ug_config.specs.declared.given.Given.TheVariants as givens
+use Rattle.ug_config.specs.FieldRows.{FieldRow}
+use Rattle.ug_config.specs.Reads.{◌>>=◌, each_read, or_refused, missing, malformed}
+use Rattle.ug_config.specs.Kinds.{natural, between, number_in, name, peer_name, ipv4_flag, value_as}
+use Rattle.ug_config.specs.Tables.{Entry, default_of, given, entry}
+use Rattle.ug_config.specs.Looks.{value_at, as_number, as_octet, as_flag, as_name, as_address, as_prefix}
 use Rattle.ug_config.proofs.Inverting.{ok, ok_is, some_is, bound, bound_option}
 
 abbrev pub within : ℕ → ℕ → Option ℕ → Bool

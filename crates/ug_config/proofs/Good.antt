@@ -17,9 +17,9 @@ use Rattle.ug_outbound.specs.declared.peer.Peer.{Peer}
 use Rattle.ug_outbound.specs.Policies.{NamedPolicy}
 use Rattle.ug_world.specs.Parts.{is_local_good, is_ipv4, names_of, peer_names, is_one_of, may_filter, is_map_good, is_policy_good, is_peer_good}
 use Rattle.ug_world.specs.Kept.{name_of}
-use Rattle.ug_fields.specs.Reads.{Refusal, ◌>>=◌, way_into}
-use Rattle.ug_fields.specs.Kinds.{tables_at}
-use Rattle.ug_fields.specs.Tables.{document, fields}
+use Rattle.ug_config.specs.Reads.{Refusal, ◌>>=◌, way_into}
+use Rattle.ug_config.specs.Kinds.{tables_at}
+use Rattle.ug_config.specs.Tables.{document, fields}
 use Rattle.ug_config.specs.Rows.{document_rows}
 use Rattle.ug_config.specs.Readings.{Tables, local_table, local, lists, maps, policies, peers, tables, named, list_entry, rule, peer}
 use Rattle.ug_config.specs.Checks.{first_fault, repeated_in, unknown_list, unknown_in_map, unknown_in_policy, unknown_policy, over, long_list, long_map, repeated, unknown, over_limit, misplaced, fault, where_none, checked, setup}

@@ -2,7 +2,7 @@
 use Rattle.std.proofs.Common.{◌≡◌, ℕ, ◌+◌, Bool, true, false, ◌&&◌, List, [], ◌∷◌, Option, Some, None, Ok, Err, refl, ap, subst}
 use Rattle.std.specs.List.{list_all}
 use Rattle.ug_text.specs.Cutting.{◌>>=◌ as ◌>=>◌}
-use Rattle.ug_fields.specs.Reads.{Reads, ◌>>=◌, each_table, way_into}
+use Rattle.ug_config.specs.Reads.{Reads, ◌>>=◌, each_table, way_into}
 
 abbrev pub ok : {A : Type 0} → A → Reads A
 ok x = Ok x

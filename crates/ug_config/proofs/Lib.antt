@@ -5,3 +5,6 @@ pub mod Sound
 pub mod Against
 pub mod Good
 pub mod Making
+pub mod Elements
+pub mod Reading
+pub mod Utf8

@@ -15,16 +15,16 @@ use Rattle.ug_policy.specs.Refusals.{is_origin, sets_origin, is_ahead}
 use Rattle.ug_outbound.specs.declared.settings.Local.{Local}
 use Rattle.ug_outbound.specs.declared.peer.Peer.{Peer}
 use Rattle.ug_world.specs.Parts.{is_local_good, is_ipv4, is_between, may_filter}
-use Rattle.ug_fields.specs.declared.kind.Kind.{Kind}
-use Rattle.ug_fields.specs.declared.kind.Kind.TheVariants as kinds
-use Rattle.ug_fields.specs.declared.kind.Need.TheVariants as needs
-use Rattle.ug_fields.specs.declared.given.Given.{Given}
-use Rattle.ug_fields.specs.declared.given.Given.TheVariants as givens
-use Rattle.ug_fields.specs.Rows.{FieldRow}
-use Rattle.ug_fields.specs.Reads.{Reads, ◌>>=◌, each_read, each_table, or_refused, refused, missing, malformed}
-use Rattle.ug_fields.specs.Kinds.{family_at, tables_at}
-use Rattle.ug_fields.specs.Tables.{Entry, entry, fields, unknown, where_known}
-use Rattle.ug_fields.specs.Looks.{value_at, as_number, as_octet, as_flag, as_address}
+use Rattle.ug_config.specs.declared.kind.Kind.{Kind}
+use Rattle.ug_config.specs.declared.kind.Kind.TheVariants as kinds
+use Rattle.ug_config.specs.declared.kind.Need.TheVariants as needs
+use Rattle.ug_config.specs.declared.given.Given.{Given}
+use Rattle.ug_config.specs.declared.given.Given.TheVariants as givens
+use Rattle.ug_config.specs.FieldRows.{FieldRow}
+use Rattle.ug_config.specs.Reads.{Reads, ◌>>=◌, each_read, each_table, or_refused, refused, missing, malformed}
+use Rattle.ug_config.specs.Kinds.{family_at, tables_at}
+use Rattle.ug_config.specs.Tables.{Entry, entry, fields, unknown, where_known}
+use Rattle.ug_config.specs.Looks.{value_at, as_number, as_octet, as_flag, as_address}
 use Rattle.ug_config.specs.Rows.{local_rows, named_rows, list_entry_rows, map_entry_rows, peer_rows}
 use Rattle.ug_config.specs.Readings.{local, local_of, list_entry, list_entry_of, where_good, last_bound, rule, rule_of, where_ahead, named, own_name, with_entries, address, peer, peer_of}
 use Rattle.ug_config.proofs.Inverting.{ok, ok_is, some_is, bound, both, second_of, all_read}

@@ -11,10 +11,10 @@ use Rattle.ug_outbound.specs.declared.peer.Peer.{Peer}
 use Rattle.ug_outbound.specs.Policies.{NamedPolicy}
 use Rattle.ug_world.specs.Names.{is_name_among}
 use Rattle.ug_world.specs.Parts.{is_one_of, names_of, peer_names}
-use Rattle.ug_fields.specs.declared.refusals.ConfigRefusal.{ConfigRefusal}
-use Rattle.ug_fields.specs.Gives.{Tells}
-use Rattle.ug_fields.specs.Reads.{Reads, ◌>>=◌, Refusal, way_into}
-use Rattle.ug_fields.specs.Tables.{document}
+use Rattle.ug_config.specs.declared.refusals.ConfigRefusal.{ConfigRefusal}
+use Rattle.ug_config.specs.Gives.{Tells}
+use Rattle.ug_config.specs.Reads.{Reads, ◌>>=◌, Refusal, way_into}
+use Rattle.ug_config.specs.Tables.{document}
 use Rattle.ug_config.specs.Readings.{Tables, tables}
 
 abbrev pub refused_where : Bool → ℕ → List ℕ → Option Refusal

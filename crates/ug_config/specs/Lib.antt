@@ -3,3 +3,10 @@ pub mod Readings
 pub mod Checks
 pub mod Worlds
 pub mod One
+pub mod Reads
+pub mod Gives
+pub mod Kinds
+pub mod FieldRows
+pub mod Tables
+pub mod Looks
+pub mod Views

@@ -14,10 +14,10 @@ use Rattle.ug_outbound.specs.declared.settings.Local.{Local}
 use Rattle.ug_outbound.specs.declared.policy.Policy.{Policy}
 use Rattle.ug_outbound.specs.declared.peer.Peer.{Peer}
 use Rattle.ug_outbound.specs.Policies.{NamedPolicy}
-use Rattle.ug_fields.specs.Reads.{Reads, ◌>>=◌, refused, or_refused, each_table, missing, malformed}
-use Rattle.ug_fields.specs.Kinds.{tables_at, family_at}
-use Rattle.ug_fields.specs.Tables.{Entry, fields}
-use Rattle.ug_fields.specs.Looks.{number_at, octet_at, flag_at, name_at, address_at, prefix_at, on_match_at, numbers_at}
+use Rattle.ug_config.specs.Reads.{Reads, ◌>>=◌, refused, or_refused, each_table, missing, malformed}
+use Rattle.ug_config.specs.Kinds.{tables_at, family_at}
+use Rattle.ug_config.specs.Tables.{Entry, fields}
+use Rattle.ug_config.specs.Looks.{number_at, octet_at, flag_at, name_at, address_at, prefix_at, on_match_at, numbers_at}
 use Rattle.ug_config.specs.Rows.{document_rows, local_rows, named_rows, list_entry_rows, map_entry_rows, policy_rows, peer_rows}
 
 -- Fields that are required, or that have a default, are always there.

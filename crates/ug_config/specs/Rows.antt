@@ -1,9 +1,9 @@
 -- Which fields each table of a configuration has, in the order in which they are checked.
 use Rattle.std.specs.Prelude.{List, [], ◌∷◌, codes}
-use Rattle.ug_fields.specs.declared.kind.Kind.TheVariants.{Number, Length, Flag, Ipv4Flag, Name, PeerName, Ipv4, Ipv4Prefix, Family, Address, Subnet, Action, OnMatch, Origin, Community, Numbers, Communities, Table, Tables}
-use Rattle.ug_fields.specs.declared.kind.Need.TheVariants.{Required, Optional, False}
-use Rattle.ug_fields.specs.declared.kind.Need.TheVariants as unless
-use Rattle.ug_fields.specs.Rows.{FieldRow}
+use Rattle.ug_config.specs.declared.kind.Kind.TheVariants.{Number, Length, Flag, Ipv4Flag, Name, PeerName, Ipv4, Ipv4Prefix, Family, Address, Subnet, Action, OnMatch, Origin, Community, Numbers, Communities, Table, Tables}
+use Rattle.ug_config.specs.declared.kind.Need.TheVariants.{Required, Optional, False}
+use Rattle.ug_config.specs.declared.kind.Need.TheVariants as unless
+use Rattle.ug_config.specs.FieldRows.{FieldRow}
 
 -- the document itself
 unfoldable pub document_rows : List FieldRow

@@ -9,7 +9,7 @@ use Rattle.ug_policy.specs.Rules.{MapRule, rule_seq}
 use Rattle.ug_policy.specs.Refusals.{sets_origin, map_refusal}
 use Rattle.ug_world.specs.World.{World}
 use Rattle.ug_world.specs.Parts.{is_local_good, are_few, names_of, peer_names, is_map_good, is_policy_good, is_peer_good, fresh}
-use Rattle.ug_fields.specs.Reads.{Reads, ◌>>=◌}
+use Rattle.ug_config.specs.Reads.{Reads, ◌>>=◌}
 use Rattle.ug_config.specs.Readings.{Tables}
 use Rattle.ug_config.specs.Checks.{setup}
 

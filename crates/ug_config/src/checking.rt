@@ -2,11 +2,11 @@
 
 ghost use Rattle.std.specs.Prelude.{◌≡◌, ◌++◌, ℕ, Option, take, IfOk};
 ghost use Rattle.std.specs.String.{string_bytes};
-ghost use Rattle.ug_fields.specs.Reads.{Refusal, way_into};
+ghost use Rattle.ug_config.specs.Reads.{Refusal, way_into};
 ghost use Rattle.ug_config.specs.Checks.{Passes, refused_where, first_fault};
 
+use crate::refusals::{ConfigRefusal, refusal};
 use std::alloc::Global;
-use ug_fields::{ConfigRefusal, refusal};
 use ug_types::NoMemory;
 
 /// A check of what stands at a place of an array.

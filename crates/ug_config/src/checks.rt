@@ -4,14 +4,15 @@ ghost use Rattle.ug_world.specs.Parts.{names_of};
 ghost use Rattle.ug_config.specs.Checks.{Passes, first_fault, repeated_name, repeated_in, repeated, unknown, over_limit, misplaced, fault};
 
 use crate::checking::{check_each, refuse_array};
+use crate::items::Items;
 use crate::limits::{LongList, LongMap};
 use crate::names::{names_of, peer_names};
 use crate::options::{ExternalOptions, InternalOptions, KnownLists, KnownParts, KnownPolicy};
+use crate::refusals::ConfigRefusal;
 use crate::repeats::{NameCheck, RepeatCheck};
 use crate::setup::Setup;
 use std::alloc::Global;
 use std::marker::PhantomData;
-use ug_fields::{ConfigRefusal, Items};
 use ug_policy::Numbered;
 use ug_types::{NameList, Named};
 

@@ -2,14 +2,16 @@
 
 ghost use Rattle.std.specs.Prelude.{◌≡◌};
 ghost use Rattle.ug_policy.specs.Lists.{is_good};
-ghost use Rattle.ug_fields.specs.Gives.{Gives};
+ghost use Rattle.ug_config.specs.Gives.{Gives};
 ghost use Rattle.ug_config.specs.Readings.{list_entry, list_entry_of, where_good};
 
+use crate::each::TableReader;
+use crate::fields::{Field, octet_at};
 use crate::local::{flag, number, prefix};
+use crate::refusals::{ConfigRefusal, refusal};
 use crate::rows::list_entry_fields;
 use std::alloc::Global;
 use toml::Value;
-use ug_fields::{ConfigRefusal, Field, TableReader, octet_at, refusal};
 use ug_policy::ListEntry;
 
 /// The entries of a prefix list.

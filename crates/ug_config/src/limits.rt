@@ -6,9 +6,10 @@ ghost use Rattle.ug_policy.specs.Rules.{numbers_of};
 ghost use Rattle.ug_config.specs.Checks.{long_list, long_map};
 
 use crate::checking::{Check, refuse_where};
+use crate::items::Items;
+use crate::refusals::ConfigRefusal;
 use crate::rule::Rule;
 use std::alloc::Global;
-use ug_fields::{ConfigRefusal, Items};
 use ug_policy::ListEntry;
 use ug_types::{Named, NumberList};
 

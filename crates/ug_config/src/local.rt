@@ -2,13 +2,14 @@
 
 ghost use Rattle.std.specs.Prelude.{◌≡◌};
 ghost use Rattle.toml.specs.View.{view};
-ghost use Rattle.ug_fields.specs.Gives.{Gives};
+ghost use Rattle.ug_config.specs.Gives.{Gives};
 ghost use Rattle.ug_config.specs.Readings.{number, flag, address, prefix, local, local_of};
 
+use crate::fields::{Field, address_at, flag_at, number_at, prefix_at};
+use crate::refusals::ConfigRefusal;
 use crate::rows::local_fields;
 use std::alloc::Global;
 use toml::Value;
-use ug_fields::{ConfigRefusal, Field, address_at, flag_at, number_at, prefix_at};
 use ug_outbound::Local;
 use ug_types::{Addr, Family, Prefix};
 

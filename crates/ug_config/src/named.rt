@@ -1,15 +1,19 @@
 //! Prefix lists and route maps: a name, and entries.
 
 ghost use Rattle.toml.specs.View.{view};
-ghost use Rattle.ug_fields.specs.Gives.{Gives};
+ghost use Rattle.ug_config.specs.Gives.{Gives};
 ghost use Rattle.ug_config.specs.Readings.{own_name, named, with_entries, list_entry, rule};
 
+use crate::document::tables_at;
+use crate::each::{TableReader, read_each};
 use crate::entries::ListEntries;
+use crate::fields::{Field, name_at};
+use crate::items::Items;
+use crate::refusals::{ConfigRefusal, refusal};
 use crate::rows::named_fields;
 use crate::rule::{Rule, Rules};
 use std::alloc::Global;
 use toml::Value;
-use ug_fields::{ConfigRefusal, Field, Items, TableReader, name_at, read_each, refusal, tables_at};
 use ug_policy::ListEntry;
 use ug_types::{Name, Named};
 

@@ -3,10 +3,11 @@
 ghost use Rattle.ug_config.specs.Checks.{unknown_list, unknown_in_map, unknown_in_policy, unknown_policy, wrong_as, wrong_client};
 
 use crate::checking::{Check, check_each, refuse_where, way_into};
+use crate::items::Items;
 use crate::names::is_one_of;
+use crate::refusals::ConfigRefusal;
 use crate::rule::Rule;
 use std::alloc::Global;
-use ug_fields::{ConfigRefusal, Items};
 use ug_outbound::{NamedPolicy, Peer};
 use ug_types::{Name, Named};
 

@@ -4,12 +4,15 @@ ghost use Rattle.std.specs.Prelude.{◌≡◌, codes, IfOk};
 ghost use Rattle.ug_types.specs.declared.family.Family.TheVariants.{V4};
 ghost use Rattle.ug_config.specs.Readings.{address, peer, peer_of};
 
+use crate::document::family_at;
+use crate::each::TableReader;
+use crate::fields::{Field, name_at};
 use crate::local::{address, flag, number, prefix};
 use crate::named::own_name;
+use crate::refusals::ConfigRefusal;
 use crate::rows::peer_fields;
 use std::alloc::Global;
 use toml::Value;
-use ug_fields::{ConfigRefusal, Field, TableReader, family_at, name_at};
 use ug_outbound::Peer;
 use ug_types::{Family, Name, NoMemory, RouterId};
 

@@ -3,11 +3,13 @@
 ghost use Rattle.std.specs.Prelude.{◌≡◌, IfOk};
 ghost use Rattle.ug_config.specs.Readings.{policy, policy_of};
 
+use crate::each::TableReader;
+use crate::fields::{Field, name_at};
 use crate::named::own_name;
+use crate::refusals::ConfigRefusal;
 use crate::rows::policy_fields;
 use std::alloc::Global;
 use toml::Value;
-use ug_fields::{ConfigRefusal, Field, TableReader, name_at};
 use ug_outbound::{NamedPolicy, Policy};
 use ug_types::{Named, NoMemory};
 

@@ -1,14 +1,15 @@
 //! A text, and what its tables say.
 
 ghost use Rattle.std.specs.Prelude.{IfOk};
-ghost use Rattle.ug_fields.specs.Gives.{Gives};
+ghost use Rattle.ug_config.specs.Gives.{Gives};
 ghost use Rattle.ug_config.specs.Checks.{setup, checked};
 ghost use Rattle.ug_config.specs.Worlds.{IsSound};
 
 use crate::checks::check_all;
+use crate::document::read_document;
+use crate::refusals::ConfigRefusal;
 use crate::setup::{Setup, read_tables};
 use std::alloc::Global;
-use ug_fields::{ConfigRefusal, read_document};
 
 /// What the tables of a configuration say, or the first refusal: 1 the text is no TOML; then, table by table, 2 a
 /// required field or table is missing, 3 a value is of another kind, out of range or malformed, 4 a field is unknown;

@@ -6,11 +6,12 @@ ghost use Rattle.ug_policy.specs.Rules.{rule_seq};
 ghost use Rattle.ug_config.specs.Checks.{repeated_name, repeated_sequence, repeated_in, stands_before};
 
 use crate::checking::{Check, check_each, items_before, refuse_where, way_into};
+use crate::items::Items;
 use crate::names::is_name_among;
+use crate::refusals::ConfigRefusal;
 use crate::rule::Rule;
 use std::alloc::Global;
 use std::marker::PhantomData;
-use ug_fields::{ConfigRefusal, Items};
 use ug_policy::Numbered;
 use ug_types::{Name, Named};
 

@@ -2,13 +2,16 @@
 
 ghost use Rattle.std.specs.Prelude.{[], codes};
 ghost use Rattle.toml.specs.View.{view};
-ghost use Rattle.ug_fields.specs.Gives.{GivesItems};
-ghost use Rattle.ug_fields.specs.Tables.{fields};
+ghost use Rattle.ug_config.specs.Gives.{GivesItems};
+ghost use Rattle.ug_config.specs.Tables.{fields};
 ghost use Rattle.ug_config.specs.Rows.{document_rows, local_rows, named_rows, list_entry_rows, map_entry_rows, policy_rows, peer_rows};
 
+use crate::fields::Field;
+use crate::kind::{Kind, Need, Row};
+use crate::refusals::ConfigRefusal;
+use crate::table::read_table;
 use std::alloc::Global;
 use toml::Value;
-use ug_fields::{ConfigRefusal, Field, Kind, Need, Row, read_table};
 use ug_types::Family;
 
 /// The document itself.

@@ -4,18 +4,17 @@ ghost use Rattle.std.specs.Prelude.{◌≡◌, IfOk};
 ghost use Rattle.toml.specs.View.{view};
 ghost use Rattle.ug_policy.specs.Rules as rules;
 ghost use Rattle.ug_policy.specs.Refusals.{leads_ahead};
-ghost use Rattle.ug_fields.specs.Gives.{Gives};
+ghost use Rattle.ug_config.specs.Gives.{Gives};
 ghost use Rattle.ug_config.specs.Readings.{rule, rule_of, where_ahead};
 
+use crate::each::TableReader;
+use crate::fields::{Field, address_at, name_at, number_at, numbers_at, octet_at, on_match_at};
 use crate::local::{flag, number};
+use crate::refusals::{ConfigRefusal, refusal};
 use crate::rows::map_entry_fields;
 use std::alloc::Global;
 use std::marker::Model;
 use toml::Value;
-use ug_fields::{
-    ConfigRefusal, Field, TableReader, address_at, name_at, number_at, numbers_at, octet_at,
-    on_match_at, refusal,
-};
 use ug_policy::{MapEntry, OnMatch};
 use ug_types::NoMemory;
 

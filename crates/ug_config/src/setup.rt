@@ -1,19 +1,22 @@
 //! What the tables of a configuration say.
 
 ghost use Rattle.toml.specs.View.{view};
-ghost use Rattle.ug_fields.specs.Gives.{Gives, GivesItems};
+ghost use Rattle.ug_config.specs.Gives.{Gives, GivesItems};
 ghost use Rattle.ug_config.specs.Readings.{tables, lists, maps, policies, peers};
 
+use crate::document::tables_at;
+use crate::each::read_each;
+use crate::items::Items;
 use crate::local::read_local;
 use crate::named::{Lists, Maps};
 use crate::peers::Peers;
 use crate::policies::PolicyTables;
+use crate::refusals::{ConfigRefusal, refusal};
 use crate::rows::document_fields;
 use crate::rule::Rule;
 use std::alloc::Global;
 use std::marker::Model;
 use toml::Value;
-use ug_fields::{ConfigRefusal, Items, read_each, refusal, tables_at};
 use ug_outbound::{Local, NamedPolicy, Peer};
 use ug_policy::ListEntry;
 use ug_types::Named;

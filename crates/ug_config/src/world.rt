@@ -4,16 +4,17 @@ ghost use Rattle.std.specs.Prelude.{◌≡◌, true, map, IfOk};
 ghost use Rattle.std.specs.List.{list_all};
 ghost use Rattle.ug_policy.specs.Lists.{seq_of};
 ghost use Rattle.ug_policy.specs.Rules.{rule_of, rule_seq};
-ghost use Rattle.ug_fields.specs.Gives.{Gives};
+ghost use Rattle.ug_config.specs.Gives.{Gives};
 ghost use Rattle.ug_config.specs.Checks.{setup};
 ghost use Rattle.ug_config.specs.Worlds.{IsSound, in_order, is_list, is_map, world_of, config};
 
+use crate::items::Items;
 use crate::names::names_of;
 use crate::read::read_setup;
+use crate::refusals::ConfigRefusal;
 use crate::rule::Rule;
 use crate::setup::Setup;
 use std::alloc::Global;
-use ug_fields::{ConfigRefusal, Items};
 use ug_policy::{
     ListEntry, ListRefusal, ListTable, MapEntryList, MapRefusal, MapTable, PrefixList, RouteMap,
 };

@@ -6,7 +6,7 @@ use Rattle.ug_board.specs.Entry.{Entry}
 use Rattle.ug_board.specs.Rules.{Rules}
 use Rattle.ug_board.specs.History.{BoardState, replay, replay_from, state_of, after_step, job_entry}
 use Rattle.ug_turnstile.specs.Passes.{Held, Agrees, owned_by}
-use Rattle.ug_history_rules.specs.Deeds.{Each, of_pass}
+use Rattle.ug_board.specs.Deeds.{Each, of_pass}
 use Rattle.ug_event_loop.specs.Counts.{of_step, sum_from, sum_of, sum_at, least_of, most_of, least_at, most_at, RisesBy, RisesWithin}
 use Rattle.ug_event_loop.proofs.Turning.{append-same}
 

@@ -19,7 +19,7 @@ use Rattle.ug_speaker.specs.Told.{world_at}
 use Rattle.ug_speaker.specs.Owes.{StepsRight}
 use Rattle.ug_speaker.specs.Story.{IsStory}
 use Rattle.ug_speaker.specs.StoryLaws.{story-between, story-line}
-use Rattle.ug_history_rules.specs.Deeds.{Each}
+use Rattle.ug_board.specs.Deeds.{Each}
 use Rattle.ug_report.specs.Report.{AreOf64, Answer, answer_to, answer_texts, line_texts}
 use Rattle.ug_event_loop.specs.declared.came.Came.{Came}
 use Rattle.ug_event_loop.specs.declared.stop.Stop.{Stop}

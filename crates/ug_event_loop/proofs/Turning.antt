@@ -10,7 +10,7 @@ use Rattle.ug_board.specs.Rules.{Rules}
 use Rattle.ug_board.specs.History.{BoardState, replay, state_of, job_entry}
 use Rattle.ug_board.proofs.Histories.{replay_from-append}
 use Rattle.ug_turnstile.specs.Passes.{Adds, StartsWith, owned_by}
-use Rattle.ug_history_rules.specs.Deeds.{Each, of_pass}
+use Rattle.ug_board.specs.Deeds.{Each, of_pass}
 use Rattle.ug_events.specs.Events.{Happening, Saying, SaysNothing, SaysSync, Says}
 use Rattle.ug_events.specs.Reads.{Reads}
 use Rattle.ug_world.specs.Verdicts.{verdict}

@@ -5,7 +5,7 @@ use Rattle.ug_board.specs.declared.steps.BoardStep.TheVariants.{Job as DoJob, La
 use Rattle.ug_board.specs.Entry.{Entry}
 use Rattle.ug_board.specs.Rules.{Rules}
 use Rattle.ug_board.specs.History.{after_step}
-use Rattle.ug_history_rules.specs.Deeds.{of_pass}
+use Rattle.ug_board.specs.Deeds.{of_pass}
 
 module _ {Opening State Job Said : Type 0} (rules : Rules Opening State Job Said) (number : Job → State → ℕ) where
   -- the number of a job where it stands; a step of a lane has none

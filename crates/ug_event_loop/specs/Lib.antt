@@ -5,3 +5,7 @@ pub mod StandingLaws
 pub mod Files
 pub mod Reading
 pub mod FreshLaws
+pub mod Marks
+pub mod Contents
+pub mod Kept
+pub mod Crew

@@ -9,7 +9,7 @@ use Rattle.ug_board.specs.declared.steps.BoardStep.TheVariants.{Job as DoJob, La
 use Rattle.ug_board.specs.Entry.{Entry}
 use Rattle.ug_board.specs.Rules.{Rules}
 use Rattle.ug_board.specs.History.{IsLegal}
-use Rattle.ug_history_rules.specs.Deeds.{Each, of_pass}
+use Rattle.ug_board.specs.Deeds.{Each, of_pass}
 use Rattle.ug_turnstile.specs.Passes.{Held, IsSamePass}
 use Rattle.ug_events.specs.Events.{Saying}
 use Rattle.ug_events.specs.Reads.{Reads}

@@ -6,7 +6,7 @@ use Rattle.ug_board.specs.declared.steps.BoardStep.TheVariants.{Job as DoJob, La
 use Rattle.ug_board.specs.Entry.{Entry}
 use Rattle.ug_board.specs.Rules.{Rules}
 use Rattle.ug_board.specs.History.{IsLegal, replay}
-use Rattle.ug_history_rules.specs.Deeds.{Each, of_pass}
+use Rattle.ug_board.specs.Deeds.{Each, of_pass}
 use Rattle.ug_events.specs.Events.{Saying}
 use Rattle.ug_events.specs.Reads.{Reads}
 use Rattle.ug_speaker.specs.Speech.{Speech, Ends, Prepares}

@@ -8,12 +8,12 @@ use Rattle.ug_types.specs.declared.key.Key.{Key}
 use Rattle.ug_types.specs.declared.route.OutAttrs.{OutAttrs}
 use Rattle.ug_types.specs.declared.route.PeerEnds.{PeerEnds}
 use Rattle.ug_types.specs.Messages.{Message}
-use Rattle.ug_table_rules.specs.Tables.{among}
-use Rattle.ug_rewrite.specs.NextHops.{told_to}
+use Rattle.ug_message.specs.Tables.{among}
+use Rattle.ug_message.specs.NextHops.{told_to}
 use Rattle.ug_pack.specs.Ready.{key_order}
-use Rattle.ug_adjout_rules.specs.Tables.{has}
-use Rattle.ug_adjout_rules.specs.Formatting.{Due}
-use Rattle.ug_adjout_rules.specs.Formatting.Due.{Withdraws}
+use Rattle.ug_adjout.specs.Tables.{has}
+use Rattle.ug_adjout.specs.Formatting.{Due}
+use Rattle.ug_adjout.specs.Formatting.Due.{Withdraws}
 use Rattle.ug_speaker.specs.Right.{announces, is_begin}
 use Rattle.ug_speaker.proofs.Bools.{both, true_or, or_true, or_so}
 use Rattle.ug_group_rules.specs.declared.phase.Phase.{Phase}

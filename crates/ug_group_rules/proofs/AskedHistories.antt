@@ -8,10 +8,10 @@ use Rattle.ug_types.specs.declared.key.Key.{Key}
 use Rattle.ug_types.specs.Messages.{Message}
 use Rattle.ug_board.specs.declared.steps.BoardStep.TheVariants.{Job as DoJob}
 use Rattle.ug_board.specs.History.{after_step, replay_from, replay, job_entry}
-use Rattle.ug_history_rules.specs.Deeds.{Deed, to_peer, deeds_from}
-use Rattle.ug_history_rules.proofs.Growth.{deeds_from-append}
+use Rattle.ug_board.specs.Deeds.{Deed, to_peer, deeds_from}
+use Rattle.ug_board.proofs.Growth.{deeds_from-append}
 use Rattle.ug_outbound.specs.Keys.{ends_of}
-use Rattle.ug_rewrite.specs.NextHops.{told_to}
+use Rattle.ug_message.specs.NextHops.{told_to}
 use Rattle.ug_events.specs.Events.{Happening}
 use Rattle.ug_world.specs.declared.peer_state.PeerState.{PeerState}
 use Rattle.ug_world.specs.World.{World, key_in}

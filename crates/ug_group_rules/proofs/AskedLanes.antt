@@ -8,9 +8,9 @@ use Rattle.ug_types.specs.Messages.{Message}
 use Rattle.ug_board.specs.declared.steps.LaneStep.TheVariants.{Next}
 use Rattle.ug_board.specs.declared.steps.LaneSaid.{LaneSaid}
 use Rattle.ug_board.specs.Rules.{says_more}
-use Rattle.ug_history_rules.specs.Deeds.{Deed, Begins as BeginsDeed, Hands as HandsDeed, Loses, lane_deeds, when}
-use Rattle.ug_history_rules.specs.Sessions.{Session, sessions_of}
-use Rattle.ug_history_rules.proofs.Folding.{sessions_of-append}
+use Rattle.ug_board.specs.Deeds.{Deed, Begins as BeginsDeed, Hands as HandsDeed, Loses, lane_deeds, when}
+use Rattle.ug_board.specs.Sessions.{Session, sessions_of}
+use Rattle.ug_board.proofs.Folding.{sessions_of-append}
 use Rattle.ug_outbound.specs.Keys.{ends_of}
 use Rattle.ug_world.specs.declared.peer_state.PeerState.{PeerState}
 use Rattle.ug_world.specs.World.{World, key_in}

@@ -10,7 +10,7 @@ use Rattle.ug_board.specs.declared.steps.BoardSaid.{BoardSaid}
 use Rattle.ug_board.specs.declared.steps.BoardSaid.TheVariants.{Job as JobSaid, Lane as LaneGot}
 use Rattle.ug_board.specs.declared.steps.LaneStep.TheVariants.{Next, Lost}
 use Rattle.ug_board.specs.History.{IsLegalStep, IsLegalFrom, after_step, replay_from}
-use Rattle.ug_history_rules.specs.Deeds.{Deed, Loses, when, is_to, to_peer, lane_deeds, step_deeds, deeds_from}
+use Rattle.ug_board.specs.Deeds.{Deed, Loses, when, is_to, to_peer, lane_deeds, step_deeds, deeds_from}
 use Rattle.ug_events.specs.Events.{Happening}
 use Rattle.ug_world.specs.declared.peer_state.PeerState.{PeerState}
 use Rattle.ug_world.specs.World.{World}

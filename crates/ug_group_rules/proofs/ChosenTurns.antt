@@ -3,7 +3,7 @@ use Rattle.std.proofs.Common.{◌≡◌, ℕ, ◌+◌, inl, inr, Bool, true, fal
 use Rattle.std.specs.Prelude.{◌==◌, ◌&&◌, not, is_none, if◌then◌else◌}
 use Rattle.std.proofs.lemmas.Bool.{eqb-true, eq-eqb}
 use Rattle.ug_types.specs.Messages.{Message}
-use Rattle.ug_history_rules.specs.Deeds.{Deed}
+use Rattle.ug_board.specs.Deeds.{Deed}
 use Rattle.ug_outbound.specs.declared.key.GroupKey.{GroupKey}
 use Rattle.ug_outbound.specs.Keys.{ends_of}
 use Rattle.ug_events.specs.Events.{Happening}

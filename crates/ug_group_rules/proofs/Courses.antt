@@ -5,16 +5,16 @@ use Rattle.std.specs.Option.{option_map}
 use Rattle.std.proofs.lemmas.Bool.Decides.{nat_tests}
 use Rattle.std.proofs.lemmas.List.{append-nil}
 use Rattle.ug_types.specs.Messages.{Message}
-use Rattle.ug_table_rules.specs.Tables.{table_of}
+use Rattle.ug_message.specs.Tables.{table_of}
 use Rattle.ug_board.specs.declared.steps.BoardStep.{BoardStep}
 use Rattle.ug_board.specs.declared.steps.BoardStep.TheVariants.{Job as DoJob, Lane as LaneTakes}
 use Rattle.ug_board.specs.declared.steps.LaneStep.TheVariants.{Next}
 use Rattle.ug_board.specs.declared.steps.LaneSaid.TheVariants.{Hand}
 use Rattle.ug_board.specs.History.{after_step, replay_from, replay}
-use Rattle.ug_history_rules.specs.Deeds.{Deed}
+use Rattle.ug_board.specs.Deeds.{Deed}
 use Rattle.ug_message.specs.Texts.{written}
 use Rattle.ug_outbound.specs.Keys.{ends_of}
-use Rattle.ug_rewrite.specs.NextHops.{told_to}
+use Rattle.ug_message.specs.NextHops.{told_to}
 use Rattle.ug_events.specs.Events.{Happening}
 use Rattle.ug_world.specs.declared.peer_state.PeerState.{PeerState}
 use Rattle.ug_world.specs.World.{World, key_in}

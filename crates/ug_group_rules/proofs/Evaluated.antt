@@ -7,7 +7,7 @@ use Rattle.std.proofs.lemmas.List.{append-nil}
 use Rattle.ug_types.specs.Bytes.{same_bytes}
 use Rattle.ug_types.specs.Messages.{Message}
 use Rattle.ug_board.specs.History.{replay, job_entry}
-use Rattle.ug_history_rules.specs.Deeds.{Deed, losses}
+use Rattle.ug_board.specs.Deeds.{Deed, losses}
 use Rattle.ug_outbound.specs.declared.key.GroupKey.{GroupKey}
 use Rattle.ug_outbound.specs.Keys.{group_key_of}
 use Rattle.ug_events.specs.Events.{Happening, ComesUp, GoesDown, HasPaths, HasNone, HasPolicy, HasEntries, AsksAgain, SendsRequest, SendsList}

@@ -4,7 +4,7 @@ use Rattle.std.specs.Prelude.{◌&&◌}
 use Rattle.std.specs.Option.{option_map}
 use Rattle.std.proofs.lemmas.Bool.{cases_eq, cases_order}
 use Rattle.ug_types.specs.Messages.{Message}
-use Rattle.ug_history_rules.specs.Deeds.{Deed}
+use Rattle.ug_board.specs.Deeds.{Deed}
 use Rattle.ug_outbound.specs.Keys.{ends_of}
 use Rattle.ug_events.specs.Events.{Happening}
 use Rattle.ug_world.specs.declared.peer_state.PeerState.{PeerState}

@@ -15,14 +15,14 @@ use Rattle.ug_types.specs.declared.family.Family.TheVariants.{V4, V6}
 use Rattle.ug_types.specs.declared.key.Key.{Key}
 use Rattle.ug_types.specs.declared.route.OutAttrs.{OutAttrs}
 use Rattle.ug_types.specs.declared.route.PeerEnds.{PeerEnds}
-use Rattle.ug_history_rules.specs.Deeds.{Each}
+use Rattle.ug_board.specs.Deeds.{Each}
 use Rattle.ug_message.specs.Heads.{size_around}
 use Rattle.ug_message.specs.Spelling.{route, routes, before_next_hop, after_next_hop, attributes, attributes_but_next_hop}
 use Rattle.ug_message.specs.Spellable.{is_key, can_be_spelled}
 use Rattle.ug_message.proofs.AttributeParts.{length_attributes, length_next_hop, but_next_hop_are}
 use Rattle.ug_message.proofs.Formed.{route_formed}
 use Rattle.ug_message.proofs.RoutesAgain.{width_of-le, length_route}
-use Rattle.ug_rewrite.specs.NextHops.{told_to}
+use Rattle.ug_message.specs.NextHops.{told_to}
 use Rattle.ug_pack.specs.Rooms.{room, room_beside}
 use Rattle.ug_pack.proofs.Fits.{room_fits}
 use Rattle.ug_message.specs.Fitting.{announcing, withdrawing, fits}

@@ -8,13 +8,13 @@ use Rattle.ug_types.specs.declared.route.OutAttrs.{OutAttrs}
 use Rattle.ug_types.specs.contracts.route.OutAttrsEq.TheImpl.Laws as out_laws
 use Rattle.ug_types.specs.Keys.{weight_of}
 use Rattle.ug_types.proofs.Same.{outs_same}
-use Rattle.ug_history_rules.specs.Deeds.{Each}
+use Rattle.ug_board.specs.Deeds.{Each}
 use Rattle.ug_outbound.specs.declared.key.GroupKey.{GroupKey}
 use Rattle.ug_outbound.specs.Keys.{limit_of}
-use Rattle.ug_adjout_rules.specs.Tables.{has, value_at}
-use Rattle.ug_adjout_rules.specs.Formatting.{fitting, withdrawals, announcements, of_first_value, value_of_first, alike, announced_next, withdrawn_next, Due}
-use Rattle.ug_adjout_rules.specs.Formatting.Due.{Nothing, Withdraws, Announces}
-use Rattle.ug_adjout_rules.specs.TableLaws.{has-filter, at_itself}
+use Rattle.ug_adjout.specs.Tables.{has, value_at}
+use Rattle.ug_adjout.specs.Formatting.{fitting, withdrawals, announcements, of_first_value, value_of_first, alike, announced_next, withdrawn_next, Due}
+use Rattle.ug_adjout.specs.Formatting.Due.{Nothing, Withdraws, Announces}
+use Rattle.ug_adjout.specs.TableLaws.{has-filter, at_itself}
 use Rattle.ug_pack.specs.Rooms.{room, room_beside}
 use Rattle.ug_pack.specs.Ready.{key_order}
 use Rattle.ug_pack.proofs.Fits.{some_fit, sum_fits}

@@ -10,18 +10,18 @@ use Rattle.ug_types.specs.declared.route.OutAttrs.{OutAttrs}
 use Rattle.ug_types.specs.Attributes.{Attributes}
 use Rattle.ug_types.specs.Keys.{weight_of}
 use Rattle.ug_types.specs.Messages.{Message}
-use Rattle.ug_history_rules.specs.Deeds.{Deed}
-use Rattle.ug_history_rules.specs.Sessions.{sessions_of}
+use Rattle.ug_board.specs.Deeds.{Deed}
+use Rattle.ug_board.specs.Sessions.{sessions_of}
 use Rattle.ug_outbound.specs.declared.key.GroupKey.{GroupKey}
 use Rattle.ug_outbound.specs.Keys.{ends_of, limit_of}
-use Rattle.ug_rewrite.specs.NextHops.{told_to}
+use Rattle.ug_message.specs.NextHops.{told_to}
 use Rattle.ug_world.specs.declared.peer_state.PeerState.{PeerState}
 use Rattle.ug_world.specs.World.{World, key_in}
 use Rattle.ug_world.specs.Worlds.{is_up_in, in_session}
 use Rattle.ug_world.specs.Private.{private_table}
-use Rattle.ug_adjout_rules.specs.Tables.{has}
-use Rattle.ug_adjout_rules.specs.Formatting.{Due}
-use Rattle.ug_adjout_rules.specs.Formatting.Due.{Withdraws, Announces}
+use Rattle.ug_adjout.specs.Tables.{has}
+use Rattle.ug_adjout.specs.Formatting.{Due}
+use Rattle.ug_adjout.specs.Formatting.Due.{Withdraws, Announces}
 use Rattle.ug_pack.specs.Rooms.{room, room_beside}
 use Rattle.ug_pack.specs.Ready.{key_order}
 use Rattle.ug_message.specs.Fitting.{fits}

@@ -4,7 +4,7 @@ use Rattle.std.specs.Prelude.{◌||◌, ◌&&◌, not, filter}
 use Rattle.std.proofs.lemmas.Map.Made.{length-le_from_is_member}
 use Rattle.ug_types.specs.Messages.{Message}
 use Rattle.ug_board.specs.History.{replay}
-use Rattle.ug_history_rules.specs.Deeds.{Deed, when}
+use Rattle.ug_board.specs.Deeds.{Deed, when}
 use Rattle.ug_outbound.specs.declared.key.GroupKey.{GroupKey}
 use Rattle.ug_world.specs.declared.peer_state.PeerState.{PeerState}
 use Rattle.ug_world.specs.World.{World, key_in}

@@ -6,9 +6,9 @@ use Rattle.std.proofs.lemmas.Bool.Decides.{nat_tests}
 use Rattle.ug_types.specs.declared.mark.Mark.{Mark}
 use Rattle.ug_types.specs.Messages.{Message}
 use Rattle.ug_board.specs.History.{after_step, replay_from, replay, job_entry}
-use Rattle.ug_history_rules.specs.Deeds.{Deed, when, to_peer}
-use Rattle.ug_history_rules.specs.Sessions.{sessions_of}
-use Rattle.ug_history_rules.proofs.Growth.{deeds_from-append}
+use Rattle.ug_board.specs.Deeds.{Deed, when, to_peer}
+use Rattle.ug_board.specs.Sessions.{sessions_of}
+use Rattle.ug_board.proofs.Growth.{deeds_from-append}
 use Rattle.ug_world.specs.declared.peer_state.PeerState.{PeerState}
 use Rattle.ug_world.specs.World.{World, key_in}
 use Rattle.ug_world.specs.Touches.{is_about}

@@ -9,19 +9,19 @@ use Rattle.ug_types.specs.Attributes.{Attributes}
 use Rattle.ug_types.specs.Bytes.{is_empty}
 use Rattle.ug_types.specs.Keys.{weight_of}
 use Rattle.ug_types.specs.Messages.{Message, Updates}
-use Rattle.ug_table_rules.specs.Tables.{among}
-use Rattle.ug_table_rules.specs.Climbing.{values_at}
+use Rattle.ug_message.specs.Tables.{among}
+use Rattle.ug_message.specs.Climbing.{values_at}
 use Rattle.ug_message.specs.Streams.{says_nothing}
 use Rattle.ug_outbound.specs.declared.key.GroupKey.{GroupKey}
 use Rattle.ug_outbound.specs.Keys.{ends_of, limit_of}
-use Rattle.ug_rewrite.specs.NextHops.{told_to}
+use Rattle.ug_message.specs.NextHops.{told_to}
 use Rattle.ug_world.specs.declared.peer_state.PeerState.{PeerState}
 use Rattle.ug_world.specs.World.{World, key_in}
 use Rattle.ug_world.specs.Private.{private_table}
 use Rattle.ug_world.specs.Worlds.{in_session, past}
-use Rattle.ug_adjout_rules.specs.Tables.{has}
-use Rattle.ug_adjout_rules.specs.Formatting.{Due}
-use Rattle.ug_adjout_rules.specs.Formatting.Due.{Withdraws, Announces}
+use Rattle.ug_adjout.specs.Tables.{has}
+use Rattle.ug_adjout.specs.Formatting.{Due}
+use Rattle.ug_adjout.specs.Formatting.Due.{Withdraws, Announces}
 use Rattle.ug_pack.specs.Rooms.{room, room_beside}
 use Rattle.ug_pack.specs.Ready.{key_order}
 use Rattle.ug_speaker.specs.Right.{IsAmong}

@@ -7,14 +7,14 @@ use Rattle.std.proofs.lemmas.Option.{slice_get-map}
 use Rattle.ug_types.specs.declared.key.Key.{Key}
 use Rattle.ug_types.specs.Bytes.{is_empty}
 use Rattle.ug_types.specs.Messages.{Message}
-use Rattle.ug_history_rules.specs.Deeds.{Deed}
+use Rattle.ug_board.specs.Deeds.{Deed}
 use Rattle.ug_outbound.specs.declared.key.GroupKey.{GroupKey}
 use Rattle.ug_outbound.specs.Keys.{ends_of}
-use Rattle.ug_rewrite.specs.NextHops.{told_to}
+use Rattle.ug_message.specs.NextHops.{told_to}
 use Rattle.ug_world.specs.declared.peer_state.PeerState.{PeerState}
 use Rattle.ug_world.specs.World.{World, key_in}
 use Rattle.ug_pack.specs.Ready.{key_order}
-use Rattle.ug_adjout_rules.specs.Tables.{has}
+use Rattle.ug_adjout.specs.Tables.{has}
 use Rattle.ug_speaker.specs.Places.{change_at}
 use Rattle.ug_speaker.specs.Counts.{is_lost_at}
 use Rattle.ug_speaker.proofs.Bools.{both_so, not_so}

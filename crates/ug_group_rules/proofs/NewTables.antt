@@ -5,16 +5,16 @@ use Rattle.ug_types.specs.declared.key.Key.{Key}
 use Rattle.ug_types.specs.declared.route.OutAttrs.{OutAttrs}
 use Rattle.ug_outbound.specs.declared.key.GroupKey.{GroupKey}
 use Rattle.ug_world.specs.World.{World}
-use Rattle.ug_adjout_rules.specs.Tables.{has}
-use Rattle.ug_adjout_rules.specs.Pending.{nothing_out}
-use Rattle.ug_adjout_rules.specs.TableLaws.{has-keys_of}
+use Rattle.ug_adjout.specs.Tables.{has}
+use Rattle.ug_adjout.specs.Pending.{nothing_out}
+use Rattle.ug_adjout.specs.TableLaws.{has-keys_of}
 use Rattle.ug_pack.specs.Ready.{key_order}
 use Rattle.ug_pack.proofs.Keys.{key_total, key_exact}
 use Rattle.ug_group_rules.specs.Packets.{Rows, Out, same_out, wanted_rows, all_desired}
 use Rattle.ug_group_rules.specs.Machine.{Subgroup, rekeyed}
 use Rattle.ug_group_rules.proofs.Tables.{row_at, wanted-sorted, nothing-exact}
-use Rattle.ug_adjout_rules.specs.Desiring.{with_each_desired}
-use Rattle.ug_adjout_rules.proofs.Desiring.{each-desired}
+use Rattle.ug_adjout.specs.Desiring.{with_each_desired}
+use Rattle.ug_adjout.proofs.Desiring.{each-desired}
 use Rattle.ug_group_rules.specs.Touched.{IsKeptIn}
 use Rattle.ug_group_rules.proofs.TouchedKeys.{no-keys}
 

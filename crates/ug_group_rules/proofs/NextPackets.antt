@@ -3,8 +3,8 @@ use Rattle.std.proofs.Common.{◌≡◌, Bool, true, false, List, refl}
 use Rattle.std.specs.Prelude.{◌&&◌, not}
 use Rattle.ug_types.specs.declared.key.Key.{Key}
 use Rattle.ug_types.specs.declared.route.OutAttrs.{OutAttrs}
-use Rattle.ug_adjout_rules.specs.Formatting.{Due}
-use Rattle.ug_adjout_rules.specs.Formatting.Due.{Nothing, Withdraws, Announces}
+use Rattle.ug_adjout.specs.Formatting.{Due}
+use Rattle.ug_adjout.specs.Formatting.Due.{Nothing, Withdraws, Announces}
 use Rattle.ug_speaker.proofs.Bools.{both_so, not_so}
 use Rattle.ug_group_rules.specs.Packets.{Says, Withdrawn, Announced, EndOfRib, RefreshBegins, RefreshEnds, routes_due}
 use Rattle.ug_group_rules.specs.Machine.{Subgroup, is_owed, says_by, says_next}

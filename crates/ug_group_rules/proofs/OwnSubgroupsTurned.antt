@@ -3,7 +3,7 @@ use Rattle.std.proofs.Common.{◌≡◌, ℕ, inl, inr, Bool, true, false, refl,
 use Rattle.std.specs.Prelude.{◌||◌, is_some, if◌then◌else◌}
 use Rattle.ug_types.specs.declared.route.PeerEnds.{PeerEnds}
 use Rattle.ug_outbound.specs.declared.key.GroupKey.{GroupKey}
-use Rattle.ug_rewrite.specs.NextHops.{told_to}
+use Rattle.ug_message.specs.NextHops.{told_to}
 use Rattle.ug_world.specs.World.{World}
 use Rattle.ug_group_rules.specs.declared.phase.Phase.TheVariants.{Owed}
 use Rattle.ug_group_rules.specs.Packets.{wanted_rows, all_forced}

@@ -4,9 +4,9 @@ use Rattle.std.specs.Prelude.{◌==◌, ◌&&◌, ◌||◌, not}
 use Rattle.std.specs.Option.{option_map}
 use Rattle.std.proofs.lemmas.Bool.{cases_eq}
 use Rattle.ug_types.specs.Messages.{Message}
-use Rattle.ug_history_rules.specs.Deeds.{Deed, Begins as BeginsDeed, Hands as HandsDeed, Loses}
-use Rattle.ug_history_rules.specs.Sessions.{Session, hand_last, sessions_of}
-use Rattle.ug_history_rules.proofs.Folding.{sessions_of-append}
+use Rattle.ug_board.specs.Deeds.{Deed, Begins as BeginsDeed, Hands as HandsDeed, Loses}
+use Rattle.ug_board.specs.Sessions.{Session, hand_last, sessions_of}
+use Rattle.ug_board.proofs.Folding.{sessions_of-append}
 use Rattle.ug_outbound.specs.declared.key.GroupKey.{GroupKey}
 use Rattle.ug_outbound.specs.Keys.{ends_of}
 use Rattle.ug_world.specs.declared.peer_state.PeerState.{PeerState}

@@ -13,7 +13,7 @@ use Rattle.ug_types.specs.declared.family.Family.TheVariants.{V4, V6}
 use Rattle.ug_types.specs.declared.key.Key.{Key}
 use Rattle.ug_types.specs.declared.route.Path.{Path}
 use Rattle.ug_types.specs.declared.route.OutAttrs.{OutAttrs}
-use Rattle.ug_history_rules.specs.Deeds.{Each}
+use Rattle.ug_board.specs.Deeds.{Each}
 use Rattle.ug_message.specs.Spelling.{attributes, attributes_but_next_hop}
 use Rattle.ug_message.specs.Spellable.{is_key}
 use Rattle.ug_outbound.specs.declared.key.GroupKey.{GroupKey}
@@ -26,7 +26,7 @@ use Rattle.ug_world.specs.declared.peer_state.PeerState.{PeerState}
 use Rattle.ug_world.specs.Parts.{fresh as fresh_peer}
 use Rattle.ug_world.specs.World.{World, paths_to}
 use Rattle.ug_world.specs.Private.{path_at, wanted, told_of, table_of_peer, private_table, keys_of as world_keys}
-use Rattle.ug_adjout_rules.specs.Tables.{has}
+use Rattle.ug_adjout.specs.Tables.{has}
 use Rattle.ug_pack.specs.Rooms.{room, room_beside}
 use Rattle.ug_pack.specs.Ready.{key_order}
 use Rattle.ug_speaker.specs.Told.{worlds_through}

@@ -4,9 +4,9 @@ use Rattle.std.specs.Prelude.{◌&&◌, ◌||◌, not, is_some, count_by, filter
 use Rattle.ug_types.specs.declared.key.Key.{Key}
 use Rattle.ug_types.specs.Attributes.{Attributes}
 use Rattle.ug_types.specs.Messages.{Changes, Message, Updates, Begins, Ends}
-use Rattle.ug_table_rules.specs.Tables.{Table, Reading, nothing_read, applied, changed, among, reading_from, tables_after, table_of}
-use Rattle.ug_table_rules.specs.Climbing.{Climbs, values_at}
-use Rattle.ug_table_rules.specs.ClimbingLaws.{NeverBack-from}
+use Rattle.ug_message.specs.Tables.{Table, Reading, nothing_read, applied, changed, among, reading_from, tables_after, table_of}
+use Rattle.ug_message.specs.Climbing.{Climbs, values_at}
+use Rattle.ug_message.specs.ClimbingLaws.{NeverBack-from}
 use Rattle.ug_message.specs.Streams.{IsUpdate, says_nothing}
 use Rattle.ug_outbound.specs.declared.peer.Peer.{Peer}
 use Rattle.ug_world.specs.World.{World}

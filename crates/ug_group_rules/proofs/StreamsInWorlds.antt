@@ -6,9 +6,9 @@ use Rattle.std.proofs.lemmas.List.Elements.{filter-append}
 use Rattle.ug_types.specs.declared.key.Key.{Key}
 use Rattle.ug_types.specs.Attributes.{Attributes}
 use Rattle.ug_types.specs.Messages.{Message}
-use Rattle.ug_table_rules.specs.Tables.{Table, no_routes, tables_after}
-use Rattle.ug_table_rules.specs.Climbing.{Climbs, values_at}
-use Rattle.ug_table_rules.specs.ClimbingLaws.{Climbs-longer}
+use Rattle.ug_message.specs.Tables.{Table, no_routes, tables_after}
+use Rattle.ug_message.specs.Climbing.{Climbs, values_at}
+use Rattle.ug_message.specs.ClimbingLaws.{Climbs-longer}
 use Rattle.ug_outbound.specs.declared.peer.Peer.{Peer}
 use Rattle.ug_world.specs.World.{World}
 use Rattle.ug_world.specs.Private.{private_table}

@@ -12,7 +12,7 @@ use Rattle.ug_board.specs.declared.steps.BoardSaid.{BoardSaid}
 use Rattle.ug_board.specs.declared.steps.BoardSaid.TheVariants.{Job as JobSaid, Lane as LaneGot}
 use Rattle.ug_board.specs.declared.steps.LaneStep.TheVariants.{Next, Lost}
 use Rattle.ug_board.specs.History.{IsLegalStep, IsLegalFrom, after_step, replay_from, replay}
-use Rattle.ug_history_rules.specs.Deeds.{Deed}
+use Rattle.ug_board.specs.Deeds.{Deed}
 use Rattle.ug_world.specs.World.{World}
 use Rattle.ug_speaker.specs.Told.{worlds_through, events_in}
 use Rattle.ug_speaker.specs.Owes.{IsCourse}

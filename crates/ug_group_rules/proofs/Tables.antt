@@ -11,10 +11,10 @@ use Rattle.ug_types.specs.declared.route.OutAttrs.{OutAttrs}
 use Rattle.ug_outbound.specs.declared.key.GroupKey.{GroupKey}
 use Rattle.ug_world.specs.World.{World}
 use Rattle.ug_world.specs.Private.{wanted, keys_of as world_keys}
-use Rattle.ug_adjout_rules.specs.Tables.{has, joined, value_at, with_value, IsTable}
-use Rattle.ug_adjout_rules.specs.Pending.{nothing_out, waits, still_forced, with_formatted, IsExact}
-use Rattle.ug_adjout_rules.specs.TableLaws.{at_turned, one_key, value_at-other, value_at-here, with_value-sorted, has-filter, has-joined, has-keys_of, sorted-joined}
-use Rattle.ug_adjout_rules.specs.PendingLaws.{has-requeue, distinct-requeue, exact-with_all_forced, exact-with_all_formatted, exact-nothing_out}
+use Rattle.ug_adjout.specs.Tables.{has, joined, value_at, with_value, IsTable}
+use Rattle.ug_adjout.specs.Pending.{nothing_out, waits, still_forced, with_formatted, IsExact}
+use Rattle.ug_adjout.specs.TableLaws.{at_turned, one_key, value_at-other, value_at-here, with_value-sorted, has-filter, has-joined, has-keys_of, sorted-joined}
+use Rattle.ug_adjout.specs.PendingLaws.{has-requeue, distinct-requeue, exact-with_all_forced, exact-with_all_formatted, exact-nothing_out}
 use Rattle.ug_pack.specs.Ready.{key_order}
 use Rattle.ug_pack.proofs.Keys.{key_total, key_exact}
 use Rattle.ug_group_rules.specs.Packets.{Rows, Out, same_out, with_wanted, wanted_rows, with_all_desired, all_desired, all_forced, with_told}

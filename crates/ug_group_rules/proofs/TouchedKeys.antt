@@ -7,14 +7,14 @@ use Rattle.ug_events.specs.Events.{Happening, ComesUp, GoesDown, HasPaths, HasNo
 use Rattle.ug_world.specs.World.{World, paths_to}
 use Rattle.ug_world.specs.Private.{keys_to, keys_of, wanted}
 use Rattle.ug_world.specs.After.{after}
-use Rattle.ug_adjout_rules.specs.TableLaws.{sorted-joined}
+use Rattle.ug_adjout.specs.TableLaws.{sorted-joined}
 use Rattle.ug_pack.specs.Ready.{key_order}
 use Rattle.ug_pack.proofs.Keys.{key_total, key_exact}
 use Rattle.ug_group_rules.specs.Packets.{Rows, Out, same_out, wanted_rows, with_all_desired}
 use Rattle.ug_group_rules.specs.Machine.{Subgroup, retabled}
 use Rattle.ug_group_rules.proofs.Tables.{row_at, wanted-sorted}
-use Rattle.ug_adjout_rules.specs.Desiring.{with_each_desired}
-use Rattle.ug_adjout_rules.proofs.Desiring.{each-desired}
+use Rattle.ug_adjout.specs.Desiring.{with_each_desired}
+use Rattle.ug_adjout.proofs.Desiring.{each-desired}
 use Rattle.ug_group_rules.specs.Touched.{in_order, keys_under, touched_keys, touched, IsKeptIn}
 use Rattle.ug_group_rules.proofs.WantedTables.{rows-value}
 use Rattle.ug_group_rules.proofs.WantedValues.{wants-kept}

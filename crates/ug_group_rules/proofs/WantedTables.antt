@@ -11,16 +11,16 @@ use Rattle.ug_types.specs.declared.family.Family.{Family}
 use Rattle.ug_types.specs.declared.family.Family.TheVariants.{V4, V6}
 use Rattle.ug_types.specs.Ip.{same_family}
 use Rattle.ug_types.specs.Keys.{same_prefix, same_key}
-use Rattle.ug_table_rules.specs.Tables.{Table, among}
+use Rattle.ug_message.specs.Tables.{Table, among}
 use Rattle.ug_outbound.specs.declared.key.GroupKey.{GroupKey}
 use Rattle.ug_outbound.specs.Keys.{ends_of}
 use Rattle.ug_outbound.specs.Outbound.{out}
-use Rattle.ug_rewrite.specs.NextHops.{told_to}
+use Rattle.ug_message.specs.NextHops.{told_to}
 use Rattle.ug_world.specs.declared.peer_state.PeerState.{PeerState}
 use Rattle.ug_world.specs.World.{World, key_in, paths_to}
 use Rattle.ug_world.specs.Private.{path_at, told_of, table_of_peer, private_table, wanted, keys_of as world_keys}
-use Rattle.ug_adjout_rules.specs.Tables.{has}
-use Rattle.ug_adjout_rules.specs.TableLaws.{at_itself, one_key}
+use Rattle.ug_adjout.specs.Tables.{has}
+use Rattle.ug_adjout.specs.TableLaws.{at_itself, one_key}
 use Rattle.ug_pack.specs.Ready.{key_order}
 use Rattle.ug_pack.proofs.Keys.{key_total, key_exact}
 use Rattle.ug_speaker.proofs.Bools.{both}

@@ -11,8 +11,8 @@ use Rattle.ug_world.specs.World.{Routes, World, paths_to}
 use Rattle.ug_world.specs.Private.{keys_to, keys_of, path_at, wanted}
 use Rattle.ug_world.specs.After.{after}
 use Rattle.ug_world.proofs.Keeping.{kept}
-use Rattle.ug_adjout_rules.specs.Tables.{has}
-use Rattle.ug_adjout_rules.specs.TableLaws.{has-joined}
+use Rattle.ug_adjout.specs.Tables.{has}
+use Rattle.ug_adjout.specs.TableLaws.{has-joined}
 use Rattle.ug_pack.specs.Ready.{key_order}
 use Rattle.ug_pack.proofs.Keys.{key_total, key_exact}
 use Rattle.ug_speaker.proofs.SameKeys.{prefix-is}

@@ -9,7 +9,7 @@ use Rattle.ug_types.specs.declared.mark.Mark.{Mark}
 use Rattle.ug_types.specs.declared.key.Key.{Key}
 use Rattle.ug_types.specs.declared.route.OutAttrs.{OutAttrs}
 use Rattle.ug_types.specs.Bytes.{is_empty}
-use Rattle.ug_history_rules.specs.Deeds.{when}
+use Rattle.ug_board.specs.Deeds.{when}
 use Rattle.ug_outbound.specs.declared.key.GroupKey.{GroupKey}
 use Rattle.ug_events.specs.Events.{Happening}
 use Rattle.ug_world.specs.declared.peer_state.PeerState.{PeerState}
@@ -17,8 +17,8 @@ use Rattle.ug_world.specs.World.{World, key_in}
 use Rattle.ug_world.specs.Verdicts.{verdict}
 use Rattle.ug_world.specs.After.{after}
 use Rattle.ug_world.specs.Touches.{is_about}
-use Rattle.ug_adjout_rules.specs.Formatting.{Due}
-use Rattle.ug_adjout_rules.specs.Formatting.Due.{Nothing, Withdraws, Announces}
+use Rattle.ug_adjout.specs.Formatting.{Due}
+use Rattle.ug_adjout.specs.Formatting.Due.{Nothing, Withdraws, Announces}
 use Rattle.ug_speaker.specs.Speech.{is_request}
 use Rattle.ug_speaker.specs.Places.{change_at}
 use Rattle.ug_speaker.specs.Counts.{has, sessions_at}

@@ -10,13 +10,13 @@ use Rattle.ug_types.specs.Messages.{Message, Begins, Ends}
 use Rattle.ug_outbound.specs.declared.key.GroupKey.{GroupKey}
 use Rattle.ug_outbound.specs.contracts.key.GroupKeyPartialEq.TheImpl as key_eq
 use Rattle.ug_outbound.specs.Keys.{limit_of}
-use Rattle.ug_rewrite.specs.NextHops.{told_to}
+use Rattle.ug_message.specs.NextHops.{told_to}
 use Rattle.ug_world.specs.World.{World}
 use Rattle.ug_world.specs.Private.{wanted, keys_of as world_keys}
-use Rattle.ug_adjout_rules.specs.Tables.{with_value}
-use Rattle.ug_adjout_rules.specs.Pending.{AdjRibOut, nothing_out, with_all_forced, with_all_formatted}
-use Rattle.ug_adjout_rules.specs.Desiring as desiring
-use Rattle.ug_adjout_rules.specs.Formatting.{Due, due}
+use Rattle.ug_adjout.specs.Tables.{with_value}
+use Rattle.ug_adjout.specs.Pending.{AdjRibOut, nothing_out, with_all_forced, with_all_formatted}
+use Rattle.ug_adjout.specs.Desiring as desiring
+use Rattle.ug_adjout.specs.Formatting.{Due, due}
 use Rattle.ug_pack.specs.Rooms.{room, room_beside}
 use Rattle.ug_pack.specs.Ready.{key_order}
 use Rattle.ug_message.specs.Fitting.{announcing, withdrawing}

@@ -8,7 +8,7 @@ use Rattle.ug_board.specs.declared.steps.BoardStep.{BoardStep}
 use Rattle.ug_board.specs.declared.steps.BoardStep.TheVariants.{Job as DoJob, Lane as LaneTakes}
 use Rattle.ug_board.specs.Entry.{Entry}
 use Rattle.ug_board.specs.History.{after_step}
-use Rattle.ug_history_rules.specs.Deeds.{when}
+use Rattle.ug_board.specs.Deeds.{when}
 use Rattle.ug_outbound.specs.declared.key.GroupKey.{GroupKey}
 use Rattle.ug_outbound.specs.Tables.{Tables}
 use Rattle.ug_events.specs.Events.{Happening, ComesUp, GoesDown, HasPaths, HasNone, HasPolicy, HasEntries, AsksAgain, SendsRequest, SendsList}

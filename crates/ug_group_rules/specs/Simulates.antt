@@ -5,14 +5,14 @@ use Rattle.std.specs.List.{list_any}
 use Rattle.std.specs.Option.{option_map}
 use Rattle.ug_types.specs.declared.key.Key.{Key}
 use Rattle.ug_types.specs.Messages.{Message}
-use Rattle.ug_table_rules.specs.Tables.{nothing_read, reading_from, table_of, tables_after}
-use Rattle.ug_table_rules.specs.Climbing.{NeverBack}
+use Rattle.ug_message.specs.Tables.{nothing_read, reading_from, table_of, tables_after}
+use Rattle.ug_message.specs.Climbing.{NeverBack}
 use Rattle.ug_outbound.specs.Keys.{ends_of}
-use Rattle.ug_rewrite.specs.NextHops.{told_to}
+use Rattle.ug_message.specs.NextHops.{told_to}
 use Rattle.ug_world.specs.declared.peer_state.PeerState.{PeerState}
 use Rattle.ug_world.specs.World.{World, key_in}
 use Rattle.ug_world.specs.Worlds.{past}
-use Rattle.ug_adjout_rules.specs.Tables.{has, value_at}
+use Rattle.ug_adjout.specs.Tables.{has, value_at}
 use Rattle.ug_pack.specs.Ready.{key_order}
 use Rattle.ug_speaker.specs.Right.{AreFor, EndsInWhole, IsInTurn, announces, ends_of_rib, is_refreshing}
 use Rattle.ug_group_rules.specs.declared.phase.Phase.TheVariants.{Quiet, Open}

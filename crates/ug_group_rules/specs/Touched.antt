@@ -7,12 +7,12 @@ use Rattle.ug_events.specs.Events.{Happening, ComesUp, GoesDown, HasPaths, HasNo
 use Rattle.ug_world.specs.World.{World, paths_to}
 use Rattle.ug_world.specs.Private.{keys_to, keys_of, wanted}
 use Rattle.ug_world.specs.After.{after}
-use Rattle.ug_adjout_rules.specs.Tables.{joined}
-use Rattle.ug_adjout_rules.specs.Pending.{IsExact}
+use Rattle.ug_adjout.specs.Tables.{joined}
+use Rattle.ug_adjout.specs.Pending.{IsExact}
 use Rattle.ug_pack.specs.Ready.{key_order}
 use Rattle.ug_group_rules.specs.Packets.{same_out, wanted_rows}
 use Rattle.ug_group_rules.specs.Machine.{Subgroup}
-use Rattle.ug_adjout_rules.specs.Desiring.{with_each_desired, AreForcedShown}
+use Rattle.ug_adjout.specs.Desiring.{with_each_desired, AreForcedShown}
 
 -- keys in their order
 abbrev pub in_order : List Key → List Key

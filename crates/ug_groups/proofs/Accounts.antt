@@ -9,7 +9,7 @@ use Rattle.ug_types.specs.declared.route.OutAttrs.{OutAttrs}
 use Rattle.ug_outbound.specs.declared.key.GroupKey.{GroupKey}
 use Rattle.ug_intern.specs.Pools.{Held, Pooled, held, uses_of}
 use Rattle.ug_adjout.specs.Stored.{projected_with}
-use Rattle.ug_live.specs.Spread.{value_of}
+use Rattle.ug_queue.specs.Spread.{value_of}
 use Rattle.ug_group_rules.specs.Packets.{same_group, Rows as OutRows}
 use Rattle.ug_groups.specs.Values.{value_in, valued, valued_by}
 use Rattle.std.proofs.lemmas.Nat.{mul-le}

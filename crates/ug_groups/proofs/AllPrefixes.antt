@@ -26,8 +26,8 @@ use Rattle.ug_world.specs.World.{Routes, World, paths_to}
 use Rattle.ug_world.specs.Private.{path_at, wanted}
 use Rattle.ug_world.proofs.Lookups.{tied}
 use Rattle.ug_world.proofs.PrefixOrder.{found_same}
-use Rattle.ug_adjout_rules.specs.Tables.{has}
-use Rattle.ug_adjout_rules.specs.TableLaws.{at_itself, value_at-here, has-append}
+use Rattle.ug_adjout.specs.Tables.{has}
+use Rattle.ug_adjout.specs.TableLaws.{at_itself, value_at-here, has-append}
 use Rattle.ug_pack.specs.Ready.{key_order}
 use Rattle.ug_pack.proofs.Keys.{key_total, key_exact}
 use Rattle.ug_group_rules.proofs.TouchedKeys.{no-keys}

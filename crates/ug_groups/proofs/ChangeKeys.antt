@@ -13,7 +13,7 @@ use Rattle.ug_types.specs.declared.route.Path.{Path}
 use Rattle.ug_outbound.specs.declared.key.GroupKey.{GroupKey}
 use Rattle.ug_outbound.specs.Outbound.{out}
 use Rattle.ug_world.specs.World.{World}
-use Rattle.ug_adjout_rules.specs.TableLaws.{inserted_all}
+use Rattle.ug_adjout.specs.TableLaws.{inserted_all}
 use Rattle.ug_pack.specs.Ready.{key_order, IsKeyOf}
 use Rattle.ug_pack.proofs.Keys.{key_total, key_exact}
 use Rattle.ug_groups.specs.TableChanges.{Changes, IsOwnKey, clearing, with_each_path, changes_by, changes_to}

@@ -7,7 +7,7 @@ use Rattle.ug_intern.specs.Pools.{Pooled}
 use Rattle.ug_types.specs.declared.route.OutAttrs.{OutAttrs}
 use Rattle.ug_outbound.specs.declared.key.GroupKey.{GroupKey}
 use Rattle.ug_group_rules.specs.Machine.{Subgroup}
-use Rattle.ug_live.specs.Spread.{value_of, flat}
+use Rattle.ug_queue.specs.Spread.{value_of, flat}
 use Rattle.ug_groups.specs.declared.entry.Entry.{Entry}
 use Rattle.ug_groups.specs.Rows.{Row, row_at, with_sub, of_key}
 use Rattle.ug_groups.specs.Entries.{Entries, row_in, rows_in}

@@ -5,7 +5,7 @@ use Rattle.std.proofs.Crossing.{crosses}
 use Rattle.ug_types.proofs.route.OutAttrs.TheSendSync as out_attrs
 use Rattle.ug_world.proofs.world.World.TheSendSync as world
 use Rattle.ug_intern.proofs.pool.Pool.TheSendSync as pool
-use Rattle.ug_live.proofs.live.Live.TheSendSync as live
+use Rattle.ug_queue.proofs.live.Live.TheSendSync as live
 use Rattle.ug_queue.proofs.queue.Queue.TheSendSync as queue
 use Rattle.ug_groups.proofs.point.Point.TheSendSync as point
 use Rattle.ug_groups.specs.contracts.told.Told as Told

@@ -5,13 +5,13 @@ use Rattle.ug_types.specs.declared.key.Key.{Key}
 use Rattle.ug_types.specs.declared.route.OutAttrs.{OutAttrs}
 use Rattle.ug_intern.specs.Pools.{Pooled}
 use Rattle.ug_queue.specs.Queues.{Queued}
-use Rattle.ug_live.specs.Spread.{value_of}
+use Rattle.ug_queue.specs.Spread.{value_of}
 use Rattle.ug_group_rules.specs.Packets.{Packet}
 use Rattle.ug_groups.specs.Holders.{IsMoved}
 use Rattle.ug_groups.specs.Subgroups.{Grouped}
 use Rattle.ug_groups.proofs.Holders.{moved_none}
 use Rattle.ug_groups.specs.declared.entry.Entry.{Entry}
-use Rattle.ug_adjout_rules.specs.Pending.{AdjRibOut}
+use Rattle.ug_adjout.specs.Pending.{AdjRibOut}
 use Rattle.ug_group_rules.specs.Machine.{Subgroup}
 use Rattle.ug_groups.specs.Standings.{Standing, seen}
 use Rattle.ug_groups.proofs.Lists.{set_same}

@@ -20,14 +20,14 @@ use Rattle.ug_message.proofs.OneText.{text_within}
 use Rattle.ug_update.specs.Updates.{IsSessionOf, have_identifiers, announcing}
 use Rattle.ug_outbound.specs.declared.key.GroupKey.{GroupKey}
 use Rattle.ug_outbound.specs.Keys.{limit_of}
-use Rattle.ug_rewrite.specs.NextHops.{next_hop}
-use Rattle.ug_rewrite.specs.Packets.{Shared, sent_to, with_address}
+use Rattle.ug_message.specs.NextHops.{next_hop}
+use Rattle.ug_message.specs.Packets.{Shared, sent_to, with_address}
 use Rattle.ug_intern.specs.Pools.{Held, Pooled, held, value_of, IsOneId}
-use Rattle.ug_adjout_rules.specs.Tables.{has, value_at}
-use Rattle.ug_adjout_rules.specs.Pending.{IsExact}
-use Rattle.ug_adjout_rules.specs.TableLaws.{distinct-filter}
-use Rattle.ug_adjout_rules.specs.Formatting.{Due, fitting, withdrawals, announcements, alike, of_first_value, value_of_first}
-use Rattle.ug_adjout_rules.specs.Formatting.Due.{Withdraws, Announces}
+use Rattle.ug_adjout.specs.Tables.{has, value_at}
+use Rattle.ug_adjout.specs.Pending.{IsExact}
+use Rattle.ug_adjout.specs.TableLaws.{distinct-filter}
+use Rattle.ug_adjout.specs.Formatting.{Due, fitting, withdrawals, announcements, alike, of_first_value, value_of_first}
+use Rattle.ug_adjout.specs.Formatting.Due.{Withdraws, Announces}
 use Rattle.ug_pack.specs.declared.built.Built.{Built}
 use Rattle.ug_pack.specs.Rooms.{room, room_beside}
 use Rattle.ug_pack.specs.Ready.{key_order, IsKeyOf, IsSendable, IsLive, IsReady}

@@ -5,7 +5,7 @@ use Rattle.std.specs.Option.{option_map}
 use Rattle.ug_types.specs.declared.route.OutAttrs.{OutAttrs}
 use Rattle.ug_outbound.specs.declared.key.GroupKey.{GroupKey}
 use Rattle.ug_intern.specs.Pools.{Pooled}
-use Rattle.ug_live.specs.Spread.{numbered, value_of}
+use Rattle.ug_queue.specs.Spread.{numbered, value_of}
 use Rattle.ug_group_rules.specs.Packets.{same_group}
 use Rattle.ug_group_rules.specs.Evaluations.{has_key, keys_from}
 use Rattle.ug_group_rules.proofs.Groups.{group-same}

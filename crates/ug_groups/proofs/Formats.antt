@@ -9,14 +9,14 @@ use Rattle.ug_types.specs.declared.key.Key.{Key}
 use Rattle.ug_types.specs.declared.route.OutAttrs.{OutAttrs}
 use Rattle.ug_types.specs.Bytes.{is_empty}
 use Rattle.ug_intern.specs.Pools.{Held, Pooled, held, value_of, IsOneId}
-use Rattle.ug_adjout_rules.specs.Tables.{has, value_at, IsTable}
-use Rattle.ug_adjout_rules.specs.TableLaws.{one_key, none_above, at_itself}
-use Rattle.ug_adjout_rules.specs.Pending.{AdjRibOut, IsExact}
-use Rattle.ug_adjout_rules.specs.PendingLaws.{exact-with_desired, exact-with_all_formatted}
+use Rattle.ug_adjout.specs.Tables.{has, value_at, IsTable}
+use Rattle.ug_adjout.specs.TableLaws.{one_key, none_above, at_itself}
+use Rattle.ug_adjout.specs.Pending.{AdjRibOut, IsExact}
+use Rattle.ug_adjout.specs.PendingLaws.{exact-with_desired, exact-with_all_formatted}
 use Rattle.ug_pack.specs.Ready.{key_order, IsKeyOf, IsLive, IsReady}
 use Rattle.ug_pack.proofs.Keys.{key_total, key_exact}
-use Rattle.ug_adjout_rules.specs.Formatting.{Due}
-use Rattle.ug_adjout_rules.specs.Formatting.Due.{Nothing, Withdraws, Announces}
+use Rattle.ug_adjout.specs.Formatting.{Due}
+use Rattle.ug_adjout.specs.Formatting.Due.{Nothing, Withdraws, Announces}
 use Rattle.ug_adjout.specs.Stored.{projected_with, of_row}
 use Rattle.ug_group_rules.specs.declared.phase.Phase.TheVariants.{Quiet, Owed, Open}
 use Rattle.ug_group_rules.specs.Packets.{Rows, Out, Says, EndOfRib, RefreshBegins, RefreshEnds, same_out, all_forced, with_told, routes_due}

@@ -11,8 +11,8 @@ use Rattle.ug_world.specs.World.{World}
 use Rattle.ug_world.specs.Good.{IsGoodWorld}
 use Rattle.ug_world.specs.Private.{wanted}
 use Rattle.ug_world.specs.Sendable as world
-use Rattle.ug_adjout_rules.specs.Tables.{value_at}
-use Rattle.ug_adjout_rules.specs.Pending.{with_all_formatted, with_formatted}
+use Rattle.ug_adjout.specs.Tables.{value_at}
+use Rattle.ug_adjout.specs.Pending.{with_all_formatted, with_formatted}
 use Rattle.ug_pack.specs.Ready.{key_order, IsSendable}
 use Rattle.ug_queue.proofs.Rests.{rests}
 use Rattle.ug_group_rules.specs.Packets.{Packet, Says, Withdrawn, Announced, EndOfRib, RefreshBegins, RefreshEnds, Out, same_out, wanted_rows}

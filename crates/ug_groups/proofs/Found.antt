@@ -7,7 +7,7 @@ use Rattle.std.proofs.lemmas.List.Quantifiers.{position-Some}
 use Rattle.ug_types.specs.declared.route.OutAttrs.{OutAttrs}
 use Rattle.ug_outbound.specs.declared.key.GroupKey.{GroupKey}
 use Rattle.ug_intern.specs.Pools.{Pooled}
-use Rattle.ug_live.specs.Spread.{numbered, value_of}
+use Rattle.ug_queue.specs.Spread.{numbered, value_of}
 use Rattle.ug_group_rules.specs.Packets.{same_group}
 use Rattle.ug_group_rules.specs.Machine.{first_joinable, is_joinable, is_level}
 use Rattle.ug_group_rules.specs.Evaluations.{has_key, keys_from}

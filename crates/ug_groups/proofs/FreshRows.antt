@@ -8,7 +8,7 @@ use Rattle.ug_types.specs.Keys.{prefix_cmp}
 use Rattle.ug_types.specs.declared.capabilities.Capabilities.{Capabilities}
 use Rattle.ug_outbound.specs.declared.key.GroupKey.{GroupKey}
 use Rattle.ug_world.specs.World.{World}
-use Rattle.ug_adjout_rules.specs.Tables.{has, value_at}
+use Rattle.ug_adjout.specs.Tables.{has, value_at}
 use Rattle.ug_pack.specs.Ready.{key_order}
 use Rattle.ug_group_rules.specs.Packets.{Rows as TableRows, with_all_desired, wanted_rows}
 use Rattle.ug_group_rules.specs.Machine.{Subgroup, there}

@@ -12,7 +12,7 @@ use Rattle.ug_message.specs.Spellable.{is_address}
 use Rattle.ug_message.specs.Texts.{written}
 use Rattle.ug_message.specs.Fitting.{text_of}
 use Rattle.ug_outbound.specs.declared.key.GroupKey.{GroupKey}
-use Rattle.ug_rewrite.specs.Packets.{sent_to}
+use Rattle.ug_message.specs.Packets.{sent_to}
 use Rattle.ug_group_rules.specs.Packets.{Packet, message_to}
 use Rattle.ug_groups.specs.declared.handed.Handed.{Handed}
 use Rattle.ug_groups.specs.Packets.{Packed, said}

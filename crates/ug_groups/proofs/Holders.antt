@@ -5,8 +5,8 @@ use Rattle.std.proofs.lemmas.Bool.Decides.{nat_tests}
 use Rattle.ug_types.specs.declared.key.Key.{Key}
 use Rattle.ug_types.specs.declared.route.OutAttrs.{OutAttrs}
 use Rattle.ug_intern.specs.Pools.{Held, Pooled, held, uses_of, value_of, raised, lowered, IsChangedAt, IsNew}
-use Rattle.ug_adjout_rules.specs.Tables.{value_at, with_value, IsTable}
-use Rattle.ug_adjout_rules.specs.Pending.{AdjRibOut, with_desired, with_formatted}
+use Rattle.ug_adjout.specs.Tables.{value_at, with_value, IsTable}
+use Rattle.ug_adjout.specs.Pending.{AdjRibOut, with_desired, with_formatted}
 use Rattle.ug_adjout.proofs.Counts.{inserted_count, removed_count}
 use Rattle.ug_pack.specs.Ready.{key_order}
 use Rattle.ug_pack.proofs.Keys.{key_total}

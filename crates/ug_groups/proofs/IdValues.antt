@@ -14,10 +14,10 @@ use Rattle.ug_types.specs.Keys.{weight_of}
 use Rattle.ug_outbound.specs.declared.key.GroupKey.{GroupKey}
 use Rattle.ug_outbound.specs.Keys.{limit_of}
 use Rattle.ug_intern.specs.Pools.{Held, Pooled, held, value_of, IsOneId}
-use Rattle.ug_adjout_rules.specs.Tables.{has, without, joined, value_at, with_value, IsTable}
-use Rattle.ug_adjout_rules.specs.TableLaws.{value_at-other, value_at-here, with_value-sorted, none_above, one_key, at_itself}
-use Rattle.ug_adjout_rules.specs.Pending.{AdjRibOut, requeue, still_forced, waits, settled, with_desired, with_all_forced, with_formatted, with_all_formatted}
-use Rattle.ug_adjout_rules.specs.Formatting.{fitting, withdrawals, announcements, of_first_value, value_of_first, alike, announced_next, withdrawn_next, Due}
+use Rattle.ug_adjout.specs.Tables.{has, without, joined, value_at, with_value, IsTable}
+use Rattle.ug_adjout.specs.TableLaws.{value_at-other, value_at-here, with_value-sorted, none_above, one_key, at_itself}
+use Rattle.ug_adjout.specs.Pending.{AdjRibOut, requeue, still_forced, waits, settled, with_desired, with_all_forced, with_formatted, with_all_formatted}
+use Rattle.ug_adjout.specs.Formatting.{fitting, withdrawals, announcements, of_first_value, value_of_first, alike, announced_next, withdrawn_next, Due}
 use Rattle.ug_adjout.specs.Stored.{projected_with, of_row}
 use Rattle.ug_adjout.proofs.Lists.{value_at-projected, projected-with_value}
 use Rattle.ug_pack.specs.Ready.{key_order}

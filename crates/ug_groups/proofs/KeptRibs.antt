@@ -6,10 +6,10 @@ use Rattle.ug_types.specs.declared.family.Family.{Family}
 use Rattle.ug_types.specs.declared.capabilities.Capabilities.{Capabilities}
 use Rattle.ug_types.specs.declared.key.Key.{Key}
 use Rattle.ug_outbound.specs.declared.key.GroupKey.{GroupKey}
-use Rattle.ug_adjout_rules.specs.Tables.{has, value_at, with_value, IsTable}
-use Rattle.ug_adjout_rules.specs.TableLaws.{value_at-here, value_at-other, one_key, at_turned, has-filter, has-joined, has-keys_of}
-use Rattle.ug_adjout_rules.specs.Pending.{AdjRibOut, nothing_out, with_desired, with_formatted, with_all_formatted, with_all_forced}
-use Rattle.ug_adjout_rules.specs.PendingLaws.{exact-nothing_out, exact-with_desired, exact-with_formatted, exact-with_all_forced}
+use Rattle.ug_adjout.specs.Tables.{has, value_at, with_value, IsTable}
+use Rattle.ug_adjout.specs.TableLaws.{value_at-here, value_at-other, one_key, at_turned, has-filter, has-joined, has-keys_of}
+use Rattle.ug_adjout.specs.Pending.{AdjRibOut, nothing_out, with_desired, with_formatted, with_all_formatted, with_all_forced}
+use Rattle.ug_adjout.specs.PendingLaws.{exact-nothing_out, exact-with_desired, exact-with_formatted, exact-with_all_forced}
 use Rattle.ug_pack.specs.Ready.{key_order, IsKeyOf}
 use Rattle.ug_pack.proofs.Keys.{key_total, key_exact}
 use Rattle.ug_groups.specs.FamilyRibs.{FamilyRib}

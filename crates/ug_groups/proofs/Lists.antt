@@ -2,7 +2,7 @@
 use Rattle.std.proofs.Common.{◌≡◌, ℕ, zero, suc, List, [], ◌∷◌, ◌++◌, map, length, Option, Some, None, refl, sym, ◌∙◌, ap, arith, slice_set}
 use Rattle.std.specs.Option.{option_map}
 use Rattle.ug_speaker.specs.Places.{change_at}
-use Rattle.ug_live.specs.Spread.{value_of}
+use Rattle.ug_queue.specs.Spread.{value_of}
 
 module _ {T : Type 0} where
   pub set_here : (xs : List (Option T)) (g : ℕ) (x : T) (o : Option T) → value_of g xs ≡ Some x → value_of g (slice_set xs g o) ≡ o

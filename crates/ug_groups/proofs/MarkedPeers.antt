@@ -4,7 +4,7 @@ use Rattle.std.specs.Prelude.{◌&&◌, ◌==◌, if◌then◌else◌}
 use Rattle.std.specs.Option.{option_map}
 use Rattle.std.proofs.lemmas.List.{append_assoc, drop_all}
 use Rattle.ug_types.specs.declared.mark.Mark.{Mark}
-use Rattle.ug_history_rules.specs.Deeds.{when}
+use Rattle.ug_board.specs.Deeds.{when}
 use Rattle.ug_world.specs.declared.peer_state.PeerState.{PeerState}
 use Rattle.ug_world.specs.World.{World}
 use Rattle.ug_group_rules.specs.Machine as machine

@@ -8,9 +8,9 @@ use Rattle.ug_types.specs.declared.route.OutAttrs.{OutAttrs}
 use Rattle.ug_types.specs.declared.capabilities.Capabilities.{Capabilities}
 use Rattle.ug_outbound.specs.declared.key.GroupKey.{GroupKey}
 use Rattle.ug_intern.specs.Pools.{Held, Pooled, held, value_of}
-use Rattle.ug_adjout_rules.specs.Tables.{value_at, rows_after, IsTable}
+use Rattle.ug_adjout.specs.Tables.{value_at, rows_after, IsTable}
 use Rattle.ug_adjout.proofs.Lists.{value_at-projected}
-use Rattle.ug_adjout_rules.specs.Pending.{AdjRibOut}
+use Rattle.ug_adjout.specs.Pending.{AdjRibOut}
 use Rattle.ug_pack.specs.Ready.{key_order, IsKeyOf}
 use Rattle.ug_pack.proofs.Keys.{key_total, key_exact}
 use Rattle.ug_groups.specs.Values.{value_in, valued, valued_by}

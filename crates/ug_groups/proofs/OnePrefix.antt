@@ -18,8 +18,8 @@ use Rattle.ug_policy.specs.Named.{is_permitted}
 use Rattle.ug_policy.specs.Filters.{filter_permits}
 use Rattle.ug_world.specs.World.{World, paths_to}
 use Rattle.ug_world.specs.Private.{path_at, wanted}
-use Rattle.ug_adjout_rules.specs.Tables.{has, value_at, IsTable}
-use Rattle.ug_adjout_rules.specs.TableLaws.{at_itself, one_key, value_at-other, value_at-here, none_above, with_value-sorted, inserted_all, has-keys_of, has_from_all}
+use Rattle.ug_adjout.specs.Tables.{has, value_at, IsTable}
+use Rattle.ug_adjout.specs.TableLaws.{at_itself, one_key, value_at-other, value_at-here, none_above, with_value-sorted, inserted_all, has-keys_of, has_from_all}
 use Rattle.ug_pack.specs.Ready.{key_order}
 use Rattle.ug_pack.proofs.Keys.{key_total, key_exact}
 use Rattle.ug_group_rules.proofs.TouchedKeys.{no-keys}

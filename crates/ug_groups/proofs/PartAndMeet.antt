@@ -7,8 +7,8 @@ use Rattle.std.proofs.lemmas.Bool.{eq-eqb}
 use Rattle.ug_types.specs.declared.key.Key.{Key}
 use Rattle.ug_types.specs.declared.route.OutAttrs.{OutAttrs}
 use Rattle.ug_intern.specs.Pools.{Pooled, held, uses_of}
-use Rattle.ug_adjout_rules.specs.Pending.{AdjRibOut}
-use Rattle.ug_live.specs.Spread.{value_of}
+use Rattle.ug_adjout.specs.Pending.{AdjRibOut}
+use Rattle.ug_queue.specs.Spread.{value_of}
 use Rattle.ug_queue.specs.Queues.{Queued, IsMember, place_of, shed, without_members, with_members}
 use Rattle.ug_group_rules.specs.Packets.{same_group, Packet}
 use Rattle.ug_group_rules.proofs.Keys.{laws}

@@ -5,7 +5,7 @@ use Rattle.ug_types.specs.Messages.{Updates, Begins, Ends}
 use Rattle.ug_update.specs.Updates.{withdrawing}
 use Rattle.ug_message.specs.Texts.{written}
 use Rattle.ug_outbound.specs.declared.key.GroupKey.{GroupKey}
-use Rattle.ug_rewrite.specs.Packets.{Shared}
+use Rattle.ug_message.specs.Packets.{Shared}
 use Rattle.ug_pack.specs.Packets.{IsPlain}
 use Rattle.ug_group_rules.specs.Packets.{EndOfRib, RefreshBegins, RefreshEnds}
 use Rattle.ug_groups.specs.Packets.{Packed}

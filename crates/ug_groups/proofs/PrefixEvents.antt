@@ -16,7 +16,7 @@ use Rattle.ug_world.specs.Private.{own_keys, keys_to, path_at, wanted}
 use Rattle.ug_world.specs.After.{after}
 use Rattle.ug_world.specs.Good.{IsGoodWorld}
 use Rattle.ug_world.proofs.Keeping.{kept}
-use Rattle.ug_adjout_rules.specs.Tables.{has, value_at}
+use Rattle.ug_adjout.specs.Tables.{has, value_at}
 use Rattle.ug_pack.specs.Ready.{key_order}
 use Rattle.ug_group_rules.specs.Packets.{Rows as TableRows}
 use Rattle.ug_group_rules.specs.Machine.{Subgroup, retabled}

@@ -8,10 +8,10 @@ use Rattle.ug_types.specs.declared.route.OutAttrs.{OutAttrs}
 use Rattle.ug_outbound.specs.declared.key.GroupKey.{GroupKey}
 use Rattle.ug_world.specs.World.{World}
 use Rattle.ug_world.specs.Private.{wanted}
-use Rattle.ug_adjout_rules.specs.Tables.{has, value_at}
-use Rattle.ug_adjout_rules.specs.Pending.{IsExact, with_desired}
-use Rattle.ug_adjout_rules.specs.Desiring.{with_each_desired, AreForcedShown}
-use Rattle.ug_adjout_rules.proofs.Desiring.{each-desired}
+use Rattle.ug_adjout.specs.Tables.{has, value_at}
+use Rattle.ug_adjout.specs.Pending.{IsExact, with_desired}
+use Rattle.ug_adjout.specs.Desiring.{with_each_desired, AreForcedShown}
+use Rattle.ug_adjout.proofs.Desiring.{each-desired}
 use Rattle.ug_pack.specs.Ready.{key_order}
 use Rattle.ug_pack.proofs.Keys.{key_total, key_exact}
 use Rattle.ug_group_rules.specs.Packets.{Out, same_out, wanted_rows}

@@ -6,7 +6,7 @@ use Rattle.std.specs.Option.{option_map}
 use Rattle.std.proofs.lemmas.Iterator.Adapters.{position_from-zero}
 use Rattle.std.proofs.lemmas.List.Quantifiers.{position-Some}
 use Rattle.std.proofs.lemmas.Option.{slice_get-get_or}
-use Rattle.ug_live.specs.Spread.{numbered, value_of}
+use Rattle.ug_queue.specs.Spread.{numbered, value_of}
 use Rattle.ug_groups.specs.Scans.{first_of, number_at}
 
 one_on : Option ℕ → Option ℕ

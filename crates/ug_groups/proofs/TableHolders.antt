@@ -11,8 +11,8 @@ use Rattle.std.specs.declared.cmp.Ordering.TheVariants.{Less, Equal, Greater}
 use Rattle.std.proofs.lemmas.Map.Keys.{sorted_head, sorted_tail}
 use Rattle.ug_types.specs.declared.route.OutAttrs.{OutAttrs}
 use Rattle.ug_intern.specs.Pools.{Held, Pooled, held, uses_of, value_of, raised, lowered, IsChangedAt}
-use Rattle.ug_adjout_rules.specs.Tables.{rows_after, IsTable}
-use Rattle.ug_adjout_rules.specs.TableLaws.{at_itself, below_all}
+use Rattle.ug_adjout.specs.Tables.{rows_after, IsTable}
+use Rattle.ug_adjout.specs.TableLaws.{at_itself, below_all}
 use Rattle.ug_adjout.specs.Stored.{projected, projected_with}
 use Rattle.ug_adjout.proofs.Counts.{counted_most}
 use Rattle.ug_groups.specs.FamilyRibs.{FamilyRib}

@@ -6,10 +6,10 @@ use Rattle.std.specs.BTreeMap.{is_at}
 use Rattle.ug_types.specs.declared.key.Key.{Key}
 use Rattle.ug_types.specs.declared.route.OutAttrs.{OutAttrs}
 use Rattle.ug_intern.specs.Pools.{Pooled, held, uses_of}
-use Rattle.ug_adjout_rules.specs.Tables.{has, value_at}
-use Rattle.ug_adjout_rules.specs.TableLaws.{at_turned}
-use Rattle.ug_adjout_rules.specs.Pending.{AdjRibOut, IsExact, with_formatted, with_all_formatted}
-use Rattle.ug_adjout_rules.specs.PendingLaws.{exact-with_formatted, waits-with_formatted}
+use Rattle.ug_adjout.specs.Tables.{has, value_at}
+use Rattle.ug_adjout.specs.TableLaws.{at_turned}
+use Rattle.ug_adjout.specs.Pending.{AdjRibOut, IsExact, with_formatted, with_all_formatted}
+use Rattle.ug_adjout.specs.PendingLaws.{exact-with_formatted, waits-with_formatted}
 use Rattle.ug_pack.specs.Ready.{key_order}
 use Rattle.ug_pack.proofs.Keys.{key_total, key_exact}
 use Rattle.ug_groups.specs.Holders.{IsCounted, IsMoved, HasRoom}

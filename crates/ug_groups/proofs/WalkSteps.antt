@@ -12,10 +12,10 @@ use Rattle.std.specs.declared.cmp.Ordering.TheVariants.{Less, Equal, Greater}
 use Rattle.std.proofs.lemmas.Map.Keys.{sorted_head, sorted_tail}
 use Rattle.std.proofs.lemmas.Bool.{or_parts}
 use Rattle.ug_types.specs.declared.key.Key.{Key}
-use Rattle.ug_adjout_rules.specs.Tables.{has, value_at, rows_after, IsTable}
-use Rattle.ug_adjout_rules.specs.TableLaws.{at_itself, one_key, turned_less, below_all, none_above, has-append, value_at-other}
-use Rattle.ug_adjout_rules.specs.Pending.{AdjRibOut, with_desired}
-use Rattle.ug_adjout_rules.specs.Desiring.{with_each_desired}
+use Rattle.ug_adjout.specs.Tables.{has, value_at, rows_after, IsTable}
+use Rattle.ug_adjout.specs.TableLaws.{at_itself, one_key, turned_less, below_all, none_above, has-append, value_at-other}
+use Rattle.ug_adjout.specs.Pending.{AdjRibOut, with_desired}
+use Rattle.ug_adjout.specs.Desiring.{with_each_desired}
 use Rattle.ug_pack.specs.Ready.{key_order}
 use Rattle.ug_pack.proofs.Keys.{key_total, key_exact}
 use Rattle.ug_groups.specs.Walks.{is_behind, IsFirst, IsNext, least}

@@ -6,13 +6,13 @@ use Rattle.std.specs.List.Sorted.{IsStrictlySortedBy}
 use Rattle.ug_types.specs.declared.key.Key.{Key}
 use Rattle.ug_types.specs.declared.route.OutAttrs.{OutAttrs}
 use Rattle.ug_intern.specs.Pools.{Pooled}
-use Rattle.ug_adjout_rules.specs.Tables.{has, value_at, IsTable}
-use Rattle.ug_adjout_rules.specs.Pending.{IsExact, with_desired}
-use Rattle.ug_adjout_rules.specs.Desiring.{with_each_desired, with_all_desired, AreForcedShown}
-use Rattle.ug_adjout_rules.proofs.Desiring.{each-desired}
+use Rattle.ug_adjout.specs.Tables.{has, value_at, IsTable}
+use Rattle.ug_adjout.specs.Pending.{IsExact, with_desired}
+use Rattle.ug_adjout.specs.Desiring.{with_each_desired, with_all_desired, AreForcedShown}
+use Rattle.ug_adjout.proofs.Desiring.{each-desired}
 use Rattle.ug_pack.specs.Ready.{key_order}
 use Rattle.ug_pack.proofs.Keys.{key_total, key_exact}
-use Rattle.ug_live.specs.Spread.{value_of}
+use Rattle.ug_queue.specs.Spread.{value_of}
 use Rattle.ug_group_rules.specs.Packets.{Out, same_out}
 use Rattle.ug_group_rules.specs.Machine.{Subgroup}
 use Rattle.ug_groups.specs.Standings.{desiring}

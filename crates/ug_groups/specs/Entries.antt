@@ -6,10 +6,10 @@ use Rattle.ug_types.specs.declared.key.Key.{Key}
 use Rattle.ug_types.specs.declared.route.OutAttrs.{OutAttrs}
 use Rattle.ug_outbound.specs.declared.key.GroupKey.{GroupKey}
 use Rattle.ug_intern.specs.Pools.{Pooled, held, uses_of}
-use Rattle.ug_live.specs.Spread.{value_of}
+use Rattle.ug_queue.specs.Spread.{value_of}
 use Rattle.std.specs.Map.{keys_of}
 use Rattle.ug_queue.specs.Queues.{empty_queue, shed, without_members, with_members}
-use Rattle.ug_adjout_rules.specs.Pending.{AdjRibOut, nothing_out}
+use Rattle.ug_adjout.specs.Pending.{AdjRibOut, nothing_out}
 use Rattle.ug_group_rules.specs.declared.phase.Phase.TheVariants.{Quiet}
 use Rattle.ug_group_rules.specs.Packets.{same_group}
 use Rattle.ug_group_rules.specs.Machine.{is_level}

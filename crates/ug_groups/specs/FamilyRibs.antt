@@ -2,12 +2,12 @@
 use Rattle.std.specs.Prelude.{◌≡◌, ℕ, true, List}
 use Rattle.std.specs.List.{AllByRecursion, IsDistinct}
 use Rattle.std.specs.Ordering.{eq_by_cmp}
-use Rattle.ug_adjout_rules.specs.Tables.{has}
+use Rattle.ug_adjout.specs.Tables.{has}
 use Rattle.ug_pack.specs.Ready.{key_order}
 use Rattle.ug_types.specs.declared.key.Key.{Key}
 use Rattle.ug_types.specs.declared.family.Family.{Family}
 use Rattle.ug_types.specs.declared.family.Family.TheVariants as families
-use Rattle.ug_adjout_rules.specs.Pending.{AdjRibOut}
+use Rattle.ug_adjout.specs.Pending.{AdjRibOut}
 use Rattle.ug_groups.specs.declared.table.Table.{Table}
 use Rattle.ug_groups.specs.declared.table.Table.TheVariants.{V4, V6}
 

@@ -4,7 +4,7 @@ use Rattle.std.specs.Prelude.{◌≡◌, ℕ, ◌+◌, ◌<◌, ◌≤◌, ◌==
 use Rattle.ug_types.specs.declared.key.Key.{Key}
 use Rattle.ug_types.specs.declared.route.OutAttrs.{OutAttrs}
 use Rattle.ug_intern.specs.Pools.{Pooled, held, uses_of}
-use Rattle.ug_adjout_rules.specs.Pending.{AdjRibOut}
+use Rattle.ug_adjout.specs.Pending.{AdjRibOut}
 use Rattle.ug_adjout.specs.Stored.{projected, of_row}
 use Rattle.ug_groups.specs.Values.{value_in}
 use Rattle.ug_groups.specs.declared.side.Side.{Side}

@@ -1,7 +1,7 @@
 -- Packets, as they lie in memory and as the definitions of the machine have them.
 use Rattle.std.specs.Prelude.{ℕ}
 use Rattle.ug_group_rules.specs.Packets as packets
-use Rattle.ug_rewrite.specs.Packets.{Shared}
+use Rattle.ug_message.specs.Packets.{Shared}
 use Rattle.ug_groups.specs.declared.saying.Saying.{Saying}
 use Rattle.ug_groups.specs.declared.saying.Saying.TheVariants as sayings
 use Rattle.ug_groups.specs.declared.told.Told.{Told}

@@ -5,8 +5,8 @@ use Rattle.std.specs.List.Sorted.{IsStrictlySortedBy}
 use Rattle.std.specs.Option.{option_map}
 use Rattle.std.specs.Ordering.{nat_cmp}
 use Rattle.ug_outbound.specs.declared.key.GroupKey.{GroupKey}
-use Rattle.ug_adjout_rules.specs.Pending.{IsExact, nothing_out}
-use Rattle.ug_adjout_rules.specs.Desiring.{with_all_desired as all_desired_of, AreForcedShown}
+use Rattle.ug_adjout.specs.Pending.{IsExact, nothing_out}
+use Rattle.ug_adjout.specs.Desiring.{with_all_desired as all_desired_of, AreForcedShown}
 use Rattle.ug_pack.specs.Ready.{key_order}
 use Rattle.ug_speaker.specs.Places.{change_at}
 use Rattle.ug_queue.specs.Queues.{Queued, empty_queue, with_packet, with_member, with_members, without_member, without_members, standing, shed, passed, IsMember}

@@ -7,9 +7,9 @@ use Rattle.ug_types.specs.declared.route.PeerEnds.{PeerEnds}
 use Rattle.ug_message.specs.Spellable.{is_address}
 use Rattle.ug_message.specs.Texts.{written}
 use Rattle.ug_outbound.specs.declared.key.GroupKey.{GroupKey}
-use Rattle.ug_adjout_rules.specs.Formatting.{Due}
-use Rattle.ug_adjout_rules.specs.Formatting.Due.{Nothing, Withdraws, Announces}
-use Rattle.ug_rewrite.specs.Packets.{sent_to}
+use Rattle.ug_adjout.specs.Formatting.{Due}
+use Rattle.ug_adjout.specs.Formatting.Due.{Nothing, Withdraws, Announces}
+use Rattle.ug_message.specs.Packets.{sent_to}
 use Rattle.ug_group_rules.specs.Packets.{Says, Withdrawn, Announced, message_to}
 use Rattle.ug_groups.specs.declared.routed.Routed.{Routed}
 use Rattle.ug_groups.specs.declared.saying.Saying.{Saying}

@@ -5,8 +5,8 @@ use Rattle.ug_types.specs.declared.key.Key.{Key}
 use Rattle.ug_types.specs.declared.route.OutAttrs.{OutAttrs}
 use Rattle.ug_outbound.specs.declared.key.GroupKey.{GroupKey}
 use Rattle.ug_intern.specs.Pools.{Pooled}
-use Rattle.ug_adjout_rules.specs.Tables.{has, value_at}
-use Rattle.ug_adjout_rules.specs.Pending.{AdjRibOut, IsExact, with_all_forced, with_all_formatted, with_desired}
+use Rattle.ug_adjout.specs.Tables.{has, value_at}
+use Rattle.ug_adjout.specs.Pending.{AdjRibOut, IsExact, with_all_forced, with_all_formatted, with_desired}
 use Rattle.ug_pack.specs.Ready.{key_order, IsKeyOf, IsSendable}
 use Rattle.ug_group_rules.specs.declared.phase.Phase.{Phase}
 use Rattle.ug_group_rules.specs.declared.phase.Phase.TheVariants.{Quiet, Open}

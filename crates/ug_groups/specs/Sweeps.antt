@@ -2,7 +2,7 @@
 use Rattle.std.specs.Prelude.{◌≡◌, ℕ, ◌<◌, ◌≤◌, length, ◌==◌, false}
 use Rattle.std.specs.Option.{option_map}
 use Rattle.ug_outbound.specs.declared.key.GroupKey.{GroupKey}
-use Rattle.ug_live.specs.Spread.{value_of}
+use Rattle.ug_queue.specs.Spread.{value_of}
 use Rattle.ug_group_rules.specs.Packets.{same_group}
 use Rattle.ug_groups.specs.declared.entry.Entry.{Entry}
 use Rattle.ug_groups.specs.Rows.{Row, Rows, row_at}

@@ -14,9 +14,9 @@ use Rattle.ug_events.specs.Events.{Happening, ComesUp, GoesDown, HasPaths, HasNo
 use Rattle.ug_world.specs.World.{Routes, World, paths_to}
 use Rattle.ug_world.specs.Private.{keys_to}
 use Rattle.ug_world.specs.Touches.{decides_for}
-use Rattle.ug_adjout_rules.specs.Tables.{has, value_at}
-use Rattle.ug_adjout_rules.specs.Pending.{IsExact}
-use Rattle.ug_adjout_rules.specs.Desiring.{AreForcedShown}
+use Rattle.ug_adjout.specs.Tables.{has, value_at}
+use Rattle.ug_adjout.specs.Pending.{IsExact}
+use Rattle.ug_adjout.specs.Desiring.{AreForcedShown}
 use Rattle.ug_pack.specs.Ready.{key_order}
 use Rattle.ug_group_rules.specs.Packets.{same_out, wanted_rows}
 use Rattle.ug_group_rules.specs.Machine.{Subgroup}

@@ -3,10 +3,10 @@ use Rattle.std.specs.Prelude.{ℕ, List, Option, Some, None, IsSome, IfSome}
 use Rattle.ug_types.specs.declared.key.Key.{Key}
 use Rattle.ug_types.specs.declared.route.OutAttrs.{OutAttrs}
 use Rattle.ug_intern.specs.Pools.{Pooled, held, value_of}
-use Rattle.ug_adjout_rules.specs.Tables.{value_at}
-use Rattle.ug_adjout_rules.specs.Pending.{AdjRibOut}
-use Rattle.ug_adjout_rules.specs.Formatting.{Due}
-use Rattle.ug_adjout_rules.specs.Formatting.Due.{Nothing, Withdraws, Announces}
+use Rattle.ug_adjout.specs.Tables.{value_at}
+use Rattle.ug_adjout.specs.Pending.{AdjRibOut}
+use Rattle.ug_adjout.specs.Formatting.{Due}
+use Rattle.ug_adjout.specs.Formatting.Due.{Nothing, Withdraws, Announces}
 use Rattle.ug_adjout.specs.Stored.{projected, of_row}
 use Rattle.ug_pack.specs.Ready.{key_order}
 use Rattle.ug_group_rules.specs.Packets.{Rows, Out}

@@ -2,12 +2,12 @@
 use Rattle.std.specs.Prelude.{◌≡◌, Bool, true, false, ◌⊎◌, List, Option, Some, None, IsSome, if◌then◌else◌}
 use Rattle.std.specs.Ordering.{is_lt}
 use Rattle.ug_types.specs.declared.key.Key.{Key}
-use Rattle.ug_adjout_rules.specs.Tables.{value_at}
+use Rattle.ug_adjout.specs.Tables.{value_at}
 use Rattle.ug_pack.specs.Ready.{key_order}
 use Rattle.ug_intern.specs.Pools.{Pooled}
-use Rattle.ug_live.specs.Spread.{value_of}
-use Rattle.ug_adjout_rules.specs.Tables.{has}
-use Rattle.ug_adjout_rules.specs.Desiring.{with_each_desired}
+use Rattle.ug_queue.specs.Spread.{value_of}
+use Rattle.ug_adjout.specs.Tables.{has}
+use Rattle.ug_adjout.specs.Desiring.{with_each_desired}
 use Rattle.ug_group_rules.specs.Packets.{same_out}
 use Rattle.ug_groups.specs.declared.entry.Entry.{Entry}
 use Rattle.ug_groups.specs.Rows.{with_row, with_sub}

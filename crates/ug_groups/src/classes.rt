@@ -2,7 +2,7 @@
 
 ghost use Rattle.std.specs.Prelude.{◌≡◌, ◌==◌, ◌<◌, ◌≤◌, [], ◌∷◌, ◌++◌, length, position, IsSome, IfSome, IfNone, IfOk, OnOk};
 ghost use Rattle.ug_group_rules.specs.Packets.{same_group};
-ghost use Rattle.ug_live.specs.Spread.{value_of};
+ghost use Rattle.ug_queue.specs.Spread.{value_of};
 ghost use Rattle.ug_groups.specs.Entries.{key_of, AreClassed, IsClass};
 ghost use Rattle.ug_groups.specs.Scans.{has_class, firsts};
 ghost use Rattle.ug_groups.specs.Sweeps.{AreOthers};
@@ -10,8 +10,8 @@ ghost use Rattle.ug_groups.specs.Sweeps.{AreOthers};
 use crate::entry::Entry;
 use crate::scans::number_of;
 use std::alloc::Global;
-use ug_live::Live;
 use ug_outbound::GroupKey;
+use ug_queue::Live;
 use ug_types::{NoMemory, NumberList};
 
 /// The place of the first that has this key.

@@ -2,7 +2,7 @@
 
 ghost use Rattle.std.specs.Prelude.{◌≡◌, ◌==◌, ℕ, Option, false, length, None, IsSome, IfSome, IfOk, OnOk, OnErr};
 ghost use Rattle.ug_queue.specs.Queues.{IsMember, place_of};
-ghost use Rattle.ug_live.specs.Spread.{value_of};
+ghost use Rattle.ug_queue.specs.Spread.{value_of};
 ghost use Rattle.ug_groups.specs.Sent.{session_of};
 ghost use Rattle.ug_groups.specs.Subgroups.{StandTogether};
 ghost use Rattle.ug_groups.specs.Entries.{key_of, AreClassed, IsKept, AreKept, IsAdded, IsRekeyed, IsGone, IsSplit, IsMerged};
@@ -12,8 +12,8 @@ use crate::entry::Entry;
 use crate::subgroup::Subgroup;
 use std::alloc::Global;
 use ug_intern::Pool;
-use ug_live::Live;
 use ug_outbound::GroupKey;
+use ug_queue::Live;
 use ug_types::{NoMemory, OutAttrs, PeerList};
 
 /// One more, of which nothing was formatted and nothing is desired, without members. Running out of memory, or of

@@ -3,7 +3,7 @@
 ghost use Rattle.std.specs.Prelude.{◌≡◌, ◌+◌, ℕ, Some, None, IsSome, IfSome, IfOk, OnOk, OnErr};
 ghost use Rattle.ug_intern.specs.Pools.{held, uses_of, IsSame};
 ghost use Rattle.ug_pack.specs.Ready.{IsKeyOf};
-ghost use Rattle.ug_live.specs.Spread.{value_of};
+ghost use Rattle.ug_queue.specs.Spread.{value_of};
 ghost use Rattle.ug_groups.specs.Values.{value_in, valued_by};
 ghost use Rattle.ug_groups.specs.Holders.{one_at, IsUsed, HasRoom};
 ghost use Rattle.ug_groups.specs.Standings.{desiring};
@@ -15,7 +15,7 @@ use crate::account::{hold_value, release};
 use crate::entry::Entry;
 use crate::{points, sweeps};
 use ug_intern::{AttrId, Pool};
-use ug_live::Live;
+use ug_queue::Live;
 use ug_types::{Key, NoMemory, OutAttrs};
 
 /// Takes the id of the value in hand, where there is one.

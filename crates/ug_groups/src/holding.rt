@@ -2,7 +2,7 @@
 
 ghost use Rattle.std.specs.Prelude.{◌≡◌, ◌≤◌, ◌+◌, ℕ, IsSome, length, slice_get, option_copied};
 ghost use Rattle.ug_intern.specs.Pools.{held, uses_of};
-ghost use Rattle.ug_adjout_rules.specs.Tables.{IsTable, rows_after};
+ghost use Rattle.ug_adjout.specs.Tables.{IsTable, rows_after};
 ghost use Rattle.ug_groups.specs.Values.{value_in};
 ghost use Rattle.ug_groups.specs.Holders.{holders, rows_of, one_at, IsUsed, IsExchanged, HasRoom};
 

@@ -1,7 +1,7 @@
 //! Marks of how much peers were told.
 
 ghost use Rattle.std.specs.Prelude.{◌≡◌, ℕ, ◌<◌, ◌&&◌, [], ◌∷◌, ◌++◌, Bool, Some, true, is_some, length, slice_get, IfOk, OnOk, ◌==◌, if◌then◌else◌};
-ghost use Rattle.ug_history_rules.specs.Deeds.{when};
+ghost use Rattle.ug_board.specs.Deeds.{when};
 ghost use Rattle.ug_events.specs.Views.{event_of};
 ghost use Rattle.ug_world.specs.declared.peer_state.PeerState as peers;
 ghost use Rattle.ug_world.specs.Touches.{is_about};

@@ -6,7 +6,7 @@ ghost use Rattle.ug_intern.specs.Pools.{Pooled};
 ghost use Rattle.ug_board.specs.Rules.{buffer_size};
 ghost use Rattle.ug_message.specs.Spellable.{is_address};
 ghost use Rattle.ug_queue.specs.Queues.{place_of, rest_of, IsMember, shed, past_next};
-ghost use Rattle.ug_live.specs.Spread.{value_of};
+ghost use Rattle.ug_queue.specs.Spread.{value_of};
 ghost use Rattle.ug_groups.specs.Subgroups.{IsHanded};
 ghost use Rattle.ug_groups.specs.declared.entry.Entry as entries;
 ghost use Rattle.ug_groups.specs.Rows.{with_queue, joined_row, left_row};
@@ -14,7 +14,7 @@ ghost use Rattle.ug_groups.specs.Entries.{key_of, IsDone};
 
 use crate::entry::Entry;
 use crate::handed::Handed;
-use ug_live::Live;
+use ug_queue::Live;
 use ug_types::{NoMemory, PeerEnds, PeerId};
 
 /// Takes a member in, whose cursor is at the end. Running out of memory changes nothing.

@@ -22,8 +22,8 @@ use crate::{classes, comings, desires, known, members, points, scans, states, sw
 use std::alloc::Global;
 use std::marker::Model;
 use ug_intern::Pool;
-use ug_live::Live;
 use ug_outbound::GroupKey;
+use ug_queue::Live;
 use ug_types::{Key, NoMemory, NumberList, OutAttrs, PeerEnds, PeerId, PeerList};
 
 /// The subgroups by number, none where one is gone, and the pool of what their tables hold. Each has a class beside it, so that

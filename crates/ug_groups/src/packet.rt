@@ -1,7 +1,7 @@
 //! Packets of a queue.
 
 ghost use Rattle.std.specs.Prelude.{◌≡◌, ◌≤◌, ◌++◌, length, drop, IfOk};
-ghost use Rattle.ug_rewrite.specs.Packets.{sent_to};
+ghost use Rattle.ug_message.specs.Packets.{sent_to};
 ghost use Rattle.ug_groups.specs.Packets.{says_of};
 
 use crate::saying::Saying;
@@ -10,7 +10,7 @@ use std::alloc::Global;
 use std::marker::Model;
 use std::snapshot::Snapshot;
 use std::sync::Arc;
-use ug_rewrite::patch;
+use ug_message::patch;
 use ug_types::{NoMemory, PeerEnds, Twin};
 
 /// A packet, with the number of the step that formatted it, in memory that all queues share in which it stands.
@@ -40,7 +40,7 @@ impl Packet {
     pub fn new(
         alloc: Global,
         made: u64,
-        packet: ug_rewrite::Packet,
+        packet: ug_message::Packet,
         saying: &Saying,
     ) -> Result<Packet, NoMemory>
         ensures { IfOk result (λ p. p ≡ record { made = made; says = says_of saying.now; shared = packet }) }

@@ -4,9 +4,9 @@ ghost use Rattle.std.specs.Prelude.{◌≡◌, ◌<◌, ◌≤◌, ℕ, IsSome, 
 ghost use Rattle.ug_types.specs.declared.route.OutAttrs as values;
 ghost use Rattle.ug_types.specs.Bytes.{is_empty};
 ghost use Rattle.ug_intern.specs.Pools.{Pooled, held, uses_of};
-ghost use Rattle.ug_adjout_rules.specs.Tables.{value_at, rows_after};
-ghost use Rattle.ug_adjout_rules.specs.Pending.{IsExact, nothing_out};
-ghost use Rattle.ug_adjout_rules.specs.Formatting.Due.{Nothing};
+ghost use Rattle.ug_adjout.specs.Tables.{value_at, rows_after};
+ghost use Rattle.ug_adjout.specs.Pending.{IsExact, nothing_out};
+ghost use Rattle.ug_adjout.specs.Formatting.Due.{Nothing};
 ghost use Rattle.ug_pack.specs.Ready.{key_order, IsKeyOf};
 ghost use Rattle.ug_group_rules.specs.declared.phase.Phase.TheVariants.{Quiet};
 ghost use Rattle.ug_group_rules.specs.Packets.{Says, EndOfRib, RefreshBegins, RefreshEnds, routes_due, same_group, same_out};

@@ -4,7 +4,7 @@ ghost use Rattle.std.specs.Prelude.{◌≡◌, ◌<◌, length, IsSome, IfSome, 
 ghost use Rattle.ug_types.specs.declared.route.OutAttrs as values;
 ghost use Rattle.ug_intern.specs.Pools.{Pooled};
 ghost use Rattle.ug_pack.specs.Ready.{IsKeyOf};
-ghost use Rattle.ug_live.specs.Spread.{value_of};
+ghost use Rattle.ug_queue.specs.Spread.{value_of};
 ghost use Rattle.ug_group_rules.specs.Machine.{asked, unstuck};
 ghost use Rattle.ug_groups.specs.Values.{valued_by};
 ghost use Rattle.ug_groups.specs.Holders.{IsUsed};
@@ -14,7 +14,7 @@ ghost use Rattle.ug_groups.specs.Entries.{key_of, AreKept, IsDone};
 
 use crate::entry::Entry;
 use ug_intern::{AttrId, Pool};
-use ug_live::Live;
+use ug_queue::Live;
 use ug_types::{Key, NoMemory, OutAttrs};
 
 /// Formats one packet, for each member to take.

@@ -3,8 +3,8 @@
 ghost use Rattle.std.specs.Prelude.{◌≡◌, ◌<◌, ◌≤◌, ◌^◌, ◌+◌, ℕ, IsSome, nat_eq, true, Some, None, IfSome, IfOk, OnOk, OnErr, IsOk, not, slice_get, option_copied, length};
 ghost use Rattle.ug_types.specs.declared.family.Family.TheVariants.{V4};
 ghost use Rattle.ug_types.specs.Bytes.{is_empty};
-ghost use Rattle.ug_adjout_rules.specs.Tables.{has, value_at, rows_after};
-ghost use Rattle.ug_adjout_rules.specs.Pending.{IsExact, nothing_out, with_desired, with_all_forced, with_formatted};
+ghost use Rattle.ug_adjout.specs.Tables.{has, value_at, rows_after};
+ghost use Rattle.ug_adjout.specs.Pending.{IsExact, nothing_out, with_desired, with_all_forced, with_formatted};
 ghost use Rattle.ug_intern.specs.Pools.{held, uses_of};
 ghost use Rattle.ug_pack.specs.Ready.{key_order};
 ghost use Rattle.ug_groups.specs.Values.{value_in};

@@ -5,9 +5,9 @@ ghost use Rattle.ug_types.specs.declared.key.Key as keys;
 ghost use Rattle.ug_types.specs.Keys.{weight_of};
 ghost use Rattle.ug_message.specs.Spellable.{is_address};
 ghost use Rattle.ug_intern.specs.Pools.{held, value_of, IsOneId};
-ghost use Rattle.ug_adjout_rules.specs.Tables.{value_at};
-ghost use Rattle.ug_adjout_rules.specs.Pending.{IsExact};
-ghost use Rattle.ug_adjout_rules.specs.Formatting.{withdrawals, announcements, alike, value_of_first};
+ghost use Rattle.ug_adjout.specs.Tables.{value_at};
+ghost use Rattle.ug_adjout.specs.Pending.{IsExact};
+ghost use Rattle.ug_adjout.specs.Formatting.{withdrawals, announcements, alike, value_of_first};
 ghost use Rattle.ug_pack.specs.Ready.{key_order, IsReady};
 ghost use Rattle.ug_group_rules.specs.Packets.{same_out, routes_due};
 ghost use Rattle.ug_groups.specs.Values.{AreLive, out_in};
@@ -132,7 +132,7 @@ fn know_weight(key: &Key)
 }
 
 /// The next hop of a packet is an address of its family.
-fn know_raw(packet: &ug_rewrite::Packet)
+fn know_raw(packet: &ug_message::Packet)
     ensures { is_address packet.now.raw.family packet.now.raw ≡ true }
 {
     know_address(packet.raw);

@@ -5,7 +5,7 @@ ghost use Rattle.ug_types.specs.declared.route.OutAttrs as values;
 ghost use Rattle.ug_outbound.specs.declared.key.GroupKey as groups;
 ghost use Rattle.ug_intern.specs.Pools.{Pooled};
 ghost use Rattle.ug_pack.specs.Ready.{IsKeyOf};
-ghost use Rattle.ug_live.specs.Spread.{value_of};
+ghost use Rattle.ug_queue.specs.Spread.{value_of};
 ghost use Rattle.ug_groups.specs.Values.{valued_by};
 ghost use Rattle.ug_groups.specs.Standings.{desiring};
 ghost use Rattle.ug_groups.specs.Rows.{with_row, each_row, of_key, counted_row};
@@ -16,7 +16,7 @@ use crate::classes::first_of_class;
 use crate::entry::Entry;
 use crate::points;
 use ug_intern::{AttrId, Pool};
-use ug_live::Live;
+use ug_queue::Live;
 use ug_types::{Key, NoMemory, OutAttrs};
 
 /// Another event has passed, for each.

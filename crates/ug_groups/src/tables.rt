@@ -3,8 +3,8 @@
 ghost use Rattle.std.specs.Prelude.{◌≡◌, ◌==◌, ℕ, Option, false, Some, None, IsSome, IfSome, OnOk, OnErr};
 ghost use Rattle.std.specs.Option.{option_map};
 ghost use Rattle.ug_pack.specs.Ready.{key_order, IsKeyOf};
-ghost use Rattle.ug_adjout_rules.specs.Tables.{value_at};
-ghost use Rattle.ug_live.specs.Spread.{value_of};
+ghost use Rattle.ug_adjout.specs.Tables.{value_at};
+ghost use Rattle.ug_queue.specs.Spread.{value_of};
 ghost use Rattle.ug_groups.specs.Holders.{IsCounted};
 ghost use Rattle.ug_groups.specs.Sent.{session_of};
 ghost use Rattle.ug_groups.specs.Standings.{seen, desiring};
@@ -19,7 +19,7 @@ use crate::side::Side;
 use crate::subgroup::Subgroup;
 use std::cmp::Ordering;
 use ug_intern::{AttrId, Pool};
-use ug_live::Live;
+use ug_queue::Live;
 use ug_types::{Key, NoMemory, OutAttrs};
 
 /// The key of a row.

@@ -2,8 +2,8 @@
 
 ghost use Rattle.std.specs.Prelude.{◌≡◌, ◌≤◌, ◌+◌, ℕ, nat_eq, true, length};
 ghost use Rattle.ug_intern.specs.Pools.{held, uses_of};
-ghost use Rattle.ug_adjout_rules.specs.Tables.{has};
-ghost use Rattle.ug_adjout_rules.specs.Pending.{IsExact, with_formatted, with_all_formatted};
+ghost use Rattle.ug_adjout.specs.Tables.{has};
+ghost use Rattle.ug_adjout.specs.Pending.{IsExact, with_formatted, with_all_formatted};
 ghost use Rattle.ug_pack.specs.Ready.{key_order};
 ghost use Rattle.ug_groups.specs.Holders.{IsCounted, IsMoved, HasRoom};
 ghost use Rattle.ug_groups.specs.FamilyRibs.{AreDue};

@@ -11,7 +11,7 @@ use Rattle.ug_types.specs.declared.key.Key.{Key}
 use Rattle.ug_types.specs.Keys.{same_key}
 use Rattle.ug_types.specs.Orders.{key_cmp, key_cmp_total}
 use Rattle.ug_types.specs.OrderLaws.{key_cmp-IsAntisymmetric}
-use Rattle.ug_table_rules.specs.Tables.{among}
+use Rattle.ug_message.specs.Tables.{among}
 use Rattle.ug_hearing.specs.Keyed.{IsPlaceOf, IsWithin}
 use Rattle.ug_hearing.proofs.Keys.{same_is}
 use Rattle.ug_hearing.proofs.Among.{either}

@@ -3,13 +3,13 @@ use Rattle.std.proofs.Common.{◌≡◌, ◌≢◌, ℕ, zero, suc, ◌+◌, ◌
 use Rattle.std.proofs.lemmas.Bool.Decides.{nat_tests}
 use Rattle.std.proofs.lemmas.List.{append-nil, reverse-append}
 use Rattle.std.proofs.lemmas.Bool.{cases_eq}
-use Rattle.ug_table_rules.specs.Climbing.{IsLeastPlace, ClimbsFrom}
-use Rattle.ug_climb.specs.declared.change.Change.{Change}
-use Rattle.ug_climb.specs.declared.change.Standing.{Standing}
-use Rattle.ug_climb.specs.Pasts.{Value, value_before, Climbs}
-use Rattle.ug_climb.specs.Shifts.{Shift, shift_where, shifts_from, last_place}
-use Rattle.ug_climb.proofs.GoingOn.{further, stuck, shifts-further}
-use Rattle.ug_climb.proofs.Searched.{stays}
+use Rattle.ug_message.specs.Climbing.{IsLeastPlace, ClimbsFrom}
+use Rattle.ug_hearing.specs.declared.change.Change.{Change}
+use Rattle.ug_hearing.specs.declared.change.Standing.{Standing}
+use Rattle.ug_hearing.specs.Pasts.{Value, value_before, Climbs}
+use Rattle.ug_hearing.specs.Shifts.{Shift, shift_where, shifts_from, last_place}
+use Rattle.ug_hearing.proofs.GoingOn.{further, stuck, shifts-further}
+use Rattle.ug_hearing.proofs.Searched.{stays}
 use Rattle.ug_hearing.specs.declared.row.Row.{Row}
 use Rattle.ug_hearing.specs.declared.row.Moved.{Moved}
 use Rattle.ug_hearing.specs.Rows.{IsChain, last_value, IsRow, IsNoted}

@@ -7,7 +7,7 @@ use Rattle.std.proofs.lemmas.List.Folds.{list_any-append}
 use Rattle.ug_types.specs.declared.key.Key.{Key}
 use Rattle.ug_types.specs.Keys.{same_key}
 use Rattle.ug_types.specs.Orders.{key_cmp}
-use Rattle.ug_table_rules.specs.Tables.{among}
+use Rattle.ug_message.specs.Tables.{among}
 use Rattle.ug_hearing.specs.Keyed.{value_for, held_of, HasNoneOf}
 use Rattle.ug_hearing.proofs.Among.{same-self, same-sym, neither, or-first, or-second}
 use Rattle.ug_hearing.proofs.Listed.{among-there}

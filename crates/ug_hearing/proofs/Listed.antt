@@ -10,8 +10,8 @@ use Rattle.std.specs.Ordering.{ordering_reverse}
 use Rattle.ug_types.specs.declared.key.Key.{Key}
 use Rattle.ug_types.specs.Keys.{same_key}
 use Rattle.ug_types.specs.Orders.{key_cmp, key_cmp_total}
-use Rattle.ug_table_rules.specs.Tables.{among}
-use Rattle.ug_climb.specs.declared.change.Change.{Change}
+use Rattle.ug_message.specs.Tables.{among}
+use Rattle.ug_hearing.specs.declared.change.Change.{Change}
 use Rattle.ug_hearing.specs.declared.row.Row.{Row}
 use Rattle.ug_hearing.specs.Courses.{changes_of}
 use Rattle.ug_hearing.specs.Heard.{is_stale_row, is_stale_in}

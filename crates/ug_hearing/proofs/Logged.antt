@@ -4,12 +4,12 @@ use Rattle.std.proofs.lemmas.Bool.{cases_lt}
 use Rattle.std.proofs.lemmas.List.{map-append, length-map}
 use Rattle.ug_types.specs.declared.key.Key.{Key}
 use Rattle.ug_types.specs.Keys.{same_key}
-use Rattle.ug_table_rules.specs.Tables.{Table, among}
+use Rattle.ug_message.specs.Tables.{Table, among}
 use Rattle.ug_hearing.proofs.Keys.{same_is}
 use Rattle.ug_hearing.proofs.Among.{same-sym, either, neither, among-last}
-use Rattle.ug_table_rules.specs.Climbing.{values_at}
-use Rattle.ug_climb.specs.declared.change.Change.{Change}
-use Rattle.ug_climb.specs.Pasts.{Value, value_of, value_before, IsToldBy}
+use Rattle.ug_message.specs.Climbing.{values_at}
+use Rattle.ug_hearing.specs.declared.change.Change.{Change}
+use Rattle.ug_hearing.specs.Pasts.{Value, value_of, value_before, IsToldBy}
 use Rattle.ug_hearing.specs.Keyed.{items_or_none}
 use Rattle.ug_hearing.specs.Courses.{changes_of}
 use Rattle.ug_hearing.specs.Logs.{IsLog, AddsChange, IsNoted}

@@ -1,7 +1,7 @@
 -- A part of a list, and the least places in it.
 use Rattle.std.proofs.Common.{◌≡◌, ◌≢◌, ℕ, zero, suc, ◌+◌, ◌-◌, ◌<◌, ◌≤◌, inl, inr, List, [], ◌∷◌, take, drop, slice_get, Some, refl, sym, ◌∙◌, ap, arith}
 use Rattle.std.proofs.lemmas.Bool.{cases_lt}
-use Rattle.ug_table_rules.specs.Climbing.{IsLeastPlace}
+use Rattle.ug_message.specs.Climbing.{IsLeastPlace}
 
 get-take : {V : Type 0} (xs : List V) (n p : ℕ) → p < n → slice_get (take n xs) p ≡ slice_get xs p
 get-take [] zero p less = refl

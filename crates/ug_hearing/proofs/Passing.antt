@@ -3,9 +3,9 @@ use Rattle.std.proofs.Common.{◌≡◌, ℕ, suc, ◌⊎◌, inl, inr, Bool, tr
 use Rattle.std.specs.Prelude.{◌||◌, is_some, unwrap_or}
 use Rattle.ug_types.specs.declared.key.Key.{Key}
 use Rattle.ug_types.specs.Keys.{same_key}
-use Rattle.ug_table_rules.specs.Tables.{Table, among}
-use Rattle.ug_climb.specs.declared.change.Change.{Change}
-use Rattle.ug_climb.specs.Pasts.{Value}
+use Rattle.ug_message.specs.Tables.{Table, among}
+use Rattle.ug_hearing.specs.declared.change.Change.{Change}
+use Rattle.ug_hearing.specs.Pasts.{Value}
 use Rattle.ug_hearing.specs.declared.row.Row.{Row}
 use Rattle.ug_hearing.specs.declared.standings.Standings.{Standings}
 use Rattle.ug_hearing.specs.Keyed.{value_for}

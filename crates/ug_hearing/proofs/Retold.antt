@@ -1,8 +1,8 @@
 -- A pass over keys that are told in another way.
 use Rattle.std.proofs.Common.{◌≡◌, ℕ, List, subst}
 use Rattle.ug_types.specs.declared.key.Key.{Key}
-use Rattle.ug_climb.specs.declared.change.Change.{Change}
-use Rattle.ug_climb.specs.Pasts.{Value}
+use Rattle.ug_hearing.specs.declared.change.Change.{Change}
+use Rattle.ug_hearing.specs.Pasts.{Value}
 use Rattle.ug_hearing.specs.declared.standings.Standings.{Standings}
 use Rattle.ug_hearing.specs.Passes.{ArePassed}
 

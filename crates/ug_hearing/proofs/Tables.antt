@@ -3,9 +3,9 @@ use Rattle.std.proofs.Common.{◌≡◌, List, [], ◌∷◌, ◌++◌, length, 
 use Rattle.std.proofs.lemmas.List.{map-append, length-map}
 use Rattle.ug_types.specs.declared.key.Key.{Key}
 use Rattle.ug_types.specs.Messages.{Message}
-use Rattle.ug_table_rules.specs.Tables.{Table, Reading, nothing_read, applied, reading_from, tables_from, tables_after}
-use Rattle.ug_table_rules.specs.Climbing.{values_at}
-use Rattle.ug_climb.specs.Pasts.{Value}
+use Rattle.ug_message.specs.Tables.{Table, Reading, nothing_read, applied, reading_from, tables_from, tables_after}
+use Rattle.ug_message.specs.Climbing.{values_at}
+use Rattle.ug_hearing.specs.Pasts.{Value}
 use Rattle.ug_hearing.specs.Rows.{last_value}
 
 pub reading-last : (r : Reading) (ms : List Message) (m : Message) → reading_from r (ms ++ m ∷ []) ≡ applied (reading_from r ms) m

@@ -6,13 +6,13 @@ use Rattle.std.proofs.lemmas.Bool.Decides.{nat_tests}
 use Rattle.std.proofs.lemmas.List.Folds.{list_any-append}
 use Rattle.ug_types.specs.declared.key.Key.{Key}
 use Rattle.ug_types.specs.Messages.{Changes, Message, Updates, Begins, Ends, Ignored}
-use Rattle.ug_table_rules.specs.Tables.{Table, Reading, among, applied, tables_after}
-use Rattle.ug_table_rules.specs.Climbing.{values_at}
-use Rattle.ug_climb.specs.declared.change.Change.{Change}
-use Rattle.ug_climb.specs.Pasts.{Value, value_before}
-use Rattle.ug_climb.proofs.Searched.{told-here}
-use Rattle.ug_table_rules.specs.ClimbingLaws.{ClimbsFrom-places}
-use Rattle.ug_session_rules.specs.Certificates.{names}
+use Rattle.ug_message.specs.Tables.{Table, Reading, among, applied, tables_after}
+use Rattle.ug_message.specs.Climbing.{values_at}
+use Rattle.ug_hearing.specs.declared.change.Change.{Change}
+use Rattle.ug_hearing.specs.Pasts.{Value, value_before}
+use Rattle.ug_hearing.proofs.Searched.{told-here}
+use Rattle.ug_message.specs.ClimbingLaws.{ClimbsFrom-places}
+use Rattle.ug_hearing.specs.Certificates.{names}
 use Rattle.ug_hearing.specs.declared.row.Row.{Row}
 use Rattle.ug_hearing.specs.declared.row.Moved.{Moved}
 use Rattle.ug_hearing.specs.declared.standings.Standings.{Standings}

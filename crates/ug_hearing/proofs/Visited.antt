@@ -6,13 +6,13 @@ use Rattle.std.proofs.lemmas.Bool.Decides.{nat_tests}
 use Rattle.std.proofs.lemmas.List.{append-nil}
 use Rattle.ug_types.specs.declared.key.Key.{Key}
 use Rattle.ug_types.specs.Keys.{same_key}
-use Rattle.ug_table_rules.specs.Tables.{Table}
-use Rattle.ug_table_rules.specs.Climbing.{values_at}
-use Rattle.ug_climb.specs.declared.change.Change.{Change}
-use Rattle.ug_climb.specs.declared.change.Standing.{Standing}
-use Rattle.ug_climb.specs.Pasts.{Value, value_before, StandsIn, Climbs}
-use Rattle.ug_climb.specs.Shifts.{shifts_from}
-use Rattle.ug_climb.proofs.Searched.{told-here}
+use Rattle.ug_message.specs.Tables.{Table}
+use Rattle.ug_message.specs.Climbing.{values_at}
+use Rattle.ug_hearing.specs.declared.change.Change.{Change}
+use Rattle.ug_hearing.specs.declared.change.Standing.{Standing}
+use Rattle.ug_hearing.specs.Pasts.{Value, value_before, StandsIn, Climbs}
+use Rattle.ug_hearing.specs.Shifts.{shifts_from}
+use Rattle.ug_hearing.proofs.Searched.{told-here}
 use Rattle.ug_hearing.specs.declared.row.Row.{Row}
 use Rattle.ug_hearing.specs.declared.row.Moved.{Moved}
 use Rattle.ug_hearing.specs.declared.standings.Standings.{Standings}

@@ -1,11 +1,11 @@
 -- What a session has to follow, told by changes.
 use Rattle.std.specs.Prelude.{◌≡◌, ℕ, suc, ◌-◌, ◌<◌, ◌≤◌, nat_lt, List, [], ◌∷◌, length, take, drop, slice_get, Some, None, if◌then◌else◌}
 use Rattle.ug_types.specs.declared.key.Key.{Key}
-use Rattle.ug_table_rules.specs.Tables.{Table}
-use Rattle.ug_table_rules.specs.Climbing.{values_at}
-use Rattle.ug_climb.specs.declared.change.Change.{Change}
-use Rattle.ug_climb.specs.declared.change.Standing.{Standing}
-use Rattle.ug_climb.specs.Pasts.{Value, value_before, IsToldBy}
+use Rattle.ug_message.specs.Tables.{Table}
+use Rattle.ug_message.specs.Climbing.{values_at}
+use Rattle.ug_hearing.specs.declared.change.Change.{Change}
+use Rattle.ug_hearing.specs.declared.change.Standing.{Standing}
+use Rattle.ug_hearing.specs.Pasts.{Value, value_before, IsToldBy}
 use Rattle.ug_hearing.specs.Keyed.{list_for}
 
 -- the changes of a key

@@ -3,7 +3,7 @@ use Rattle.std.specs.Prelude.{◌≡◌, ◌<◌, ◌≤◌, ℕ, true, List, []
 use Rattle.std.specs.Map.{lookup}
 use Rattle.ug_types.specs.declared.key.Key.{Key}
 use Rattle.ug_types.specs.Keys.{same_key}
-use Rattle.ug_table_rules.specs.Tables.{among}
+use Rattle.ug_message.specs.Tables.{among}
 
 -- the value of a key, where it has one
 abbrev pub value_for : {V : Type 0} → List (Key × V) → Key → Option V

@@ -6,3 +6,16 @@ pub mod Visits
 pub mod Passes
 pub mod Heard
 pub mod Logs
+pub mod Pasts
+pub mod Searching
+pub mod Shifts
+pub mod Breaches
+pub mod Certificates
+pub mod Least
+pub mod Differences
+pub mod Marked
+pub mod Watched
+pub mod Naming
+pub mod Judged
+pub mod Ended
+pub mod Climbed

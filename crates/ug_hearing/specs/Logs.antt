@@ -3,10 +3,10 @@ use Rattle.std.specs.Prelude.{◌≡◌, ℕ, ◌⊎◌, false, List, [], ◌∷
 use Rattle.ug_types.specs.declared.key.Key.{Key}
 use Rattle.ug_types.specs.Keys.{same_key}
 use Rattle.ug_types.specs.Attributes.{Attributes}
-use Rattle.ug_table_rules.specs.Tables.{Table, among}
-use Rattle.ug_table_rules.specs.Climbing.{values_at}
-use Rattle.ug_climb.specs.declared.change.Change.{Change}
-use Rattle.ug_climb.specs.Pasts.{Value, value_before, IsToldBy}
+use Rattle.ug_message.specs.Tables.{Table, among}
+use Rattle.ug_message.specs.Climbing.{values_at}
+use Rattle.ug_hearing.specs.declared.change.Change.{Change}
+use Rattle.ug_hearing.specs.Pasts.{Value, value_before, IsToldBy}
 use Rattle.ug_hearing.specs.Keyed.{value_for}
 use Rattle.ug_hearing.specs.Courses.{changes_of}
 

@@ -1,10 +1,10 @@
 -- What a message does to the rows of the keys that it names.
 use Rattle.std.specs.Prelude.{◌≡◌, ℕ, suc, ◌⊎◌, Bool, true, false, ◌||◌, List, [], ◌∷◌, ◌++◌, length, is_some}
 use Rattle.ug_types.specs.declared.key.Key.{Key}
-use Rattle.ug_table_rules.specs.Tables.{Table, among}
-use Rattle.ug_table_rules.specs.Climbing.{ClimbsFrom, values_at}
-use Rattle.ug_climb.specs.declared.change.Change.{Change}
-use Rattle.ug_climb.specs.Pasts.{Value}
+use Rattle.ug_message.specs.Tables.{Table, among}
+use Rattle.ug_message.specs.Climbing.{ClimbsFrom, values_at}
+use Rattle.ug_hearing.specs.declared.change.Change.{Change}
+use Rattle.ug_hearing.specs.Pasts.{Value}
 use Rattle.ug_hearing.specs.declared.standings.Standings.{Standings}
 use Rattle.ug_hearing.specs.Keyed.{value_for}
 use Rattle.ug_hearing.specs.Courses.{changes_of, IsCourse}

@@ -1,10 +1,10 @@
 -- How a key stands in a session.
 use Rattle.std.specs.Prelude.{◌≡◌, ℕ, suc, ◌+◌, ◌-◌, ◌<◌, ◌≤◌, Bool, true, false, List, [], ◌∷◌, ◌++◌, length, reverse, slice_get, Some, None, unwrap_or}
 use Rattle.ug_types.specs.declared.key.Key.{Key}
-use Rattle.ug_table_rules.specs.Climbing.{ClimbsTo}
-use Rattle.ug_climb.specs.declared.change.Change.{Change}
-use Rattle.ug_climb.specs.Pasts.{Value, value_before, StandsIn}
-use Rattle.ug_climb.specs.Shifts.{Shift, shifts_from, last_place}
+use Rattle.ug_message.specs.Climbing.{ClimbsTo}
+use Rattle.ug_hearing.specs.declared.change.Change.{Change}
+use Rattle.ug_hearing.specs.Pasts.{Value, value_before, StandsIn}
+use Rattle.ug_hearing.specs.Shifts.{Shift, shifts_from, last_place}
 use Rattle.ug_hearing.specs.declared.row.Row.{Row}
 use Rattle.ug_hearing.specs.declared.row.Moved.{Moved}
 use Rattle.ug_hearing.specs.Keyed.{value_for}

@@ -5,8 +5,8 @@ ghost use Rattle.std.specs.Map.{keys_of};
 ghost use Rattle.ug_hearing.specs.Keyed.{value_for, IsPlaceOf};
 ghost use Rattle.ug_hearing.specs.Courses.{changes_of, passed, start_of};
 
+use crate::change::{Change, Standing};
 use crate::key_lists::KeyLists;
-use ug_climb::{Change, Standing};
 use ug_types::Key;
 
 /// What a peer's private table was, version by version: for each key that ever had a route the changes of its value, whose

@@ -2,7 +2,7 @@
 
 ghost use Rattle.std.specs.Prelude.{◌≡◌, suc, List, IfOk, OnOk, [], ◌∷◌, ◌++◌, length};
 ghost use Rattle.ug_types.specs.Messages.{Message, message_of, changes_of, Updates, Begins, Ends};
-ghost use Rattle.ug_table_rules.specs.Tables.{Table};
+ghost use Rattle.ug_message.specs.Tables.{Table};
 ghost use Rattle.ug_hearing.specs.Courses.{IsCourse};
 ghost use Rattle.ug_hearing.specs.Heard.{IsHeard, IsTaken, KeepsOthers};
 

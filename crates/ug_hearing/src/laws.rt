@@ -2,9 +2,9 @@
 
 ghost use Rattle.std.specs.Prelude.{◌≡◌, ◌++◌, ◌∷◌, [], List, None, length};
 ghost use Rattle.ug_types.specs.declared.key.Key as keys;
-ghost use Rattle.ug_table_rules.specs.Tables.{Table};
-ghost use Rattle.ug_table_rules.specs.Climbing.{values_at};
-ghost use Rattle.ug_climb.specs.Pasts.{value_before, IsToldBy};
+ghost use Rattle.ug_message.specs.Tables.{Table};
+ghost use Rattle.ug_message.specs.Climbing.{values_at};
+ghost use Rattle.ug_hearing.specs.Pasts.{value_before, IsToldBy};
 ghost use Rattle.ug_hearing.specs.Courses.{changes_of};
 ghost use Rattle.ug_hearing.specs.Logs.{AddsChange};
 

@@ -3,9 +3,10 @@
 ghost use Rattle.std.specs.Prelude.{◌≡◌, [], length, option_copied, OnOk, IfOk};
 ghost use Rattle.ug_hearing.specs.Logs.{IsNoted, AreNoted};
 
+use crate::change::Change;
+use crate::climbing::{is_same, value_at};
 use crate::list_map::ListMap;
 use std::alloc::Global;
-use ug_climb::{Change, is_same, value_at};
 use ug_types::{Attrs, Key, NoMemory, Shared};
 
 /// The changes of a table's values, key by key.

@@ -2,7 +2,7 @@
 
 ghost use Rattle.std.specs.Prelude.{◌≡◌, ◌&&◌, not, is_some, IfOk};
 ghost use Rattle.ug_types.specs.declared.key.Key as routes;
-ghost use Rattle.ug_table_rules.specs.Tables.{among};
+ghost use Rattle.ug_message.specs.Tables.{among};
 ghost use Rattle.ug_hearing.specs.Keyed.{value_for};
 
 use crate::key_map::KeyMap;

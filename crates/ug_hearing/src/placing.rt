@@ -3,7 +3,7 @@
 ghost use Rattle.std.specs.Prelude.{◌≡◌, ◌<◌, ◌≤◌, length, false, IfSome, IfNone};
 ghost use Rattle.std.specs.List.Sorted.{IsStrictlySortedBy};
 ghost use Rattle.ug_types.specs.Orders.{key_cmp};
-ghost use Rattle.ug_table_rules.specs.Tables.{among};
+ghost use Rattle.ug_message.specs.Tables.{among};
 ghost use Rattle.ug_hearing.specs.Keyed.{IsPlaceOf, IsWithin};
 
 use std::cmp::Ordering;

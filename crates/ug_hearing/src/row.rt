@@ -1,4 +1,4 @@
-use ug_climb::Standing;
+use crate::change::Standing;
 
 /// How a key stands in a session: its climb, the last of its moves, counted from 1 among those of all keys, or 0, and how
 /// many refreshes had begun when it was named last.

@@ -6,7 +6,7 @@ ghost use Rattle.std.specs.Map.{keys_of};
 ghost use Rattle.ug_types.specs.declared.key.Key as routes;
 ghost use Rattle.ug_types.specs.Keys.{same_key};
 ghost use Rattle.ug_types.specs.Orders.{key_cmp};
-ghost use Rattle.ug_table_rules.specs.Tables.{among};
+ghost use Rattle.ug_message.specs.Tables.{among};
 ghost use Rattle.ug_hearing.specs.Keyed.{value_for};
 
 use crate::key_lists::KeyLists;

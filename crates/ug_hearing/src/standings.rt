@@ -1,20 +1,21 @@
 //! How the keys stand.
 
 ghost use Rattle.std.specs.Prelude.{◌≡◌, ◌<◌, ◌==◌, ◌&&◌, ℕ, List, [], IfOk, OnOk, IfSome, IfNone, option_copied};
-ghost use Rattle.ug_climb.specs.Pasts.{Value, StandsIn, Climbs};
+ghost use Rattle.ug_hearing.specs.Pasts.{Value, StandsIn, Climbs};
 ghost use Rattle.ug_hearing.specs.Rows.{row_for, IsNoted};
 ghost use Rattle.ug_hearing.specs.Courses.{changes_of};
 ghost use Rattle.ug_hearing.specs.Visits.{IsVisit, NeverBelow};
 ghost use Rattle.ug_types.specs.declared.key.Key as routes;
-ghost use Rattle.ug_table_rules.specs.Tables.{among};
+ghost use Rattle.ug_message.specs.Tables.{among};
 ghost use Rattle.ug_hearing.specs.Passes.{ArePassed};
 ghost use Rattle.ug_hearing.specs.Heard.{is_stale_in};
 
+use crate::change::{Change, Standing};
+use crate::climbing::{climb, value_at};
 use crate::course::{Course, start};
 use crate::row::{Moved, Row};
 use crate::rows::Rows;
 use std::alloc::Global;
-use ug_climb::{Change, Standing, climb, value_at};
 use ug_types::{Attrs, Key, NoMemory};
 
 /// The rows of the keys that were named, their moves in order, and how many refreshes have begun. Beside that the place

@@ -14,11 +14,11 @@ use Rattle.ug_outbound.specs.declared.peer.Peer.{Peer}
 use Rattle.ug_outbound.specs.Outbound.{number_of_address}
 use Rattle.ug_message.specs.Spellable.{is_number, is_address, where_there}
 use Rattle.ug_world.specs.Good.{is_rule_in_range, is_map_in_range, is_peer_in_range}
-use Rattle.ug_fields.specs.Rows.{FieldRow}
-use Rattle.ug_fields.specs.Reads.{◌>>=◌, refused, malformed}
-use Rattle.ug_fields.specs.Kinds.{family_at, tables_at}
-use Rattle.ug_fields.specs.Tables.{document, fields}
-use Rattle.ug_fields.specs.Looks.{value_at, as_address}
+use Rattle.ug_config.specs.FieldRows.{FieldRow}
+use Rattle.ug_config.specs.Reads.{◌>>=◌, refused, malformed}
+use Rattle.ug_config.specs.Kinds.{family_at, tables_at}
+use Rattle.ug_config.specs.Tables.{document, fields}
+use Rattle.ug_config.specs.Looks.{value_at, as_address}
 use Rattle.ug_config.specs.Rows.{document_rows, local_rows, map_entry_rows, peer_rows}
 use Rattle.ug_config.specs.Readings.{Tables, local_table, local, local_of, lists, maps, policies, peers, tables, named, rule, rule_of, where_ahead, peer, peer_of, own_name}
 use Rattle.ug_config.specs.Checks.{checked, fault, where_none, setup}
@@ -26,7 +26,7 @@ use Rattle.ug_config.proofs.Inverting.{ok, ok_is, bound, both, second_of, all_re
 use Rattle.ug_config.proofs.Fitting.{row_named}
 use Rattle.ug_config.proofs.Sound.{entries_good}
 use Rattle.ug_input_laws.proofs.Found.{found, required_number, required_ipv4, required_address, address_or, optional_ipv4, optional_number, optional_origin, optional_numbers, optional_communities}
-use Rattle.ug_fields.specs.Reads.{Refusal}
+use Rattle.ug_config.specs.Reads.{Refusal}
 
 -- ---- the speaker's own settings
 

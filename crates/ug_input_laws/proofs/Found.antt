@@ -13,15 +13,15 @@ use Rattle.ug_text.specs.Numbers.{community}
 use Rattle.ug_text.specs.Addresses.{address_in}
 use Rattle.ug_text.specs.Paths.{origin}
 use Rattle.ug_message.specs.Spellable.{is_number, is_address, where_there}
-use Rattle.ug_fields.specs.declared.kind.Kind.TheVariants as kinds
-use Rattle.ug_fields.specs.declared.kind.Need.TheVariants as needs
-use Rattle.ug_fields.specs.declared.given.Given.{Given}
-use Rattle.ug_fields.specs.declared.given.Given.TheVariants as givens
-use Rattle.ug_fields.specs.Rows.{FieldRow}
-use Rattle.ug_fields.specs.Reads.{◌>>=◌, each_read, or_refused, missing, malformed}
-use Rattle.ug_fields.specs.Kinds.{natural, between, number_in, elements, each, community_in, value_as}
-use Rattle.ug_fields.specs.Tables.{Entry, default_of, given, entry, fields, unknown, where_known}
-use Rattle.ug_fields.specs.Looks.{value_at, as_number, as_octet, as_address, as_numbers}
+use Rattle.ug_config.specs.declared.kind.Kind.TheVariants as kinds
+use Rattle.ug_config.specs.declared.kind.Need.TheVariants as needs
+use Rattle.ug_config.specs.declared.given.Given.{Given}
+use Rattle.ug_config.specs.declared.given.Given.TheVariants as givens
+use Rattle.ug_config.specs.FieldRows.{FieldRow}
+use Rattle.ug_config.specs.Reads.{◌>>=◌, each_read, or_refused, missing, malformed}
+use Rattle.ug_config.specs.Kinds.{natural, between, number_in, elements, each, community_in, value_as}
+use Rattle.ug_config.specs.Tables.{Entry, default_of, given, entry, fields, unknown, where_known}
+use Rattle.ug_config.specs.Looks.{value_at, as_number, as_octet, as_address, as_numbers}
 use Rattle.ug_config.proofs.Inverting.{ok, ok_is, some_is, bound, bound_option, both}
 use Rattle.ug_config.proofs.Fitting.{row_named}
 use Rattle.ug_events.proofs.Values.{number_fits, community_fits, address_fits}

@@ -19,3 +19,4 @@ pub mod Spelled
 pub mod Sent
 pub mod Fitting
 pub mod Segments
+pub mod Spliced

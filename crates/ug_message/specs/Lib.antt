@@ -15,3 +15,9 @@ pub mod Reading
 pub mod Received
 pub mod Heads
 pub mod Lengths
+pub mod NextHops
+pub mod Packets
+pub mod Tables
+pub mod Climbing
+pub mod ClimbingLaws
+pub mod Decisions

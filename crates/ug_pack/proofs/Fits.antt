@@ -16,8 +16,8 @@ use Rattle.ug_message.proofs.AttributeParts.{length_attributes, but_next_hop_are
 use Rattle.std.proofs.Common.{length-append}
 use Rattle.ug_message.specs.Spelling.{before_next_hop, after_next_hop}
 use Rattle.ug_update.specs.Updates.{AreAlike, have_identifiers, lack_identifiers, weight_of_all}
-use Rattle.ug_adjout_rules.specs.Formatting.{fitting}
-use Rattle.ug_adjout_rules.specs.FormattingLaws.{fitting-longest}
+use Rattle.ug_adjout.specs.Formatting.{fitting}
+use Rattle.ug_adjout.specs.FormattingLaws.{fitting-longest}
 use Rattle.ug_pack.specs.Rooms.{withdrawal_bytes, announcement_bytes, room, room_beside, IsShort}
 use Rattle.ug_pack.specs.Ready.{IsKeyOf}
 

@@ -8,7 +8,7 @@ use Rattle.ug_types.specs.Ip.{IpAddress, same_family, cleared, width_of}
 use Rattle.ug_message.specs.Spelling.{four_bytes, sixteen_bytes}
 use Rattle.ug_message.specs.Spellable.{is_address}
 use Rattle.ug_message.proofs.Formed.{both, family_is}
-use Rattle.ug_rewrite.specs.Packets.{address_size, with_address}
+use Rattle.ug_message.specs.Packets.{address_size, with_address}
 
 address_of : (f : Family) (hop : IpAddress) → is_address f hop ≡ true → hop.family ≡ f
 address_of f hop e =

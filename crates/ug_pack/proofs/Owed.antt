@@ -9,11 +9,11 @@ use Rattle.std.specs.declared.cmp.Ordering.{Ordering}
 use Rattle.std.proofs.lemmas.Bool.Decides.{nat_tests}
 use Rattle.ug_types.specs.Orders.{key_cmp_total, key_cmp}
 use Rattle.ug_types.specs.declared.key.Key.{Key}
-use Rattle.ug_adjout_rules.specs.Tables.{has, value_at}
-use Rattle.ug_adjout_rules.specs.TableLaws.{all_from_has, has_from_all, at_itself}
-use Rattle.ug_adjout_rules.specs.Pending.{AdjRibOut}
-use Rattle.ug_adjout_rules.specs.Formatting.{Due, fitting, withdrawals, announcements, of_first_value, value_of_first, alike, announced_next, withdrawn_next, due}
-use Rattle.ug_adjout_rules.specs.Formatting.Due.{Nothing, Withdraws, Announces}
+use Rattle.ug_adjout.specs.Tables.{has, value_at}
+use Rattle.ug_adjout.specs.TableLaws.{all_from_has, has_from_all, at_itself}
+use Rattle.ug_adjout.specs.Pending.{AdjRibOut}
+use Rattle.ug_adjout.specs.Formatting.{Due, fitting, withdrawals, announcements, of_first_value, value_of_first, alike, announced_next, withdrawn_next, due}
+use Rattle.ug_adjout.specs.Formatting.Due.{Nothing, Withdraws, Announces}
 use Rattle.ug_pack.proofs.Fits.{all_kept}
 
 itself : (o : Option ℕ) → option_eq nat_eq o o ≡ true

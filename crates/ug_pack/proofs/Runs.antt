@@ -6,7 +6,7 @@ use Rattle.ug_types.specs.declared.key.Key.{Key}
 use Rattle.ug_types.specs.Keys.{weight_of}
 use Rattle.ug_message.specs.Spellable.{are_of_family}
 use Rattle.ug_update.specs.Updates.{AreAlike, weight_of_all}
-use Rattle.ug_adjout_rules.specs.Formatting.{fitting}
+use Rattle.ug_adjout.specs.Formatting.{fitting}
 use Rattle.ug_pack.specs.Ready.{IsKeyOf}
 use Rattle.ug_pack.proofs.Fits.{some_fit, sum_fits, all_fit, of_family, are_alike}
 

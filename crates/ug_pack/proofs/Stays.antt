@@ -7,9 +7,9 @@ use Rattle.std.proofs.lemmas.Bool.{or_cases}
 use Rattle.ug_types.specs.declared.family.Family.{Family}
 use Rattle.ug_types.specs.declared.key.Key.{Key}
 use Rattle.ug_types.specs.declared.route.OutAttrs.{OutAttrs}
-use Rattle.ug_adjout_rules.specs.Tables.{has, value_at, with_value, IsTable}
-use Rattle.ug_adjout_rules.specs.TableLaws.{has-append, has-filter, one_key, value_at-here, value_at-other}
-use Rattle.ug_adjout_rules.specs.Pending.{AdjRibOut, requeue, with_desired, with_formatted}
+use Rattle.ug_adjout.specs.Tables.{has, value_at, with_value, IsTable}
+use Rattle.ug_adjout.specs.TableLaws.{has-append, has-filter, one_key, value_at-here, value_at-other}
+use Rattle.ug_adjout.specs.Pending.{AdjRibOut, requeue, with_desired, with_formatted}
 use Rattle.ug_intern.specs.Pools.{Pooled, held}
 use Rattle.ug_pack.specs.Ready.{key_order, IsKeyOf, IsLive, IsReady}
 use Rattle.ug_pack.proofs.Keys.{key_total, key_exact}

@@ -13,10 +13,10 @@ use Rattle.ug_types.specs.Sessions.{message_limit}
 use Rattle.ug_message.specs.Spellable.{is_address}
 use Rattle.ug_message.specs.Texts.{written}
 use Rattle.ug_update.specs.Updates.{IsSessionOf, withdrawing, announcing}
-use Rattle.ug_rewrite.specs.Packets.{Shared, address_size, with_address}
-use Rattle.ug_adjout_rules.specs.Formatting.{Due, due}
-use Rattle.ug_adjout_rules.specs.Formatting.Due.{Nothing, Withdraws, Announces}
-use Rattle.ug_adjout_rules.specs.Pending.{AdjRibOut}
+use Rattle.ug_message.specs.Packets.{Shared, address_size, with_address}
+use Rattle.ug_adjout.specs.Formatting.{Due, due}
+use Rattle.ug_adjout.specs.Formatting.Due.{Nothing, Withdraws, Announces}
+use Rattle.ug_adjout.specs.Pending.{AdjRibOut}
 use Rattle.ug_intern.specs.Pools.{Held, Pooled, held, value_of}
 use Rattle.ug_pack.specs.declared.built.Built.{Built}
 use Rattle.ug_pack.specs.Rooms.{room, room_beside}

@@ -7,8 +7,8 @@ use Rattle.ug_types.specs.declared.route.OutAttrs.{OutAttrs}
 use Rattle.ug_types.specs.contracts.key.KeyOrd.TheImpl as key_ord
 use Rattle.ug_types.specs.Attributes.{Attributes}
 use Rattle.ug_message.specs.Spellable.{has_ipv4_addresses}
-use Rattle.ug_adjout_rules.specs.Tables.{has, value_at}
-use Rattle.ug_adjout_rules.specs.Pending.{AdjRibOut}
+use Rattle.ug_adjout.specs.Tables.{has, value_at}
+use Rattle.ug_adjout.specs.Pending.{AdjRibOut}
 use Rattle.ug_intern.specs.Pools.{Held, Pooled, held}
 use Rattle.ug_pack.specs.Rooms.{IsShort}
 

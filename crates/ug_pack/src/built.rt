@@ -1,4 +1,4 @@
-use ug_rewrite::Packet;
+use ug_message::Packet;
 use ug_types::{Key, KeyList};
 
 /// A packet, and the keys of which it tells.

@@ -4,8 +4,8 @@ ghost use Rattle.std.specs.Prelude.{◌≡◌, ℕ, nat_eq, Bool, true, Option, 
 ghost use Rattle.ug_types.specs.declared.family.Family as families;
 ghost use Rattle.ug_types.specs.declared.key.Key as keys;
 ghost use Rattle.ug_types.specs.declared.route.OutAttrs as values;
-ghost use Rattle.ug_adjout_rules.specs.Tables.{has, IsTable};
-ghost use Rattle.ug_adjout_rules.specs.Pending.{AdjRibOut, with_desired, with_formatted};
+ghost use Rattle.ug_adjout.specs.Tables.{has, IsTable};
+ghost use Rattle.ug_adjout.specs.Pending.{AdjRibOut, with_desired, with_formatted};
 ghost use Rattle.ug_intern.specs.Pools.{Pooled, held};
 ghost use Rattle.ug_pack.specs.Ready.{key_order, IsKeyOf, IsLive, IsReady};
 

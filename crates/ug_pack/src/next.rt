@@ -2,8 +2,8 @@ ghost use Rattle.std.specs.Prelude.{◌≡◌, ◌≤◌, ◌<◌, Bool, nat_eq,
 ghost use Rattle.ug_types.specs.declared.family.Family as families;
 ghost use Rattle.ug_types.specs.declared.key.Key as keys;
 ghost use Rattle.ug_types.specs.Keys.{weight_of};
-ghost use Rattle.ug_adjout_rules.specs.Tables.{has};
-ghost use Rattle.ug_adjout_rules.specs.Formatting.{fitting, withdrawals, alike};
+ghost use Rattle.ug_adjout.specs.Tables.{has};
+ghost use Rattle.ug_adjout.specs.Formatting.{fitting, withdrawals, alike};
 ghost use Rattle.ug_pack.specs.Rooms.{room, room_beside};
 ghost use Rattle.ug_pack.specs.Ready.{key_order, IsKeyOf, IsReady, IsSendable};
 ghost use Rattle.ug_pack.specs.Packets.{IsWithdrawal, IsAnnouncement, next_due, IsBuilt};
@@ -15,7 +15,7 @@ use crate::texts::{announcement, withdrawal};
 use crate::whole::plain;
 use std::alloc::Global;
 use ug_intern::Pool;
-use ug_rewrite::Packet;
+use ug_message::Packet;
 use ug_types::{Family, Key, NoMemory, OutAttrs};
 
 /// The packet that is owed next, in messages of so many bytes, and its keys; None exactly where nothing is pending.

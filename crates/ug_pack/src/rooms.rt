@@ -3,9 +3,9 @@
 ghost use Rattle.std.specs.Prelude.{◌≡◌, ◌≤◌};
 ghost use Rattle.ug_pack.specs.Rooms.{room, room_beside, IsShort};
 
-use ug_attrwire::{size_but_next_hop, size_of};
 use ug_message::values_are_short;
 use ug_types::{Attrs, Family};
+use ug_update::{size_but_next_hop, size_of};
 
 /// How many bytes of routes a message may withdraw.
 pub fn room(family: Family, limit: usize) -> usize

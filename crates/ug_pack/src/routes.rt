@@ -2,9 +2,9 @@ ghost use Rattle.std.specs.Prelude.{◌≡◌, ◌++◌, ℕ, nat_eq, slice_get,
 ghost use Rattle.std.specs.Option.{option_map};
 ghost use Rattle.ug_types.specs.declared.key.Key as keys;
 ghost use Rattle.ug_types.specs.Keys.{weight_of};
-ghost use Rattle.ug_adjout_rules.specs.Tables.{value_at};
-ghost use Rattle.ug_adjout_rules.specs.Pending.{AdjRibOut};
-ghost use Rattle.ug_adjout_rules.specs.Formatting.{fitting, withdrawals, announcements, alike, value_of_first};
+ghost use Rattle.ug_adjout.specs.Tables.{value_at};
+ghost use Rattle.ug_adjout.specs.Pending.{AdjRibOut};
+ghost use Rattle.ug_adjout.specs.Formatting.{fitting, withdrawals, announcements, alike, value_of_first};
 ghost use Rattle.ug_pack.specs.Ready.{key_order};
 
 use std::alloc::Global;

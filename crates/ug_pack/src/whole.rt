@@ -8,7 +8,7 @@ ghost use Rattle.ug_update.specs.Updates.{withdrawing};
 ghost use Rattle.ug_pack.specs.Packets.{IsPlain};
 
 use std::alloc::Global;
-use ug_rewrite::Packet;
+use ug_message::Packet;
 use ug_types::{Addr, ByteList, Family, NhKind, NoMemory};
 use ug_update::{write_eor, write_eor6, write_mark};
 

@@ -6,3 +6,4 @@ pub mod Keeping
 pub mod Lines
 pub mod LineSteps
 pub mod LineLaws
+pub mod Codes

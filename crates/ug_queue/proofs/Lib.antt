@@ -5,3 +5,4 @@ pub mod Members
 pub mod MemberRests
 pub mod Rests
 pub mod Sheds
+mod Spreading

@@ -1,3 +1,4 @@
 pub mod Lines
 pub mod Queues
 pub mod Rests
+pub mod Spread

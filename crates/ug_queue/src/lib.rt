@@ -1,9 +1,12 @@
-//! A queue of packets that many members take from, each at its own place.
+//! A queue of packets that many members take from, each at its own place; and values by number, where numbers are never
+//! used twice, of which only those that are there take memory.
 #![tactic(auto)]
 
 mod laws;
 mod line;
+mod live;
 mod queue;
 
 pub use laws::{member_laws, rest_laws};
+pub use live::Live;
 pub use queue::Queue;

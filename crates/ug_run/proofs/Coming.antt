@@ -12,7 +12,7 @@ use Rattle.ug_pieces.specs.AppendingLaws.{AppendsPiece-more, AppendsFront-more}
 use Rattle.ug_board.specs.Entry.{Entry}
 use Rattle.ug_board.specs.Rules.{Rules, IsMachine}
 use Rattle.ug_board.specs.History.{IsLegal, replay}
-use Rattle.ug_history_rules.specs.Deeds.{Each}
+use Rattle.ug_board.specs.Deeds.{Each}
 use Rattle.ug_events.specs.Events.{Saying}
 use Rattle.ug_events.specs.Reads.{Reads}
 use Rattle.ug_world.specs.World.{World}
@@ -36,11 +36,11 @@ use Rattle.ug_report.specs.Statuses.{status_text}
 use Rattle.ug_report.specs.declared.status.Status.{Status}
 use Rattle.ug_report.specs.declared.status.Status.TheVariants as statuses
 use Rattle.ug_commands.proofs.Ends.{rest_of, part_read, no_rest, not_missing, agrees_read, then_status, later_status}
-use Rattle.ug_run_rules.specs.Contents.{WireTold, Content}
-use Rattle.ug_run_rules.specs.Crew.{EachLaneFrom, IsCrewed, IsClosed, all_losses}
-use Rattle.ug_run_rules.specs.Kept.{IsKept, IsWireOf, IsWireRight, AreCounted}
-use Rattle.ug_run_rules.proofs.Lists.{each-front, each-join}
-use Rattle.ug_run_rules.proofs.Keeps.{closed-kept}
+use Rattle.ug_event_loop.specs.Contents.{WireTold, Content}
+use Rattle.ug_event_loop.specs.Crew.{EachLaneFrom, IsCrewed, IsClosed, all_losses}
+use Rattle.ug_event_loop.specs.Kept.{IsKept, IsWireOf, IsWireRight, AreCounted}
+use Rattle.ug_event_loop.proofs.Lists.{each-front, each-join}
+use Rattle.ug_event_loop.proofs.Keeps.{closed-kept}
 use Rattle.ug_run.specs.Ends.{last_text, IsConcluded, CompletesBy, IsFinished}
 use Rattle.ug_run.specs.Told.{Before, After, RunTold}
 use Rattle.ug_run.specs.Outcomes.{Course, Completes, IsCut, IsOutcome}

@@ -21,11 +21,11 @@ use Rattle.ug_speaker.specs.Speech.{Speech, capabilities_of}
 use Rattle.ug_world.specs.After.{after, come_up, gone_down, with_policy, refiltered, with_orf, changed_peer}
 use Rattle.ug_speaker.specs.Told.{world_after as through}
 use Rattle.ug_speaker.specs.Owes.{IsSpeaker}
-use Rattle.ug_run_rules.specs.Contents.{WireTold, Content, EachFrom, EachWire}
-use Rattle.ug_run_rules.specs.Kept.{IsSent, IsSessionRight, IsSessionWhole, IsWireRight, IsWireOf}
-use Rattle.ug_run_rules.proofs.EachWires.{EachWireFrom, one-by-one}
-use Rattle.ug_run_rules.proofs.Lines.{accepted, accepted_event, last-accepted}
-use Rattle.ug_run_rules.proofs.Runs.{events-are}
+use Rattle.ug_event_loop.specs.Contents.{WireTold, Content, EachFrom, EachWire}
+use Rattle.ug_event_loop.specs.Kept.{IsSent, IsSessionRight, IsSessionWhole, IsWireRight, IsWireOf}
+use Rattle.ug_event_loop.proofs.EachWires.{EachWireFrom, one-by-one}
+use Rattle.ug_event_loop.proofs.StoryLines.{accepted, accepted_event, last-accepted}
+use Rattle.ug_event_loop.proofs.Runs.{events-are}
 use Rattle.ug_report.specs.Report.{losses_from}
 use Rattle.ug_report.specs.declared.endings.Loss.{Loss}
 use Rattle.ug_report.specs.Statuses.{row_of}

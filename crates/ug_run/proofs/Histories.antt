@@ -6,7 +6,7 @@ use Rattle.atomic_table.specs.Seated.{TableId}
 use Rattle.ug_board.specs.Entry.{Entry}
 use Rattle.ug_board.specs.Rules.{Rules}
 use Rattle.ug_board.specs.History.{IsLegal}
-use Rattle.ug_history_rules.specs.Deeds.{Each}
+use Rattle.ug_board.specs.Deeds.{Each}
 use Rattle.ug_turnstile.specs.Passes.{Held, Agrees, IsToldBy}
 use Rattle.ug_sender.specs.Lanes.{LaneView}
 use Rattle.ug_run.specs.Lanes.{AreAtPosts, AreKept}

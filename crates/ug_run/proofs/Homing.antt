@@ -7,7 +7,7 @@ use Rattle.ug_pieces.specs.Pieces.{HasRead}
 use Rattle.ug_pieces.specs.ReadingLaws.{Rose-later}
 use Rattle.ug_board.specs.Entry.{Entry}
 use Rattle.ug_board.specs.Rules.{Rules, IsMachine}
-use Rattle.ug_history_rules.specs.Deeds.{Each}
+use Rattle.ug_board.specs.Deeds.{Each}
 use Rattle.ug_turnstile.specs.Passes.{Held, Agrees}
 use Rattle.ug_board.specs.History.{IsLegal, MayGoOn, replay}
 use Rattle.ug_sender.specs.Lanes.{LaneView}
@@ -38,8 +38,8 @@ use Rattle.ug_report.specs.Statuses.{row_of, status_text}
 use Rattle.ug_report.specs.declared.status.Status.{Status}
 use Rattle.ug_report.specs.declared.status.Status.TheVariants as statuses
 use Rattle.ug_commands.proofs.Ends.{part_read, later_status}
-use Rattle.ug_run_rules.specs.Contents.{WireTold}
-use Rattle.ug_run_rules.specs.Crew.{all_losses}
+use Rattle.ug_event_loop.specs.Contents.{WireTold}
+use Rattle.ug_event_loop.specs.Crew.{all_losses}
 use Rattle.ug_run.specs.Ends.{last_text, IsConcluded, CompletesBy, IsFinished}
 use Rattle.ug_run.specs.Told.{Before, After}
 use Rattle.ug_run.specs.Promise.{IsRun, IsCounted}

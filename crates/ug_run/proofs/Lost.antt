@@ -8,10 +8,10 @@ use Rattle.ug_board.specs.declared.steps.BoardStep.{BoardStep}
 use Rattle.ug_board.specs.declared.steps.BoardStep.TheVariants.{Job as DoJob, Lane as LaneTakes}
 use Rattle.ug_board.specs.declared.steps.LaneStep.TheVariants.{Next, Lost}
 use Rattle.ug_board.specs.Entry.{Entry}
-use Rattle.ug_history_rules.specs.Deeds.{when}
+use Rattle.ug_board.specs.Deeds.{when}
 use Rattle.ug_report.specs.declared.endings.Loss.{Loss}
 use Rattle.ug_report.specs.Report.{losses_from}
-use Rattle.ug_run_rules.specs.Crew.{step_losses, losses_in, all_losses}
+use Rattle.ug_event_loop.specs.Crew.{step_losses, losses_in, all_losses}
 use Rattle.ug_run.specs.Losses.{loss_in, losses_told, loss_to, losses_to}
 
 -- the losses of so many peers, from this one on

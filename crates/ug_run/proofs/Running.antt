@@ -21,7 +21,7 @@ use Rattle.ug_event_loop.specs.declared.tally.Tally.{Tally}
 use Rattle.ug_event_loop.specs.declared.reading.End.{End}
 use Rattle.ug_event_loop.specs.Standing.{BuilderView, IsPacedBy, IsSameBuilder}
 use Rattle.ug_event_loop.specs.Reading.{Outside, HasEnded, IsRead}
-use Rattle.ug_run_rules.specs.Crew.{all_losses}
+use Rattle.ug_event_loop.specs.Crew.{all_losses}
 use Rattle.ug_run.specs.Lanes.{AreAtPosts, fresh_lanes}
 use Rattle.ug_run.specs.Boards.{AreDealt}
 use Rattle.ug_run.specs.Ends.{IsFinished}

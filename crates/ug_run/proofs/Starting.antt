@@ -3,11 +3,11 @@ use Rattle.std.specs.Prelude.{◌⊎◌}
 use Rattle.std.proofs.Common.{◌≡◌, ℕ, zero, suc, ◌+◌, ◌≤◌, Bool, true, false, List, [], ◌∷◌, length, map, take, Option, Some, None, Result, Ok, Err, inl, inr, refl, sym, ◌∙◌, ap, subst, arith}
 use Rattle.std.proofs.lemmas.List.{append-nil, length-map}
 use Rattle.ug_edge.specs.Told.{Rose, IsFresh, TakesFront, HasPicked, WireName, WiresMade, Picks, AppendsAll, FileText, FileTold, file_told}
-use Rattle.ug_history_rules.specs.Deeds.{Each}
+use Rattle.ug_board.specs.Deeds.{Each}
 use Rattle.ug_world.specs.World.{World}
 use Rattle.ug_report.specs.Report.{names_in}
 use Rattle.ug_run.specs.Wires.{AreNewWires, HasMade, AreMadeFor}
-use Rattle.ug_run_rules.specs.Contents.{WireTold}
+use Rattle.ug_event_loop.specs.Contents.{WireTold}
 use Rattle.ug_board.specs.Entry.{Entry}
 use Rattle.ug_commands.specs.Files.{AppendsThenStatus, IsUnbegun}
 use Rattle.ug_report.specs.Statuses.{row_of, status_text}

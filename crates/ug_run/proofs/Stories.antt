@@ -15,7 +15,7 @@ use Rattle.ug_board.specs.Entry.{Entry}
 use Rattle.ug_board.specs.Rules.{Rules}
 use Rattle.ug_board.specs.History.{IsLegalStep, IsLegalFrom, IsLegal, after_step, replay_from, replay}
 use Rattle.ug_board.proofs.Histories.{replay_from-append}
-use Rattle.ug_history_rules.specs.Deeds.{Each, of_pass, to_peer, is_to}
+use Rattle.ug_board.specs.Deeds.{Each, of_pass, to_peer, is_to}
 use Rattle.ug_turnstile.specs.Passes.{Held, Agrees}
 use Rattle.ug_sender.specs.Lanes.{LaneView, KeepsLane}
 use Rattle.ug_events.specs.Events.{Happening, IsEvent, Saying, SaysNothing, SaysSync, Says}
@@ -32,10 +32,10 @@ use Rattle.ug_event_loop.specs.declared.grammar.Grammar.TheVariants as grammars
 use Rattle.ug_event_loop.specs.Standing.{said_by, IsLaneStep, AreLanes, HasTaken}
 use Rattle.ug_event_loop.proofs.Worlds.{lanes-back, legal-back}
 use Rattle.ug_run.specs.Lanes.{AreAtPosts, AreKept}
-use Rattle.ug_run_rules.specs.Contents.{WireTold}
-use Rattle.ug_run_rules.specs.Crew.{EachLaneFrom, IsCrewed, IsClosed}
-use Rattle.ug_run_rules.proofs.Lists.{each-so, each-with, each-all, each-any, each-join, none-passes, get-there}
-use Rattle.ug_run_rules.proofs.Owned.{lane-at, own-steps}
+use Rattle.ug_event_loop.specs.Contents.{WireTold}
+use Rattle.ug_event_loop.specs.Crew.{EachLaneFrom, IsCrewed, IsClosed}
+use Rattle.ug_event_loop.proofs.Lists.{each-so, each-with, each-all, each-any, each-join, none-passes, get-there}
+use Rattle.ug_event_loop.proofs.Owned.{lane-at, own-steps}
 
 -- ---- what lines say is sound
 

@@ -3,7 +3,7 @@ use Rattle.std.specs.Prelude.{◌≡◌, ◌+◌, ◌≤◌, List, length, Some}
 use Rattle.ug_board.specs.Entry.{Entry}
 use Rattle.ug_board.specs.Rules.{Rules}
 use Rattle.ug_board.specs.History.{IsLegal}
-use Rattle.ug_history_rules.specs.Deeds.{Each}
+use Rattle.ug_board.specs.Deeds.{Each}
 use Rattle.ug_turnstile.specs.Passes.{Gate, Held, Agrees, fresh_pass}
 use Rattle.ug_sender.specs.Lanes.{LaneView}
 use Rattle.ug_world.specs.World.{World}

@@ -6,7 +6,7 @@ use Rattle.ug_board.specs.declared.steps.BoardStep.TheVariants.{Job as DoJob, La
 use Rattle.ug_board.specs.declared.steps.LaneStep.{LaneStep}
 use Rattle.ug_board.specs.declared.steps.LaneStep.TheVariants.{Next, Lost}
 use Rattle.ug_board.specs.Entry.{Entry}
-use Rattle.ug_history_rules.specs.Deeds.{when}
+use Rattle.ug_board.specs.Deeds.{when}
 use Rattle.ug_report.specs.declared.endings.Loss.{Loss}
 
 abbrev pub loss_by : LaneStep → List Loss

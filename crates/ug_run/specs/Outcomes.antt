@@ -7,7 +7,7 @@ use Rattle.ug_edge.specs.Told.{AppendsPiece}
 use Rattle.ug_pieces.specs.Reporting.{AppendsFront}
 use Rattle.ug_board.specs.Rules.{Rules}
 use Rattle.ug_board.specs.History.{replay}
-use Rattle.ug_history_rules.specs.Deeds.{Each}
+use Rattle.ug_board.specs.Deeds.{Each}
 use Rattle.ug_events.specs.Events.{Saying}
 use Rattle.ug_events.specs.Reads.{Reads}
 use Rattle.ug_world.specs.World.{World}
@@ -22,9 +22,9 @@ use Rattle.ug_event_loop.specs.declared.grammar.Grammar.{Grammar}
 use Rattle.ug_event_loop.specs.Standing.{said_by}
 use Rattle.ug_event_loop.specs.Files.{lines_read, IsPastLimits}
 use Rattle.ug_commands.specs.Files.{AppendsThenStatus}
-use Rattle.ug_run_rules.specs.Contents.{Content}
-use Rattle.ug_run_rules.specs.Crew.{IsClosed, all_losses}
-use Rattle.ug_run_rules.specs.Kept.{IsKept}
+use Rattle.ug_event_loop.specs.Contents.{Content}
+use Rattle.ug_event_loop.specs.Crew.{IsClosed, all_losses}
+use Rattle.ug_event_loop.specs.Kept.{IsKept}
 use Rattle.ug_run.specs.Ends.{IsFirst}
 use Rattle.ug_run.specs.Told.{RunTold, HasFailed}
 

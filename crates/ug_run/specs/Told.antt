@@ -3,7 +3,7 @@ use Rattle.std.specs.Prelude.{ℕ, Bool, List, Option}
 use Rattle.ug_edge.specs.Told.{FileText, Picks, Rose, WireName, WiresMade}
 use Rattle.ug_board.specs.Entry.{Entry}
 use Rattle.ug_report.specs.declared.status.Status.{Status}
-use Rattle.ug_run_rules.specs.Contents.{WireTold}
+use Rattle.ug_event_loop.specs.Contents.{WireTold}
 
 -- What stands outside before a run: of the site its files, its picks and the wires that it made until then; what the report
 -- holds, and how often a call of it failed.

@@ -7,7 +7,7 @@ ghost use Rattle.ug_pieces.specs.Reporting.{AppendsFront};
 ghost use Rattle.ug_report.specs.Report.{name_at, lost_status, losses_from};
 ghost use Rattle.ug_report.specs.Statuses.{status_text};
 ghost use Rattle.ug_commands.specs.Files.{AppendsThenStatus};
-ghost use Rattle.ug_run_rules.specs.Crew.{all_losses};
+ghost use Rattle.ug_event_loop.specs.Crew.{all_losses};
 ghost use Rattle.ug_run.specs.Ends.{last_text, IsFirst, IsConcluded, CompletesBy, IsFinished};
 
 use crate::losses::losses_of;

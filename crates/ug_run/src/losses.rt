@@ -3,7 +3,7 @@
 ghost use Rattle.std.specs.Prelude.{◌≡◌, ◌+◌, ◌++◌, IfOk, OnOk};
 ghost use Rattle.ug_board.specs.Seen.{seen_step};
 ghost use Rattle.ug_report.specs.Report.{losses_from};
-ghost use Rattle.ug_run_rules.specs.Crew.{all_losses};
+ghost use Rattle.ug_event_loop.specs.Crew.{all_losses};
 ghost use Rattle.ug_run.specs.Losses.{loss_in, losses_told, losses_to};
 
 use std::alloc::Global;

@@ -11,7 +11,7 @@ ghost use Rattle.ug_speaker.specs.Owes.{IsOpening, AreEvents};
 ghost use Rattle.ug_report.specs.Report.{names_in, losses_from};
 ghost use Rattle.ug_sender.specs.Posts.{AreHere, posts};
 ghost use Rattle.ug_event_loop.specs.Reading.{first_of, HasEnded, IsRead};
-ghost use Rattle.ug_run_rules.specs.Crew.{all_losses};
+ghost use Rattle.ug_event_loop.specs.Crew.{all_losses};
 ghost use Rattle.ug_run.specs.Wires.{AreNewWires};
 ghost use Rattle.ug_run.specs.Lanes.{AreKept};
 ghost use Rattle.ug_run.specs.Boards.{AreDealt, IsHistoryOf};

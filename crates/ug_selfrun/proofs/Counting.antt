@@ -5,7 +5,7 @@ use Rattle.ug_types.specs.declared.capabilities.Capabilities.{Capabilities}
 use Rattle.ug_types.specs.declared.key.Key.{Key}
 use Rattle.ug_types.specs.Messages.{Message}
 use Rattle.ug_outbound.specs.declared.peer.Peer.{Peer}
-use Rattle.ug_table_rules.specs.Tables.{Table, table_of}
+use Rattle.ug_message.specs.Tables.{Table, table_of}
 use Rattle.ug_message.proofs.WholeMessages.{one_stream}
 use Rattle.ug_check.specs.Decoded.{LeavesRows}
 use Rattle.ug_world.specs.declared.peer_state.PeerState.{PeerState}

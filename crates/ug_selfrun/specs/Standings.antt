@@ -4,7 +4,7 @@ use Rattle.ug_types.specs.declared.capabilities.Capabilities.{Capabilities}
 use Rattle.ug_types.specs.declared.key.Key.{Key}
 use Rattle.ug_types.specs.Attributes.{Attributes}
 use Rattle.ug_types.specs.Messages.{Message}
-use Rattle.ug_table_rules.specs.Tables.{Table, table_of}
+use Rattle.ug_message.specs.Tables.{Table, table_of}
 use Rattle.ug_message.specs.Received.{IsStream}
 use Rattle.ug_check.specs.Decoded.{AreRows}
 use Rattle.ug_world.specs.declared.peer_state.PeerState.{PeerState}

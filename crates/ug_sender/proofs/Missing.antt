@@ -4,7 +4,7 @@ use Rattle.std.specs.Prelude.{◌||◌, ◌⊎◌}
 use Rattle.std.proofs.lemmas.List.{append-nil}
 use Rattle.ug_board.specs.Entry.{Entry}
 use Rattle.ug_board.specs.Rules.{Rules}
-use Rattle.ug_history_rules.specs.Deeds.{Deed, Begins, Loses}
+use Rattle.ug_board.specs.Deeds.{Deed, Begins, Loses}
 use Rattle.ug_turnstile.specs.Passes.{Held, IsSamePass, StartsWith}
 use Rattle.ug_sender.specs.declared.turn.Ending.{Ending}
 use Rattle.ug_sender.specs.declared.turn.Ending.TheVariants.{Begun, Idle, Stop, More}

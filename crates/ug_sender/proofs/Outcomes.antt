@@ -5,7 +5,7 @@ use Rattle.std.proofs.lemmas.List.{append-nil}
 use Rattle.std.proofs.lemmas.List.{length-take-le, length-map}
 use Rattle.ug_edge.specs.Told.{Rose, SendsPiece}
 use Rattle.ug_turnstile.specs.Passes.{StartsWith}
-use Rattle.ug_history_rules.specs.Deeds.{Deed, Begins, Hands, Loses}
+use Rattle.ug_board.specs.Deeds.{Deed, Begins, Hands, Loses}
 use Rattle.ug_sender.specs.declared.pumped.Pumped.{Pumped}
 use Rattle.ug_sender.specs.declared.pumped.Pumped.TheVariants.{Begun as DidBegin, Sent as DidSend, Idle as WasIdle, Lost as WasLost, Stopped as WasStopped}
 use Rattle.ug_sender.specs.declared.pumped.Round.{Round}

@@ -5,9 +5,9 @@ use Rattle.std.specs.List.{concat}
 use Rattle.std.proofs.lemmas.List.{append-nil, take-append-drop}
 use Rattle.std.proofs.lemmas.Bool.{eqb-true, eq-eqb}
 use Rattle.ug_edge.specs.Told.{Rose, onto_last, SendsPiece, BeginsSession}
-use Rattle.ug_history_rules.specs.Deeds.{Deed, Begins, Loses, losses, when}
-use Rattle.ug_history_rules.proofs.Folding.{sessions_of-append, losses-append}
-use Rattle.ug_history_rules.specs.Sessions.{sessions_of}
+use Rattle.ug_board.specs.Deeds.{Deed, Begins, Loses, losses, when}
+use Rattle.ug_board.proofs.Folding.{sessions_of-append, losses-append}
+use Rattle.ug_board.specs.Sessions.{sessions_of}
 use Rattle.ug_sender.specs.declared.turn.Ending.{Ending}
 use Rattle.ug_sender.specs.declared.turn.Ending.TheVariants.{Begun, Idle, Stop, More}
 use Rattle.ug_sender.specs.declared.turn.Taken.{Taken}

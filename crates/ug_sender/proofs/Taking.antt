@@ -6,7 +6,7 @@ use Rattle.std.proofs.Math.Seq.{take-append-add}
 use Rattle.std.proofs.lemmas.Bool.{eqb-true, eq-eqb}
 use Rattle.ug_board.specs.declared.steps.LaneSaid.TheVariants.{Hand}
 use Rattle.std.proofs.lemmas.List.Elements.{All-append, All-nil}
-use Rattle.ug_history_rules.specs.Deeds.{Deed, Begins, Hands, Loses, begins, when}
+use Rattle.ug_board.specs.Deeds.{Deed, Begins, Hands, Loses, begins, when}
 use Rattle.ug_sender.specs.declared.turn.Ending.{Ending}
 use Rattle.ug_sender.specs.declared.turn.Ending.TheVariants.{More}
 use Rattle.ug_sender.specs.declared.turn.Next.TheVariants.{Packet as WasPacket, Last}

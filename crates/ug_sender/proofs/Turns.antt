@@ -14,9 +14,9 @@ use Rattle.ug_board.specs.History.{IsLegal, IsLegalFrom, after_step, replay, lan
 use Rattle.std.specs.Prelude.{filter, ◌⊎◌}
 use Rattle.std.proofs.lemmas.List.Elements.{filter-append}
 use Rattle.ug_turnstile.specs.Passes.{StartsWith, owned_by}
-use Rattle.ug_history_rules.specs.Deeds.{Deed, Hands, Loses, Each, when, of_pass, to_peer, lane_is_to, lane_deeds, deeds, deeds_from, begins}
-use Rattle.ug_history_rules.proofs.Growth.{deeds_from-append, deeds_from-others}
-use Rattle.ug_history_rules.proofs.Beginnings.{begins-at_most}
+use Rattle.ug_board.specs.Deeds.{Deed, Hands, Loses, Each, when, of_pass, to_peer, lane_is_to, lane_deeds, deeds, deeds_from, begins}
+use Rattle.ug_board.proofs.Growth.{deeds_from-append, deeds_from-others}
+use Rattle.ug_board.proofs.Beginnings.{begins-at_most}
 use Rattle.ug_sender.specs.Lanes.{AreOfPeer, MayNotLoseAt, deeds_at}
 use Rattle.ug_sender.specs.Tellings.{TellsNext, TellsLoss}
 

@@ -6,9 +6,9 @@ use Rattle.std.proofs.lemmas.List.{append-nil, length-map, take-append-drop}
 use Rattle.std.proofs.lemmas.List.Folds.{concat-append}
 use Rattle.std.proofs.lemmas.Bool.{eq-eqb, eqb-true}
 use Rattle.ug_edge.specs.Told.{Rose, onto_last, SendsPiece, BeginsSession, IsFresh}
-use Rattle.ug_history_rules.specs.Deeds.{Deed, Begins, Hands, Loses, begins, losses}
-use Rattle.ug_history_rules.proofs.Folding.{sessions_of-append, losses-append, length-sessions_of}
-use Rattle.ug_history_rules.specs.Sessions.{Session, with_item, hand_last, sessions_of}
+use Rattle.ug_board.specs.Deeds.{Deed, Begins, Hands, Loses, begins, losses}
+use Rattle.ug_board.proofs.Folding.{sessions_of-append, losses-append, length-sessions_of}
+use Rattle.ug_board.specs.Sessions.{Session, with_item, hand_last, sessions_of}
 use Rattle.ug_sender.specs.Courses.{Fate, Whole, Noted, Unnoted, Course, IsFront, HoldsOf, HoldsAll, Holds, failures, failed, when_noted, noted, is_unnoted, has_unnoted, when_whole, open_session, fate_of, KeepsWire}
 use Rattle.ug_sender.specs.Pieces.{SendsFront}
 use Rattle.ug_sender.specs.Tellings.{TellsLoss}

@@ -1,8 +1,8 @@
 -- What became of the sessions that a lane began: what its wire holds of each, and which of them are lost.
 use Rattle.std.specs.Prelude.{◌≡◌, ℕ, ◌+◌, ◌≤◌, ◌||◌, Bool, true, false, List, [], ◌∷◌, ◌++◌, length, map, Option, Some, None}
 use Rattle.std.specs.List.{concat}
-use Rattle.ug_history_rules.specs.Deeds.{Deed, losses}
-use Rattle.ug_history_rules.specs.Sessions.{Session, sessions_of}
+use Rattle.ug_board.specs.Deeds.{Deed, losses}
+use Rattle.ug_board.specs.Sessions.{Session, sessions_of}
 
 -- How the calls of the wire went in a session: none failed; one failed and the loss is an entry of the history; or one
 -- failed and the loss was not taken.

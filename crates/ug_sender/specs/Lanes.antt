@@ -6,7 +6,7 @@ use Rattle.ug_board.specs.declared.steps.LaneStep.TheVariants.{Next}
 use Rattle.ug_board.specs.declared.steps.LaneSaid.TheVariants.{Idle, Stop}
 use Rattle.ug_board.specs.History.{replay}
 use Rattle.ug_board.specs.Rules.{Rules}
-use Rattle.ug_history_rules.specs.Deeds.{Deed, Begins, deeds, of_pass, to_peer, Each}
+use Rattle.ug_board.specs.Deeds.{Deed, Begins, deeds, of_pass, to_peer, Each}
 use Rattle.ug_turnstile.specs.Passes.{Held}
 use Rattle.ug_sender.specs.Courses.{Course, KeepsWire}
 use Rattle.ug_turnstile.specs.Passes.{IsSamePass, StartsWith}

@@ -4,7 +4,7 @@ use Rattle.ug_edge.specs.Told.{Rose, BeginsSession, SendsPiece}
 use Rattle.ug_board.specs.Entry.{Entry}
 use Rattle.ug_board.specs.Rules.{Rules}
 use Rattle.ug_turnstile.specs.Passes.{Held}
-use Rattle.ug_history_rules.specs.Deeds.{Deed, Begins, Hands, Loses, begins, when}
+use Rattle.ug_board.specs.Deeds.{Deed, Begins, Hands, Loses, begins, when}
 use Rattle.ug_sender.specs.declared.pumped.Pumped.{Pumped}
 use Rattle.ug_sender.specs.declared.pumped.Pumped.TheVariants.{Begun as DidBegin, Sent as DidSend, Idle as WasIdle, Lost as WasLost, Stopped as WasStopped}
 use Rattle.ug_sender.specs.declared.pumped.Round.{Round}

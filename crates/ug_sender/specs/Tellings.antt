@@ -6,7 +6,7 @@ use Rattle.std.specs.Prelude.{◌||◌}
 use Rattle.ug_sender.specs.declared.pumped.Pumped.{Pumped}
 use Rattle.ug_sender.specs.declared.pumped.Pumped.TheVariants.{Begun as DidBegin, Sent as DidSend, Idle as WasIdle, Lost as WasLost, Stopped as WasStopped}
 use Rattle.ug_sender.specs.Courses.{is_unnoted, fate_of}
-use Rattle.ug_history_rules.specs.Deeds.{Deed, Begins, Hands, Loses, begins}
+use Rattle.ug_board.specs.Deeds.{Deed, Begins, Hands, Loses, begins}
 
 -- What the answer to what is next adds to the deeds of a pass. What is handed out stands at the front of the buffer.
 abbrev pub TellsNext : LaneSaid → List ℕ → List (Deed (List ℕ)) → List (Deed (List ℕ)) → Type 0

@@ -9,7 +9,7 @@ use Rattle.ug_types.specs.Ip.{IpPrefix}
 use Rattle.ug_types.specs.Attributes.{refusal_of}
 use Rattle.ug_types.specs.Keys.{same_prefix, prefix_cmp}
 use Rattle.ug_types.specs.declared.route.Path.{Path}
-use Rattle.ug_history_rules.specs.Deeds.{Each}
+use Rattle.ug_board.specs.Deeds.{Each}
 use Rattle.ug_outbound.specs.Bounds.{SetsFew}
 use Rattle.ug_events.specs.Events.{GivenPath, Happening, ComesUp, GoesDown, HasPaths, HasNone, HasPolicy, HasEntries, AsksAgain, SendsRequest, SendsList, IsEvent, AreGiven}
 use Rattle.ug_world.specs.World.{Routes, World, paths_to}

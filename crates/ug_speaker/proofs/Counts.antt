@@ -8,9 +8,9 @@ use Rattle.std.proofs.lemmas.Bool.Decides.{nat_tests}
 use Rattle.std.proofs.lemmas.List.Folds.{list_any-append}
 use Rattle.std.proofs.lemmas.Map.Views.{any-filter_same}
 use Rattle.ug_types.specs.Messages.{Message}
-use Rattle.ug_history_rules.specs.Deeds.{Deed, Begins as BeginsDeed, Hands, Loses, losses}
-use Rattle.ug_history_rules.specs.Sessions.{Session, with_item, hand_last, sessions_of}
-use Rattle.ug_history_rules.proofs.Folding.{sessions_of-append, losses-append}
+use Rattle.ug_board.specs.Deeds.{Deed, Begins as BeginsDeed, Hands, Loses, losses}
+use Rattle.ug_board.specs.Sessions.{Session, with_item, hand_last, sessions_of}
+use Rattle.ug_board.proofs.Folding.{sessions_of-append, losses-append}
 use Rattle.ug_world.specs.declared.peer_state.PeerState.{PeerState}
 use Rattle.ug_speaker.specs.Told.{handed_in}
 use Rattle.ug_speaker.specs.Counts.{Counts, has, is_lost_at, with_session, with_loss}

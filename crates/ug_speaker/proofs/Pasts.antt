@@ -5,8 +5,8 @@ use Rattle.std.proofs.lemmas.List.{map-append}
 use Rattle.std.proofs.lemmas.List.Elements.{filter-append}
 use Rattle.ug_types.specs.declared.key.Key.{Key}
 use Rattle.ug_types.specs.Attributes.{Attributes}
-use Rattle.ug_table_rules.specs.Tables.{Table, no_routes}
-use Rattle.ug_table_rules.specs.Climbing.{values_at}
+use Rattle.ug_message.specs.Tables.{Table, no_routes}
+use Rattle.ug_message.specs.Climbing.{values_at}
 use Rattle.ug_events.specs.Events.{Happening}
 use Rattle.ug_world.specs.World.{World}
 use Rattle.ug_world.specs.Private.{private_table}

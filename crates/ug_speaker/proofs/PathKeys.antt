@@ -7,7 +7,7 @@ use Rattle.std.proofs.lemmas.List.Folds.{list_any-append}
 use Rattle.ug_types.specs.Ip.{IpPrefix}
 use Rattle.ug_types.specs.Keys.{same_prefix, same_key}
 use Rattle.ug_types.specs.declared.route.Path.{Path}
-use Rattle.ug_table_rules.specs.Tables.{among}
+use Rattle.ug_message.specs.Tables.{among}
 use Rattle.ug_world.specs.World.{Routes, paths_to}
 use Rattle.ug_world.specs.Private.{own_keys, keys_to, keys_of, path_at}
 use Rattle.ug_world.proofs.Ascending.{among_ascending}

@@ -5,8 +5,8 @@ use Rattle.std.proofs.lemmas.List.{map-append}
 use Rattle.std.proofs.lemmas.List.Sums.{sum_by-append}
 use Rattle.ug_types.specs.declared.key.Key.{Key}
 use Rattle.ug_types.specs.Messages.{Message, Updates, Begins, Ends, Ignored}
-use Rattle.ug_table_rules.specs.Tables.{Table, Reading, among, applied, reading_from, tables_from}
-use Rattle.ug_table_rules.specs.Climbing.{values_at}
+use Rattle.ug_message.specs.Tables.{Table, Reading, among, applied, reading_from, tables_from}
+use Rattle.ug_message.specs.Climbing.{values_at}
 use Rattle.ug_message.specs.Streams.{AreOf, says_nothing}
 use Rattle.ug_speaker.specs.Right.{IsInTurn, is_refreshing}
 

@@ -5,9 +5,9 @@ use Rattle.std.proofs.lemmas.List.{append_assoc}
 use Rattle.std.proofs.lemmas.List.Elements.{filter-append}
 use Rattle.ug_types.specs.Attributes.{Attributes}
 use Rattle.ug_types.specs.Messages.{Message}
-use Rattle.ug_table_rules.specs.Tables.{Table, nothing_read, reading_from, tables_from, tables_after}
-use Rattle.ug_table_rules.specs.Climbing.{Climbs, NeverBack, values_at}
-use Rattle.ug_table_rules.specs.ClimbingLaws.{NeverBack-from, Follows-from, NeverBack-longer}
+use Rattle.ug_message.specs.Tables.{Table, nothing_read, reading_from, tables_from, tables_after}
+use Rattle.ug_message.specs.Climbing.{Climbs, NeverBack, values_at}
+use Rattle.ug_message.specs.ClimbingLaws.{NeverBack-from, Follows-from, NeverBack-longer}
 use Rattle.ug_message.specs.Streams.{IsUpdate, says_nothing}
 use Rattle.ug_outbound.specs.declared.peer.Peer.{Peer}
 use Rattle.ug_world.specs.World.{World}

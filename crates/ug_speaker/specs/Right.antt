@@ -5,8 +5,8 @@ use Rattle.ug_types.specs.declared.capabilities.Capabilities.{Capabilities}
 use Rattle.ug_types.specs.declared.key.Key.{Key}
 use Rattle.ug_types.specs.Attributes.{Attributes}
 use Rattle.ug_types.specs.Messages.{Message, Updates, Begins, Ends, Ignored}
-use Rattle.ug_table_rules.specs.Tables.{Table, Reading, nothing_read, applied, table_of, tables_after, among}
-use Rattle.ug_table_rules.specs.Climbing.{NeverBack}
+use Rattle.ug_message.specs.Tables.{Table, Reading, nothing_read, applied, table_of, tables_after, among}
+use Rattle.ug_message.specs.Climbing.{NeverBack}
 use Rattle.ug_message.specs.Spellable.{is_key, can_be_spelled}
 use Rattle.ug_message.specs.Texts.{written}
 use Rattle.ug_message.specs.Streams.{AreOf, IsUpdate, says_nothing}

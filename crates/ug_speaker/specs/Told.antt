@@ -8,8 +8,8 @@ use Rattle.ug_board.specs.declared.steps.BoardStep.TheVariants.{Job as DoJob, La
 use Rattle.ug_board.specs.Entry.{Entry}
 use Rattle.ug_board.specs.Rules.{Rules}
 use Rattle.ug_board.specs.History.{replay}
-use Rattle.ug_history_rules.specs.Deeds.{Deed, deeds, losses, to_peer, when}
-use Rattle.ug_history_rules.specs.Sessions.{Session, sessions_of}
+use Rattle.ug_board.specs.Deeds.{Deed, deeds, losses, to_peer, when}
+use Rattle.ug_board.specs.Sessions.{Session, sessions_of}
 use Rattle.ug_events.specs.Events.{Happening}
 use Rattle.ug_world.specs.declared.peer_state.PeerState.{PeerState}
 use Rattle.ug_world.specs.World.{World}

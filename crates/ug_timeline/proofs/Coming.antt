@@ -6,9 +6,9 @@ use Rattle.std.specs.Option.{option_map}
 use Rattle.std.proofs.lemmas.List.{map-append, length-map}
 use Rattle.std.proofs.lemmas.Bool.{lt-ltb, le-ltb, cases_lt}
 use Rattle.ug_types.specs.declared.key.Key.{Key}
-use Rattle.ug_table_rules.specs.Tables.{Table, among}
-use Rattle.ug_climb.specs.declared.change.Change.{Change}
-use Rattle.ug_climb.specs.Pasts.{value_before}
+use Rattle.ug_message.specs.Tables.{Table, among}
+use Rattle.ug_hearing.specs.declared.change.Change.{Change}
+use Rattle.ug_hearing.specs.Pasts.{value_before}
 use Rattle.ug_hearing.specs.Courses.{changes_of}
 use Rattle.ug_hearing.specs.declared.log.Log.{Log}
 use Rattle.ug_hearing.specs.Logs.{IsLog}

@@ -2,10 +2,10 @@
 use Rattle.std.proofs.Common.{◌≡◌, ℕ, ◌-◌, List, [], ◌∷◌, ◌++◌, length, map, take, drop, slice_get, Some, None, refl, sym, ◌∙◌, ap, arith, length-append}
 use Rattle.std.proofs.lemmas.List.{map-append, length-map}
 use Rattle.ug_types.specs.declared.key.Key.{Key}
-use Rattle.ug_table_rules.specs.Tables.{Table}
-use Rattle.ug_table_rules.specs.Climbing.{values_at}
-use Rattle.ug_climb.specs.declared.change.Change.{Change}
-use Rattle.ug_climb.specs.Pasts.{Value}
+use Rattle.ug_message.specs.Tables.{Table}
+use Rattle.ug_message.specs.Climbing.{values_at}
+use Rattle.ug_hearing.specs.declared.change.Change.{Change}
+use Rattle.ug_hearing.specs.Pasts.{Value}
 use Rattle.ug_hearing.specs.Courses.{IsCourse}
 use Rattle.ug_hearing.specs.Logs.{IsLog}
 use Rattle.ug_world.specs.World.{World}

@@ -8,7 +8,7 @@ use Rattle.ug_types.specs.Keys.{same_prefix, same_key}
 use Rattle.ug_types.specs.declared.key.Key.{Key}
 use Rattle.ug_types.specs.declared.route.Path.{Path}
 use Rattle.ug_types.specs.declared.route.OutAttrs.{OutAttrs}
-use Rattle.ug_table_rules.specs.Tables.{among}
+use Rattle.ug_message.specs.Tables.{among}
 use Rattle.ug_outbound.specs.declared.key.GroupKey.{GroupKey}
 use Rattle.ug_outbound.specs.Outbound.{out}
 use Rattle.ug_events.specs.Events.{Happening, ComesUp, GoesDown, HasPaths, HasNone, HasPolicy, HasEntries, AsksAgain, SendsRequest, SendsList}

@@ -7,9 +7,9 @@ use Rattle.std.proofs.Common as vectors
 use Rattle.std.proofs.lemmas.List.{append-nil, length-map, with_items_is}
 use Rattle.std.proofs.lemmas.Option.{slice_get-map}
 use Rattle.ug_types.specs.declared.key.Key.{Key}
-use Rattle.ug_table_rules.specs.Tables.{Table}
-use Rattle.ug_table_rules.specs.Climbing.{values_at}
-use Rattle.ug_climb.specs.Pasts.{Value}
+use Rattle.ug_message.specs.Tables.{Table}
+use Rattle.ug_message.specs.Climbing.{values_at}
+use Rattle.ug_hearing.specs.Pasts.{Value}
 use Rattle.ug_hearing.specs.Courses.{changes_of}
 use Rattle.ug_hearing.specs.Logs.{IsLog}
 use Rattle.ug_types.specs.declared.route.PeerEnds.{PeerEnds}

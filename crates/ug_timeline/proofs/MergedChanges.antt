@@ -4,8 +4,8 @@ use Rattle.std.specs.Prelude.{if◌then◌else◌}
 use Rattle.std.proofs.lemmas.Bool.{le-ltb, cases_lt}
 use Rattle.ug_types.specs.declared.route.OutAttrs.{OutAttrs}
 use Rattle.ug_types.specs.declared.route.PeerEnds.{PeerEnds}
-use Rattle.ug_climb.specs.declared.change.Change.{Change}
-use Rattle.ug_climb.specs.Pasts.{Value, value_of, value_before, Keeps, IsToldBy, IsToldUntil}
+use Rattle.ug_hearing.specs.declared.change.Change.{Change}
+use Rattle.ug_hearing.specs.Pasts.{Value, value_of, value_before, Keeps, IsToldBy, IsToldUntil}
 use Rattle.ug_hearing.specs.Logs.{AddsChange}
 use Rattle.ug_timeline.specs.declared.since.Since.{Since}
 use Rattle.ug_timeline.specs.Held.{held, IsRising}

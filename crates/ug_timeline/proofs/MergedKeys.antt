@@ -7,8 +7,8 @@ use Rattle.std.specs.Map.{keys_of}
 use Rattle.ug_types.specs.declared.key.Key.{Key}
 use Rattle.ug_types.specs.declared.route.PeerEnds.{PeerEnds}
 use Rattle.ug_types.specs.Keys.{same_key}
-use Rattle.ug_climb.specs.declared.change.Change.{Change}
-use Rattle.ug_climb.specs.Pasts.{Value}
+use Rattle.ug_hearing.specs.declared.change.Change.{Change}
+use Rattle.ug_hearing.specs.Pasts.{Value}
 use Rattle.ug_hearing.specs.Keyed.{value_for, pairs_of, items_or_none}
 use Rattle.ug_hearing.specs.Courses.{changes_of}
 use Rattle.ug_timeline.specs.declared.since.Since.{Since}

@@ -1,7 +1,7 @@
 -- How far a timeline has come.
 use Rattle.std.specs.Prelude.{◌≡◌, ℕ, suc, ◌-◌, ◌<◌, nat_lt, ◌&&◌, not, true, List, [], ◌∷◌, ◌++◌, length, map, filter, slice_get, Some, if◌then◌else◌}
 use Rattle.ug_types.specs.declared.key.Key.{Key}
-use Rattle.ug_climb.specs.declared.change.Change.{Change}
+use Rattle.ug_hearing.specs.declared.change.Change.{Change}
 use Rattle.ug_hearing.specs.Logs.{IsLog, AreNoted}
 use Rattle.ug_world.specs.declared.peer_state.PeerState.{PeerState}
 use Rattle.ug_world.specs.World.{World}

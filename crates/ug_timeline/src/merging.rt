@@ -2,7 +2,7 @@
 
 ghost use Rattle.std.specs.Prelude.{◌≡◌, Some, IfOk, OnOk, IfSome, option_copied};
 ghost use Rattle.ug_hearing.specs.Logs.{AddsChange};
-ghost use Rattle.ug_rewrite.specs.NextHops.{told_to};
+ghost use Rattle.ug_message.specs.NextHops.{told_to};
 ghost use Rattle.ug_types.specs.declared.route.OutAttrs as outs;
 ghost use Rattle.ug_types.specs.Attributes.{Attributes};
 ghost use Rattle.ug_timeline.specs.Merges.{told_if, first_in, IsPassed, IsLeast, IsTold};
@@ -11,7 +11,7 @@ use crate::group_log::{GroupChange, is_same_value};
 use crate::routes::told;
 use crate::since::Since;
 use std::alloc::Global;
-use ug_climb::{Change, is_same, value_at};
+use ug_hearing::{Change, is_same, value_at};
 use ug_types::{Attrs, NoMemory, OutAttrs, PeerEnds, Shared};
 
 /// Tells a peer at these ends its next hops. Equal values that it is asked for one behind the other are shared.

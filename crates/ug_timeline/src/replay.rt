@@ -13,7 +13,7 @@ use std::alloc::Global;
 use std::marker::Brand;
 use std::sync::ledger::{Blank, Ledger};
 use ug_events::LineReader;
-use ug_lines::next_line;
+use ug_pieces::next_line;
 use ug_types::{NoMemory, PeerId, Steps};
 use ug_world::World;
 

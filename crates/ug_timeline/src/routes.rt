@@ -3,14 +3,14 @@
 ghost use Rattle.std.specs.Prelude.{◌≡◌, ◌+◌, ◌<◌, ◌≤◌, ◌==◌, length, map, find, slice_get, false, Some, IfOk};
 ghost use Rattle.std.specs.Option.{option_map};
 ghost use Rattle.ug_types.specs.declared.route.Path as stored;
-ghost use Rattle.ug_rewrite.specs.NextHops.{told_to};
+ghost use Rattle.ug_message.specs.NextHops.{told_to};
 ghost use Rattle.ug_world.specs.World.{key_in};
 ghost use Rattle.ug_world.specs.Private.{path_at, private_table, wanted};
 
 use std::alloc::Global;
 use std::sync::ledger::Ledger;
+use ug_message::next_hop;
 use ug_outbound::{GroupKey, key_of, outbound};
-use ug_rewrite::next_hop;
 use ug_types::{AttrParts, Attrs, Key, NoMemory, OutAttrs, Path, PeerEnds, PeerId, Steps};
 use ug_world::World;
 

@@ -4,8 +4,7 @@ ghost use Rattle.std.specs.Prelude.{◌≡◌, IfOk};
 
 use crate::progress::Progress;
 use std::alloc::Global;
-use ug_climb::Change;
-use ug_hearing::KeyLists;
+use ug_hearing::{Change, KeyLists};
 use ug_types::NoMemory;
 
 /// The changes of what a peer should have, key by key, whose places are versions; and for each of its sessions the version

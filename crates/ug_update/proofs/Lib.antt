@@ -6,3 +6,10 @@ pub mod NextHops
 pub mod Marks
 pub mod Texts6
 pub mod NextHops6
+pub mod Routes
+pub mod Padding
+pub mod Faults
+pub mod ValueParts
+pub mod Sizes
+pub mod Spelled
+pub mod Rows

@@ -4,16 +4,18 @@ ghost use Rattle.std.specs.Prelude.{◌≡◌, ◌+◌, ◌≤◌, ◌==◌, tru
 ghost use Rattle.ug_types.specs.Messages.{changes_of, message_of};
 ghost use Rattle.ug_message.specs.Texts.{afi};
 ghost use Rattle.ug_message.specs.AttributesRead.{read_attributes, read_multiprotocol};
-ghost use Rattle.ug_attrwire.specs.Views.{placed_of, multiprotocol_of};
+ghost use Rattle.ug_update.specs.AttrsViews.{placed_of, multiprotocol_of};
 ghost use Rattle.ug_update.specs.declared.fault.MessageFault.TheVariants as faults;
 ghost use Rattle.ug_message.specs.Reading.{size_at, is_marked, is_size, header_fault, parts_in, one_route, route_fault, routes_in, attributes_read, placed_routes, ipv4_changes, ipv6_changes, read_update, read_refresh, read_body, is_alone, ends_rib_of, ends_rib};
 ghost use Rattle.ug_update.specs.Views.{fault_of, parts_of, Gives, IsWithin};
 
+use crate::attrs_fault::AttrFault;
+use crate::attrs_reading::{read_attrs, read_attrs6};
 use crate::fault::{Fault, MessageFault};
+use crate::multiprotocol::{Multiprotocol, Placed};
 use crate::parts::Parts;
 use byteorder::{BigEndian, ByteOrder};
 use std::alloc::Global;
-use ug_attrwire::{AttrFault, Multiprotocol, Placed, read_attrs, read_attrs6};
 use ug_types::{Attrs, Capabilities, Family, Item, Key, KeyList, Sequence, Update};
 
 const UPDATE: u8 = 2;
@@ -120,7 +122,7 @@ fn one_route(
     ensures size { IfOk result (λ x. (1 ≤ x.1) × (x.1 ≤ length bytes.now)) }
     ensures within { IfErr result (λ f. f.place ≤ place + length bytes.now) }
 {
-    match ug_nlri::read_route(family, bytes, add_path) {
+    match crate::route_reading::read_route(family, bytes, add_path) {
         Ok((key, size)) => Ok((key, size)),
         Err(refusal) => Err(route_fault(add_path, place, refusal.number)),
     }
@@ -248,7 +250,7 @@ fn placed_routes(
 }
 
 /// An UPDATE of IPv6 routes, and whether it is End-of-RIB.
-#[tactic(auto, using(ug_attrwire::proofs::Parts::length_part), unfolding(ug_message::specs::Reading::ipv6_changes))]
+#[tactic(auto, using(crate::proofs::ValueParts::length_part), unfolding(ug_message::specs::Reading::ipv6_changes))]
 fn ipv6_update(
     alloc: Global,
     add_path: bool,

@@ -11,8 +11,8 @@ ghost use Rattle.ug_message.specs.Spellable.{is_ipv4, has_ipv4_addresses, are_of
 ghost use Rattle.ug_message.specs.Texts.{written, afi, attributes_place};
 ghost use Rattle.ug_update.specs.Updates.{AreAlike, IsSessionOf, is_own, withdrawing, announcing, weight_of_all, withdrawal_size, announcement_size, IsMessageSize, own_routes, header};
 
+use crate::attrs_writing::{size_of, write_attrs};
 use std::alloc::Global;
-use ug_attrwire::{size_of, write_attrs};
 use ug_message::put_u16;
 use ug_types::{Attrs, ByteList, Family, Key, NoMemory, Sequence, Written};
 
@@ -133,7 +133,7 @@ pub fn routes_size(keys: &[Key]) -> usize
 {
     let mut size = 0;
     for key in keys {
-        size += ug_nlri::size(key);
+        size += crate::route_writing::size(key);
     }
     size
 }
@@ -144,7 +144,7 @@ pub fn write_routes(out: &mut ByteList, keys: &[Key]) -> Result<(), NoMemory>
     ensures formed { OnOk result (list_all is_own keys.now ≡ true) }
 {
     for key in keys {
-        ug_nlri::write(out, key)?;
+        crate::route_writing::write(out, key)?;
     }
     Ok(())
 }

@@ -12,9 +12,12 @@ ghost use Rattle.ug_message.specs.Texts.{written};
 ghost use Rattle.ug_update.specs.Updates.{AreAlike, IsSessionOf, withdrawing, announcing, IsMessageSize, header};
 ghost use Rattle.ug_update.specs.Sizes6.{withdrawal_size, announcement_size, next_hop_place};
 
+use crate::attributes::mp_reach_nlri::write_reach;
+use crate::attributes::mp_unreach_nlri::write_unreach;
+use crate::attrs_writing::{size_but_next_hop, write_but_next_hop};
+use crate::head::size_around;
 use crate::writing::{routes_size, start, write_routes, write_size};
 use std::alloc::Global;
-use ug_attrwire::{size_around, size_but_next_hop, write_but_next_hop, write_reach, write_unreach};
 use ug_types::{Attrs, ByteList, Key, NoMemory, Written};
 
 /// The UPDATE that announces these IPv6 routes with these attributes, and where the value of the next hop stands in it.

@@ -6,7 +6,7 @@ use Rattle.ug_types.specs.Ip.{IpPrefix}
 use Rattle.ug_types.specs.declared.key.Key.{Key}
 use Rattle.ug_types.specs.declared.route.Path.{Path}
 use Rattle.ug_types.specs.Keys.{same_key}
-use Rattle.ug_table_rules.specs.Tables.{among}
+use Rattle.ug_message.specs.Tables.{among}
 use Rattle.ug_policy.specs.Order.{placed, ascending}
 use Rattle.ug_policy.proofs.Sorting.{ascending_any}
 use Rattle.ug_world.specs.Private.{own_keys}

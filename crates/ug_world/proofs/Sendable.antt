@@ -15,7 +15,7 @@ use Rattle.ug_message.specs.Spelling.{attributes}
 use Rattle.ug_message.specs.Spellable.{is_number, is_prefix, is_route, is_address, is_aggregator, has_numbers, where_there, is_ipv4, has_ipv4_addresses, can_be_spelled}
 use Rattle.ug_message.proofs.Formed.{both, and, family_is}
 use Rattle.ug_message.proofs.AttributeParts.{length_attributes, length_next_hop}
-use Rattle.ug_rewrite.specs.NextHops.{told_to}
+use Rattle.ug_message.specs.NextHops.{told_to}
 use Rattle.ug_outbound.specs.Tables.{Tables}
 use Rattle.ug_outbound.specs.Keys.{ends_of}
 use Rattle.ug_outbound.specs.declared.settings.Local.{Local}

@@ -22,7 +22,7 @@ use Rattle.ug_policy.specs.declared.mapped.Mapped.{Mapped}
 use Rattle.ug_policy.specs.Rules.{MapRule}
 use Rattle.ug_policy.specs.NamedMaps.{NamedMap}
 use Rattle.ug_policy.specs.Maps.{is_met, holds, all_prepended, with_one, added, with_sets, mapped_by, unmapped, so_far, goes_to, goes_on, map_walk}
-use Rattle.ug_rewrite.specs.NextHops.{address_alone, same_address, next_hop, told_to}
+use Rattle.ug_message.specs.NextHops.{address_alone, same_address, next_hop, told_to}
 use Rattle.ug_outbound.specs.Tables.{Tables}
 use Rattle.ug_outbound.specs.declared.settings.Local.{Local}
 use Rattle.ug_outbound.specs.declared.kind.Kind.{Kind}

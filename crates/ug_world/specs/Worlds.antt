@@ -1,6 +1,6 @@
 -- The worlds that lines of events lead through, and what a session's tables have to follow.
 use Rattle.std.specs.Prelude.{ℕ, ◌==◌, Bool, false, ◌&&◌, List, [], ◌∷◌, map, filter, slice_get, Option, Some, None, Ok, Err}
-use Rattle.ug_table_rules.specs.Tables.{Table, no_routes}
+use Rattle.ug_message.specs.Tables.{Table, no_routes}
 use Rattle.ug_events.specs.Events.{Happening, Saying, SaysNothing, SaysSync, Says}
 use Rattle.ug_events.specs.Reads.{Refusal, Reads}
 use Rattle.ug_world.specs.declared.peer_state.PeerState.{PeerState}

@@ -7,7 +7,7 @@ ghost use Rattle.ug_types.specs.declared.route.OutAttrs.{OutAttrs};
 ghost use Rattle.ug_types.specs.Attributes.{Attributes};
 ghost use Rattle.ug_types.specs.Bytes.{same_bytes};
 ghost use Rattle.ug_message.specs.Spellable.{is_route};
-ghost use Rattle.ug_rewrite.specs.NextHops.{told_to};
+ghost use Rattle.ug_message.specs.NextHops.{told_to};
 ghost use Rattle.ug_outbound.specs.Keys.{ends_of};
 ghost use Rattle.ug_outbound.specs.declared.key.GroupKey.{GroupKey};
 ghost use Rattle.ug_events.specs.Events.{Happening, ComesUp, IsEvent};

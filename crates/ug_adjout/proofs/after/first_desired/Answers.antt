@@ -2,7 +2,7 @@ use Rattle.std.proofs.Common.{slice_get, sym, ap, ◌∙◌}
 use Rattle.std.specs.Option.{option_copied}
 use Rattle.std.specs.BTreeMap.Range.{entries_between}
 use Rattle.std.specs.declared.ops.Bound.TheVariants.{Unbounded}
-use Rattle.ug_adjout_rules.specs.Tables.{rows_after}
+use Rattle.ug_adjout.specs.Tables.{rows_after}
 use Rattle.ug_adjout.specs.Seats.{seat_at, row_of}
 use Rattle.ug_adjout.specs.Stored.{of_row, desired_of}
 use Rattle.ug_adjout.proofs.Rest.{first_after, projected_twice}

@@ -1,6 +1,6 @@
 use Rattle.std.proofs.Common.{◌≡◌, slice_get}
 use Rattle.std.specs.Option.{option_copied}
-use Rattle.ug_adjout_rules.specs.Tables.{rows_after}
+use Rattle.ug_adjout.specs.Tables.{rows_after}
 use Rattle.ug_adjout.specs.Stored.{projected, of_row, formatted_of}
 use Rattle.ug_adjout.specs.Seats.{seat_at, row_of, rows_by}
 use Rattle.ug_adjout.proofs.after.first_formatted.Given as goal

@@ -1,5 +1,5 @@
 use Rattle.std.proofs.Common.{◌≡◌, ◌++◌}
-use Rattle.ug_adjout_rules.specs.Tables.{IsTable}
+use Rattle.ug_adjout.specs.Tables.{IsTable}
 use Rattle.ug_adjout.proofs.copied.copied.Given as goal
 
 abbrev pub invariant-loop-key : goal.invariant-loop-key

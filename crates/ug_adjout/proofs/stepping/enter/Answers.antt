@@ -1,7 +1,7 @@
 use Rattle.std.proofs.Common.{rules, ◌≡◌, None, sym, ap, ◌∙◌}
 use Rattle.std.specs.BTreeMap.Entry.{entry_map_ref, map_without_entry}
-use Rattle.ug_adjout_rules.specs.Tables.{value_at}
-use Rattle.ug_adjout_rules.specs.TableLaws.{with_value-same}
+use Rattle.ug_adjout.specs.Tables.{value_at}
+use Rattle.ug_adjout.specs.TableLaws.{with_value-same}
 use Rattle.ug_adjout.proofs.stepping.enter.Goals as goal
 
 pub returns-in-Err-clause-err_index : goal.returns-in-Err-clause-err_index

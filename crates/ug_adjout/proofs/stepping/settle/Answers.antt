@@ -1,6 +1,6 @@
 use Rattle.std.proofs.Common.{Some, sym, ap, ◌∙◌}
-use Rattle.ug_adjout_rules.specs.Tables.{with_value}
-use Rattle.ug_adjout_rules.specs.TableLaws.{with_value-same}
+use Rattle.ug_adjout.specs.Tables.{with_value}
+use Rattle.ug_adjout.specs.TableLaws.{with_value-same}
 use Rattle.ug_adjout.specs.Seats.{handle_with}
 use Rattle.ug_adjout.proofs.stepping.settle.Goals as goal
 

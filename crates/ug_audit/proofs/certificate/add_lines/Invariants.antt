@@ -1,6 +1,6 @@
 use Rattle.std.proofs.Common.{[], ◌++◌}
 use Rattle.std.specs.String.{string_bytes}
-use Rattle.ug_verdict.specs.Climbed.{HandedOut, keys_left}
+use Rattle.ug_hearing.specs.Climbed.{HandedOut, keys_left}
 use Rattle.ug_audit.specs.Certified.{HasAdded}
 use Rattle.ug_audit.proofs.certificate.add_lines.Given as goal
 

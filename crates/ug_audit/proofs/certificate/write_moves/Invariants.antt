@@ -1,7 +1,7 @@
 use Rattle.std.proofs.Common.{◌≡◌, ◌++◌, drop, map}
 use Rattle.std.specs.String.{string_bytes}
 use Rattle.std.specs.List.{flat_map}
-use Rattle.ug_verdict.specs.Climbed.{shift_of}
+use Rattle.ug_hearing.specs.Climbed.{shift_of}
 use Rattle.ug_audit.specs.Texts.{shift_text}
 use Rattle.ug_audit.proofs.certificate.write_moves.Given as goal
 

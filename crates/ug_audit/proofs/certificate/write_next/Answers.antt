@@ -2,8 +2,8 @@ use Rattle.std.proofs.Common.{◌++◌, ◌∙◌, List, Option, refl, ap, subst
 use Rattle.std.specs.Prelude.{◌<◌, IfSome}
 use Rattle.std.specs.String.{string_bytes}
 use Rattle.ug_types.specs.declared.key.Key.{Key}
-use Rattle.ug_verdict.specs.declared.climbs.Move.{Move}
-use Rattle.ug_verdict.specs.Climbed.{climb_with, keys_left, GoesOn}
+use Rattle.ug_hearing.specs.declared.climbs.Move.{Move}
+use Rattle.ug_hearing.specs.Climbed.{climb_with, keys_left, GoesOn}
 use Rattle.ug_audit.specs.Texts.{climb_text}
 use Rattle.ug_audit.proofs.certificate.write_next.Goals as goal
 

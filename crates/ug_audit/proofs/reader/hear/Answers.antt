@@ -1,6 +1,6 @@
 use Rattle.std.proofs.Common.{[], sym, subst}
 use Rattle.ug_pieces.specs.ReadingLaws.{TakesFront-none}
-use Rattle.ug_verdict.specs.declared.session.Session.{Session}
+use Rattle.ug_hearing.specs.declared.session.Session.{Session}
 use Rattle.ug_audit.specs.Heard.{HasHeard}
 use Rattle.ug_audit.specs.Verdicts.{IsVerdictOn, most_bytes}
 use Rattle.ug_audit.proofs.Halting.{stop_of, same_of}

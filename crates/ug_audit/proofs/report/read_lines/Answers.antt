@@ -2,9 +2,9 @@ use Rattle.std.proofs.Common.{refl, ap, subst, ◌∙◌}
 use Rattle.ug_pieces.specs.Pieces.{HasRead}
 use Rattle.ug_pieces.specs.declared.halt.Halt.{Halt}
 use Rattle.ug_pieces.specs.declared.halt.Halt.TheVariants as halts
-use Rattle.ug_report_reader.specs.declared.stop.Stop.{Stop}
-use Rattle.ug_report_reader.specs.declared.stop.Stop.TheVariants as stops
-use Rattle.ug_report_reader.specs.Reading.{IsReportHalt}
+use Rattle.ug_audit_rules.specs.declared.stop.Stop.{Stop}
+use Rattle.ug_audit_rules.specs.declared.stop.Stop.TheVariants as stops
+use Rattle.ug_audit_rules.specs.Reading.{IsReportHalt}
 use Rattle.ug_audit.proofs.FilesTold.{named_as}
 use Rattle.ug_audit.proofs.Seen.{told_whole, told_until, told_long, told_many, told_unclear, told_unpicked}
 use Rattle.ug_audit.proofs.report.read_lines.Goals as goal

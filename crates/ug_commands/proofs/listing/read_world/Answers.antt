@@ -1,6 +1,6 @@
 use Rattle.std.proofs.Common.{Err, subst, sym, ◌∙◌, ap}
-use Rattle.ug_fields.specs.Gives.{Tells}
-use Rattle.ug_fields.specs.Reads.{fault_of}
+use Rattle.ug_config.specs.Gives.{Tells}
+use Rattle.ug_config.specs.Reads.{fault_of}
 use Rattle.ug_config.specs.Worlds.{config}
 use Rattle.ug_commands.specs.Grouped.{most_bytes}
 use Rattle.ug_commands.proofs.Whole.{wholly, fault_is}

@@ -1,6 +1,6 @@
 use Rattle.std.specs.Prelude.{position, slice_index_or}
 use Rattle.std.proofs.Common.{sym, subst, ap, ◌∙◌, ℕ, List}
-use Rattle.ug_live.specs.Spread.{numbered}
+use Rattle.ug_queue.specs.Spread.{numbered}
 use Rattle.ug_group_rules.specs.Packets.{same_group}
 use Rattle.ug_groups.specs.declared.entry.Entry.{Entry}
 use Rattle.ug_groups.specs.Entries.{key_of, IsClass}

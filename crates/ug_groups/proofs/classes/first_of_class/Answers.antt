@@ -1,6 +1,6 @@
 use Rattle.std.proofs.Common.{◌≡◌, ℕ, ◌==◌, List, Option, drop, ap, ◌∙◌, arith}
 use Rattle.std.specs.Prelude.{position}
-use Rattle.ug_live.specs.Spread.{numbered}
+use Rattle.ug_queue.specs.Spread.{numbered}
 use Rattle.ug_groups.specs.declared.entry.Entry.{Entry}
 use Rattle.ug_groups.specs.Scans.{first_of, number_at}
 use Rattle.ug_groups.proofs.Scanned.{number_first_from}

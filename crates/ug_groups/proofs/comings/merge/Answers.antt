@@ -2,7 +2,7 @@ use Rattle.std.specs.Prelude.{None, IfSome}
 use Rattle.std.proofs.Common.{◌≡◌, refl, sym, subst, ap, ◌∙◌, slice_set, Some}
 use Rattle.ug_intern.specs.Pools.{Pooled}
 use Rattle.ug_types.specs.declared.route.OutAttrs.{OutAttrs}
-use Rattle.ug_live.specs.Spread.{value_of}
+use Rattle.ug_queue.specs.Spread.{value_of}
 use Rattle.ug_queue.specs.Queues.{IsMember, place_of}
 use Rattle.ug_groups.specs.Holders.{IsCounted}
 use Rattle.ug_groups.specs.Subgroups.{Grouped}

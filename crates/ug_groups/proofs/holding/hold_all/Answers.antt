@@ -1,6 +1,6 @@
 use Rattle.std.specs.Prelude.{slice_get}
 use Rattle.std.proofs.Common.{sym, ap, ◌∙◌}
-use Rattle.ug_adjout_rules.specs.Tables.{rows_after}
+use Rattle.ug_adjout.specs.Tables.{rows_after}
 use Rattle.ug_groups.specs.Holders.{rows_of}
 use Rattle.ug_groups.proofs.TableHolders.{held_next, one_held, shorter, all_held}
 use Rattle.ug_groups.proofs.Holders.{used_live}

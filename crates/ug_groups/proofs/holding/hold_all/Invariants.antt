@@ -1,5 +1,5 @@
 use Rattle.std.proofs.Common.{length}
-use Rattle.ug_adjout_rules.specs.Tables.{rows_after}
+use Rattle.ug_adjout.specs.Tables.{rows_after}
 use Rattle.ug_groups.specs.Holders.{rows_of}
 use Rattle.ug_groups.proofs.TableHolders.{IsHolding}
 use Rattle.ug_groups.proofs.holding.hold_all.Given as goal

@@ -1,6 +1,6 @@
 use Rattle.std.specs.Prelude.{slice_get}
 use Rattle.std.proofs.Common.{sym, ap, ◌∙◌}
-use Rattle.ug_adjout_rules.specs.Tables.{rows_after}
+use Rattle.ug_adjout.specs.Tables.{rows_after}
 use Rattle.ug_groups.specs.Holders.{rows_of}
 use Rattle.ug_groups.proofs.TableHolders.{freed_next, one_freed, shorter_freed, all_freed}
 use Rattle.ug_groups.proofs.Holders.{used_live}

@@ -1,5 +1,5 @@
 use Rattle.std.proofs.Common.{length}
-use Rattle.ug_adjout_rules.specs.Tables.{rows_after}
+use Rattle.ug_adjout.specs.Tables.{rows_after}
 use Rattle.ug_groups.specs.Holders.{rows_of}
 use Rattle.ug_groups.proofs.TableHolders.{IsFreeing}
 use Rattle.ug_groups.proofs.holding.let_all_go.Given as goal

@@ -1,8 +1,8 @@
 use Rattle.std.proofs.Common.{subst}
 use Rattle.std.proofs.lemmas.Result.{on_ok_weaker}
-use Rattle.ug_adjout_rules.specs.Tables.{IsTable}
-use Rattle.ug_adjout_rules.specs.Pending.{IsExact}
-use Rattle.ug_adjout_rules.specs.Desiring.{AreForcedShown}
+use Rattle.ug_adjout.specs.Tables.{IsTable}
+use Rattle.ug_adjout.specs.Pending.{IsExact}
+use Rattle.ug_adjout.specs.Desiring.{AreForcedShown}
 use Rattle.ug_pack.specs.Ready.{key_order}
 use Rattle.ug_group_rules.specs.Packets.{same_out}
 use Rattle.ug_groups.specs.declared.entry.Entry.{Entry}

@@ -3,7 +3,7 @@ use Rattle.std.proofs.Common.{sym, subst, ap, ◌∙◌}
 use Rattle.std.proofs.lemmas.Result.{on_ok_weaker}
 use Rattle.ug_types.specs.declared.route.OutAttrs.{OutAttrs}
 use Rattle.ug_pack.specs.Ready.{key_order}
-use Rattle.ug_adjout_rules.specs.Tables.{value_at}
+use Rattle.ug_adjout.specs.Tables.{value_at}
 use Rattle.ug_groups.specs.Values.{valued_by}
 use Rattle.ug_groups.specs.Standings.{desiring}
 use Rattle.ug_groups.proofs.Holders.{desired_used}

@@ -3,7 +3,7 @@ use Rattle.std.proofs.Common.{◌≡◌, sym, subst}
 use Rattle.ug_types.specs.declared.route.OutAttrs.{OutAttrs}
 use Rattle.ug_intern.specs.Pools.{Pooled}
 use Rattle.ug_pack.specs.Ready.{key_order}
-use Rattle.ug_adjout_rules.specs.Tables.{value_at}
+use Rattle.ug_adjout.specs.Tables.{value_at}
 use Rattle.ug_groups.specs.Standings.{desiring}
 use Rattle.ug_groups.specs.Rows.{with_sub}
 use Rattle.ug_groups.specs.Entries.{Entries, key_of, IsKept}

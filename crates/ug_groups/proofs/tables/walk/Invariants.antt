@@ -1,5 +1,5 @@
 use Rattle.std.specs.Prelude.{ℕ, Option}
-use Rattle.ug_live.specs.Spread.{value_of}
+use Rattle.ug_queue.specs.Spread.{value_of}
 use Rattle.ug_groups.specs.Entries.{IsKept}
 use Rattle.ug_groups.proofs.WalkSteps.{left_of}
 use Rattle.ug_groups.proofs.WalkTables.{IsWalking, desired_of}

@@ -3,7 +3,7 @@ use Rattle.ug_types.specs.declared.family.Family.{Family}
 use Rattle.ug_types.specs.Keys.{weight_of}
 use Rattle.ug_message.specs.Spellable.{are_of_family}
 use Rattle.ug_update.specs.Updates.{weight_of_all}
-use Rattle.ug_adjout_rules.specs.Formatting.{fitting, alike}
+use Rattle.ug_adjout.specs.Formatting.{fitting, alike}
 use Rattle.ug_pack.specs.Rooms.{room_beside, announcement_bytes}
 use Rattle.ug_pack.specs.Ready.{key_order, IsKeyOf}
 use Rattle.ug_pack.proofs.Fits.{beside_fits, beside_least}

@@ -2,7 +2,7 @@ use Rattle.std.proofs.Common.{◌≡◌, ℕ, Bool, List, Some, sym, ap, subst, 
 use Rattle.ug_types.specs.declared.family.Family.{Family}
 use Rattle.ug_types.specs.declared.key.Key.{Key}
 use Rattle.ug_types.specs.Keys.{weight_of}
-use Rattle.ug_adjout_rules.specs.Formatting.{Due, fitting, withdrawals}
+use Rattle.ug_adjout.specs.Formatting.{Due, fitting, withdrawals}
 use Rattle.ug_intern.specs.Pools.{held, value_of}
 use Rattle.ug_pack.specs.Rooms.{room}
 use Rattle.ug_pack.specs.Ready.{key_order, IsKeyOf}

@@ -4,9 +4,9 @@ use Rattle.ug_types.specs.declared.family.Family.{Family}
 use Rattle.ug_types.specs.declared.key.Key.{Key}
 use Rattle.ug_types.specs.declared.route.OutAttrs.{OutAttrs}
 use Rattle.ug_types.specs.Keys.{weight_of}
-use Rattle.ug_adjout_rules.specs.Tables.{has, value_at}
-use Rattle.ug_adjout_rules.specs.Pending.{AdjRibOut}
-use Rattle.ug_adjout_rules.specs.Formatting.{Due, fitting, announcements, alike, value_of_first}
+use Rattle.ug_adjout.specs.Tables.{has, value_at}
+use Rattle.ug_adjout.specs.Pending.{AdjRibOut}
+use Rattle.ug_adjout.specs.Formatting.{Due, fitting, announcements, alike, value_of_first}
 use Rattle.ug_intern.specs.Pools.{Pooled, Held, held, value_of}
 use Rattle.ug_pack.specs.Rooms.{room, room_beside}
 use Rattle.ug_pack.specs.Ready.{key_order, IsKeyOf, IsSendable, IsLive, IsReady}

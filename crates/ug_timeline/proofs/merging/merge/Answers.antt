@@ -1,8 +1,8 @@
 use Rattle.std.proofs.Common.{ℕ, List, Option, refl, sym, ◌∙◌, ap, subst}
 use Rattle.std.specs.Prelude.{option_copied, false, None}
 use Rattle.ug_types.specs.declared.route.PeerEnds.{PeerEnds}
-use Rattle.ug_climb.specs.declared.change.Change.{Change}
-use Rattle.ug_climb.specs.Pasts.{Value}
+use Rattle.ug_hearing.specs.declared.change.Change.{Change}
+use Rattle.ug_hearing.specs.Pasts.{Value}
 use Rattle.ug_hearing.specs.Logs.{AddsChange}
 use Rattle.ug_timeline.specs.Merges.{told_if, IsLeast}
 use Rattle.ug_timeline.proofs.MergedChanges.{IsMergedTo, merge-begins, merge-goes-on, merge-ends, merge-shrinks}

@@ -1,6 +1,6 @@
 use Rattle.std.proofs.Common.{◌≡◌, ◌+◌, List, length}
 use Rattle.std.specs.Prelude.{option_copied}
-use Rattle.ug_climb.specs.Pasts.{Value}
+use Rattle.ug_hearing.specs.Pasts.{Value}
 use Rattle.ug_timeline.specs.Held.{IsRising}
 use Rattle.ug_timeline.specs.Merges.{IsMerged}
 use Rattle.ug_timeline.proofs.MergedChanges.{IsMergedTo}

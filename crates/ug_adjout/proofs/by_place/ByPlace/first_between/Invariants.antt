@@ -1,6 +1,6 @@
 use Rattle.std.proofs.Common.{◌≡◌, ◌<◌, ◌≤◌, ℕ, None}
 use Rattle.std.specs.Ordering.{nat_cmp}
-use Rattle.ug_adjout_rules.specs.Tables.{value_at}
+use Rattle.ug_adjout.specs.Tables.{value_at}
 use Rattle.ug_adjout.proofs.by_place.ByPlace.first_between.Given as goal
 
 -- no place up to this one has a value

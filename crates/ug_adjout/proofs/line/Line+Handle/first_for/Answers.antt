@@ -1,6 +1,6 @@
 use Rattle.std.proofs.Common.{◌≡◌, ◌-◌, Bool, true, false, not, nat_le, sym, ap, ◌∙◌, refl, arith}
 use Rattle.std.proofs.lemmas.Bool.Decides.{nat_tests}
-use Rattle.ug_adjout_rules.specs.Formatting.{fitting}
+use Rattle.ug_adjout.specs.Formatting.{fitting}
 use Rattle.ug_adjout.specs.Seats.{seat_at}
 use Rattle.ug_adjout.proofs.ByValue.{keys_by_value, taken}
 use Rattle.ug_adjout.proofs.Handles.{keys_at, named_keys_for}

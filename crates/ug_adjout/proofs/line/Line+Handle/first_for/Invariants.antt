@@ -1,5 +1,5 @@
 use Rattle.std.proofs.Common.{◌≡◌, ◌++◌, map}
-use Rattle.ug_adjout_rules.specs.Formatting.{fitting}
+use Rattle.ug_adjout.specs.Formatting.{fitting}
 use Rattle.ug_adjout.specs.Places.{of_value}
 use Rattle.ug_adjout.specs.Seats.{seat_at, named}
 use Rattle.ug_adjout.specs.Waits.{keys_for}

@@ -1,6 +1,6 @@
 use Rattle.std.proofs.Common.{◌≡◌, None, Some, refl, sym, ap, ◌∙◌}
 use Rattle.std.specs.Ordering.{nat_cmp}
-use Rattle.ug_adjout_rules.specs.Tables.{with_value}
+use Rattle.ug_adjout.specs.Tables.{with_value}
 use Rattle.ug_adjout.specs.Places.{slot_total}
 use Rattle.ug_adjout.proofs.Steps.{put_back}
 use Rattle.ug_adjout.proofs.Slots.{slot, slot_exact, indexed_added, free_slot}

@@ -3,8 +3,8 @@ use Rattle.std.specs.Ordering.{nat_cmp}
 use Rattle.std.specs.Cmp.{nat_cmp_total}
 use Rattle.std.specs.FinMap.{nat_cmp-IsAntisymmetric}
 use Rattle.std.proofs.lemmas.Bool.{cond-false}
-use Rattle.ug_adjout_rules.specs.Tables.{IsTable}
-use Rattle.ug_adjout_rules.specs.TableLaws.{with_value-same}
+use Rattle.ug_adjout.specs.Tables.{IsTable}
+use Rattle.ug_adjout.specs.TableLaws.{with_value-same}
 use Rattle.ug_adjout.specs.Places.{slot_total}
 use Rattle.ug_adjout.proofs.Steps.{put_back}
 use Rattle.ug_adjout.proofs.Slots.{slot, slot_exact, same_value, indexed_moved, free_slot}

@@ -1,6 +1,6 @@
 use Rattle.std.proofs.Common.{subst, arith}
 use Rattle.std.specs.Ordering.{nat_cmp}
-use Rattle.ug_adjout_rules.specs.Tables.{IsTable}
+use Rattle.ug_adjout.specs.Tables.{IsTable}
 use Rattle.ug_adjout.proofs.FirstFrom.{found, no_withdrawal, first_of_all, withdrawal_first, announcement_first}
 use Rattle.ug_adjout.proofs.line.Line.first_from.Goals as goal
 

@@ -1,5 +1,5 @@
 use Rattle.std.proofs.Common.{refl, sym, ap, subst, ◌∙◌}
-use Rattle.ug_adjout_rules.specs.Tables.{value_at, with_value}
+use Rattle.ug_adjout.specs.Tables.{value_at, with_value}
 use Rattle.ug_adjout.specs.declared.step.Step.TheVariants.{Format}
 use Rattle.ug_adjout.specs.Seats.{HaveRows}
 use Rattle.ug_adjout.specs.Stepped.{known, stepped, lined}

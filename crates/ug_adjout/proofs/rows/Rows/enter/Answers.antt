@@ -1,6 +1,6 @@
 use Rattle.std.proofs.Common.{ℕ, is_some, false, Some, None, refl, sym, ap, subst, ◌∙◌}
 use Rattle.std.specs.Prelude.{if◌then◌else◌}
-use Rattle.ug_adjout_rules.specs.Tables.{with_value}
+use Rattle.ug_adjout.specs.Tables.{with_value}
 use Rattle.ug_adjout.specs.Seats.{seat_at, rows_by, named}
 use Rattle.ug_adjout.specs.Stepped.{known, stepped, lined, IsReady}
 use Rattle.ug_adjout.specs.Stored.{formatted_of, mark_of, of_row}

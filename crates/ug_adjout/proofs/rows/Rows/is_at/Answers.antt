@@ -1,6 +1,6 @@
 use Rattle.std.proofs.Common.{Some, sym, ap, ◌∙◌}
 use Rattle.std.specs.Ordering.{is_eq}
-use Rattle.ug_adjout_rules.specs.TableLaws.{one_key}
+use Rattle.ug_adjout.specs.TableLaws.{one_key}
 use Rattle.ug_adjout.specs.Seats.{seat_at}
 use Rattle.ug_adjout.proofs.Seated.{only_handle}
 use Rattle.ug_adjout.proofs.rows.Rows.is_at.Goals as goal

@@ -1,7 +1,7 @@
 use Rattle.std.proofs.Common.{refl, sym, ap, ◌∙◌}
 use Rattle.std.specs.BTreeMap.{is_at}
-use Rattle.ug_adjout_rules.specs.Tables.{with_value}
-use Rattle.ug_adjout_rules.specs.TableLaws.{removed_nothing}
+use Rattle.ug_adjout.specs.Tables.{with_value}
+use Rattle.ug_adjout.specs.TableLaws.{removed_nothing}
 use Rattle.ug_adjout.specs.Seats.{rows_in}
 use Rattle.ug_adjout.specs.Stepped.{known, stepped}
 use Rattle.ug_adjout.proofs.Stepped.{makes_none}

@@ -1,5 +1,5 @@
 use Rattle.std.proofs.Common.{◌<◌, is_some, Some, refl, sym, ap, subst, ◌∙◌}
-use Rattle.ug_adjout_rules.specs.Tables.{with_value}
+use Rattle.ug_adjout.specs.Tables.{with_value}
 use Rattle.ug_adjout.specs.Seats.{seat_at, row_of, rows_by, named, HaveRows}
 use Rattle.ug_adjout.specs.Stepped.{known, stepped, lined, IsReady}
 use Rattle.ug_adjout.specs.Stored.{formatted_of, mark_of, of_row}

@@ -2,7 +2,7 @@ use Rattle.std.proofs.Common.{is_some, true, Some, sym, ap, subst, ◌∙◌}
 use Rattle.std.specs.BTreeMap.{insert_entry}
 use Rattle.std.specs.Cmp.{nat_cmp_total}
 use Rattle.std.specs.FinMap.{nat_cmp-IsAntisymmetric}
-use Rattle.ug_adjout_rules.specs.TableLaws.{with_value-same}
+use Rattle.ug_adjout.specs.TableLaws.{with_value-same}
 use Rattle.ug_adjout.specs.Stored.{IsStored, adj_of, with_change}
 use Rattle.ug_adjout.proofs.Forced.{no_row, force_idle, force_waiting}
 use Rattle.ug_adjout.proofs.table.Table.force.Goals as goal

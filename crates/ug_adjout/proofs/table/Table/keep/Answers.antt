@@ -2,7 +2,7 @@ use Rattle.std.proofs.Common.{refl, inl, Some, subst}
 use Rattle.std.specs.BTreeMap.{insert_entry}
 use Rattle.std.specs.Cmp.{nat_cmp_total}
 use Rattle.std.specs.FinMap.{nat_cmp-IsAntisymmetric}
-use Rattle.ug_adjout_rules.specs.TableLaws.{with_value-same}
+use Rattle.ug_adjout.specs.TableLaws.{with_value-same}
 use Rattle.ug_adjout.specs.Stored.{IsStored, with_change}
 use Rattle.ug_adjout.proofs.Steps.{stored, agree_listed, place_before, waits_there}
 use Rattle.ug_adjout.proofs.table.Table.keep.Goals as goal

@@ -1,5 +1,5 @@
 use Rattle.std.proofs.Common.{sym, ap, ◌∙◌}
-use Rattle.ug_adjout_rules.specs.Tables.{value_at}
+use Rattle.ug_adjout.specs.Tables.{value_at}
 use Rattle.ug_adjout.specs.Stored.{desired_of}
 use Rattle.ug_adjout.specs.Stepped.{known}
 use Rattle.ug_adjout.proofs.Views.{desired_at}

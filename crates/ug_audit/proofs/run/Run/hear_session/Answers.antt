@@ -1,6 +1,6 @@
 use Rattle.std.proofs.Common.{ap, subst, sym, refl, List, ℕ}
 use Rattle.ug_edge.specs.Told.{file_told}
-use Rattle.ug_verdict.specs.declared.session.Session.{Session}
+use Rattle.ug_hearing.specs.declared.session.Session.{Session}
 use Rattle.ug_audit.specs.Asked.{IsAsked}
 use Rattle.ug_audit.specs.Auditing.{worlds_of}
 use Rattle.ug_audit.specs.Stopping.{last_in}

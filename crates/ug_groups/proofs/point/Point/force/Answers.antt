@@ -1,5 +1,5 @@
 use Rattle.std.proofs.Common.{ap, ◌∙◌, nat_eq}
-use Rattle.ug_adjout_rules.specs.Pending.{with_all_forced}
+use Rattle.ug_adjout.specs.Pending.{with_all_forced}
 use Rattle.ug_pack.specs.Ready.{key_order}
 use Rattle.ug_groups.specs.FamilyRibs.{FamilyRib}
 use Rattle.ug_groups.proofs.KeptRibs.{kept_as, kept_by, kept_nothing, kept_forced}

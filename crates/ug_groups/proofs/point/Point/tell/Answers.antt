@@ -1,5 +1,5 @@
 use Rattle.std.proofs.Common.{sym, subst, nat_eq}
-use Rattle.ug_adjout_rules.specs.Pending.{with_all_formatted}
+use Rattle.ug_adjout.specs.Pending.{with_all_formatted}
 use Rattle.ug_pack.specs.Ready.{key_order}
 use Rattle.ug_types.specs.declared.family.Family.{Family}
 use Rattle.ug_groups.specs.FamilyRibs.{AreDue}

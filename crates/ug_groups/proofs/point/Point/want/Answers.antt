@@ -1,5 +1,5 @@
 use Rattle.std.proofs.Common.{sym, subst, nat_eq}
-use Rattle.ug_adjout_rules.specs.Pending.{with_desired}
+use Rattle.ug_adjout.specs.Pending.{with_desired}
 use Rattle.ug_pack.specs.Ready.{key_order, IsKeyOf}
 use Rattle.ug_groups.specs.Standings.{Standing}
 use Rattle.ug_groups.proofs.KeptRibs.{kept_by, kept_desired}

@@ -2,7 +2,7 @@ use Rattle.std.proofs.Common.{◌≡◌, suc, Bool, List, [], length, None, opti
 use Rattle.std.specs.Prelude.{◌&&◌, not}
 use Rattle.ug_types.specs.declared.key.Key.{Key}
 use Rattle.ug_types.specs.Messages.{changes_of}
-use Rattle.ug_table_rules.specs.Tables.{among}
+use Rattle.ug_message.specs.Tables.{among}
 use Rattle.ug_hearing.proofs.Among.{neither}
 use Rattle.ug_hearing.proofs.Retold.{passed-as}
 use Rattle.ug_hearing.proofs.Taking.{taken}

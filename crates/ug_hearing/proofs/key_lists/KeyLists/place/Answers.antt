@@ -2,7 +2,7 @@ use Rattle.std.proofs.Common.{List, sym, ◌∙◌, ap, subst}
 use Rattle.std.specs.Prelude.{IfSome}
 use Rattle.std.specs.Map.{keys_of}
 use Rattle.ug_types.specs.declared.key.Key.{Key}
-use Rattle.ug_table_rules.specs.Tables.{among}
+use Rattle.ug_message.specs.Tables.{among}
 use Rattle.ug_hearing.specs.Keyed.{IsPlaceOf}
 use Rattle.ug_hearing.proofs.Paired.{keys-paired, absent-paired, none_map}
 use Rattle.ug_hearing.proofs.key_lists.KeyLists.place.Goals as goal

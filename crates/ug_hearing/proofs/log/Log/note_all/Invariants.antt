@@ -1,5 +1,5 @@
 use Rattle.std.proofs.Common.{◌≡◌, List, length, map, take}
-use Rattle.ug_table_rules.specs.Tables.{Table}
+use Rattle.ug_message.specs.Tables.{Table}
 use Rattle.ug_hearing.specs.Logs.{IsLog}
 use Rattle.ug_hearing.proofs.Logged.{IsNotedTo}
 use Rattle.ug_hearing.proofs.log.Log.note_all.Given as goal

@@ -2,7 +2,7 @@ use Rattle.std.proofs.Common.{◌≡◌, false, List, Some, sym, ◌∙◌, ap, 
 use Rattle.std.specs.Prelude.{if◌then◌else◌}
 use Rattle.ug_types.specs.declared.key.Key.{Key}
 use Rattle.ug_types.specs.Keys.{same_key}
-use Rattle.ug_table_rules.specs.Tables.{among}
+use Rattle.ug_message.specs.Tables.{among}
 use Rattle.ug_hearing.specs.Keyed.{value_for, HasNoneOf, IsPlaceOf}
 use Rattle.ug_hearing.proofs.Held.{held-put, other-put, still-apart, by_result, ok_map}
 use Rattle.ug_hearing.proofs.rows.Rows.put.Goals as goal

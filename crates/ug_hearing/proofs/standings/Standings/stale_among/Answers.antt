@@ -2,7 +2,7 @@ use Rattle.std.proofs.Common.{◌≡◌, ◌+◌, Bool, List, [], ◌∷◌, ◌
 use Rattle.std.specs.Prelude.{◌&&◌}
 use Rattle.std.proofs.lemmas.List.{take_more}
 use Rattle.ug_types.specs.declared.key.Key.{Key}
-use Rattle.ug_table_rules.specs.Tables.{among}
+use Rattle.ug_message.specs.Tables.{among}
 use Rattle.ug_hearing.specs.Heard.{is_stale_in}
 use Rattle.ug_hearing.proofs.Listed.{chosen, unchosen}
 use Rattle.ug_hearing.proofs.standings.Standings.stale_among.Goals.{then-is_stale+in_ok-push, else-is_stale}

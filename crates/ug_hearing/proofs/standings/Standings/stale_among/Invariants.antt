@@ -1,7 +1,7 @@
 use Rattle.std.proofs.Common.{◌≡◌, take}
 use Rattle.std.specs.Prelude.{◌&&◌}
 use Rattle.ug_types.specs.declared.key.Key.{Key}
-use Rattle.ug_table_rules.specs.Tables.{among}
+use Rattle.ug_message.specs.Tables.{among}
 use Rattle.ug_hearing.specs.Heard.{is_stale_in}
 use Rattle.ug_hearing.proofs.standings.Standings.stale_among.Given as goal
 

@@ -1,7 +1,7 @@
 use Rattle.std.proofs.Common.{◌≡◌, ◌+◌, ℕ, Bool, true, false, List, ◌∷◌, [], ◌++◌, take, get_or, option_copied, sym, ◌∙◌, ap, subst, Vec, Global}
 use Rattle.std.proofs.lemmas.List.{take_more}
 use Rattle.ug_types.specs.declared.key.Key.{Key}
-use Rattle.ug_climb.specs.Pasts.{Value}
+use Rattle.ug_hearing.specs.Pasts.{Value}
 use Rattle.ug_hearing.specs.declared.standings.Standings.{Standings}
 use Rattle.ug_hearing.specs.Visits.{IsVisit}
 use Rattle.ug_hearing.specs.Passes.{ArePassed}

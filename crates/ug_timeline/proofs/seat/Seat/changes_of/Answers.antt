@@ -2,7 +2,7 @@ use Rattle.std.proofs.Common.{◌≡◌, ◌∷◌, [], List, length, slice_get,
 use Rattle.std.specs.Map.{keys_of}
 use Rattle.ug_types.specs.declared.key.Key.{Key}
 use Rattle.ug_types.specs.declared.route.PeerEnds.{PeerEnds}
-use Rattle.ug_climb.specs.declared.change.Change.{Change}
+use Rattle.ug_hearing.specs.declared.change.Change.{Change}
 use Rattle.ug_hearing.specs.Keyed.{pairs_of}
 use Rattle.ug_hearing.specs.Courses.{changes_of}
 use Rattle.ug_timeline.specs.declared.since.Since.{Since}

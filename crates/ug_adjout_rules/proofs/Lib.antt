@@ -1,2 +1,0 @@
-pub mod SameTables
-pub mod Desiring

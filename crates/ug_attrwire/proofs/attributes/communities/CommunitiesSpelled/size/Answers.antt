@@ -1,4 +1,0 @@
-use Rattle.ug_attrwire.proofs.attributes.communities.CommunitiesSpelled.size.Goals as goal
-
-pub returns : goal.returns
-returns c = rw (← c.as_slice.ensures) (c.list_size.ensures.size 192 8)

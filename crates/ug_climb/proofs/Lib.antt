@@ -1,3 +1,0 @@
-pub mod Searched
-pub mod GoingOn
-pub mod Glued

@@ -1,3 +1,0 @@
-pub mod Elements
-pub mod Reading
-pub mod Utf8

@@ -1,9 +1,0 @@
-use Rattle.std.proofs.Common.{◌≡◌, map, drop}
-use Rattle.std.specs.List.{list_all}
-use Rattle.toml.specs.View.{view}
-use Rattle.ug_fields.specs.Kinds.{is_table}
-use Rattle.ug_fields.proofs.arrays.are_tables.Given as goal
-
--- the values that are left decide
-abbrev pub invariant-loop-value : goal.invariant-loop-value
-invariant-loop-value l = list_all is_table (map view (drop l.value-index l.values)) ≡ list_all is_table (map view l.values)

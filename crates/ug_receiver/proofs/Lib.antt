@@ -1,4 +1,0 @@
-pub mod Keys
-pub mod Found
-pub mod Kept
-pub mod After

@@ -1,9 +1,0 @@
-use Rattle.std.proofs.Common.{ℕ, List, ◌++◌, length}
-use Rattle.ug_report_reader.specs.Reading.{HasReadTo, IsMid}
-use Rattle.ug_report_reader.proofs.reading.Reading.take_piece.Given as goal
-
-abbrev pub invariant-loop-front : goal.invariant-loop-front
-invariant-loop-front l = (stream : List ℕ) → HasReadTo l.last l.fn.self stream → IsMid l.last l.self (stream ++ l.piece) l.left
-
-abbrev pub decreases-loop-front : goal.decreases-loop-front
-decreases-loop-front l = length l.left

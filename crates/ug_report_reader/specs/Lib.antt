@@ -1,5 +1,0 @@
-pub mod Numbers
-pub mod Kept
-pub mod Told
-pub mod Reading
-pub mod ReadingLaws

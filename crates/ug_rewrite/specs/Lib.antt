@@ -1,2 +1,0 @@
-pub mod NextHops
-pub mod Packets

@@ -1,4 +1,0 @@
-pub mod Marks
-pub mod Contents
-pub mod Kept
-pub mod Crew

@@ -1,4 +1,0 @@
-pub mod Tables
-pub mod Climbing
-pub mod ClimbingLaws
-pub mod Decisions

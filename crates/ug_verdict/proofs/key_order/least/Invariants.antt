@@ -1,6 +1,0 @@
-use Rattle.std.proofs.Common.{take}
-use Rattle.ug_verdict.specs.Least.{IsLeastOf}
-use Rattle.ug_verdict.proofs.key_order.least.Given as goal
-
-abbrev pub invariant-loop-key : goal.invariant-loop-key
-invariant-loop-key l = IsLeastOf (take l.key-index l.keys) l.least

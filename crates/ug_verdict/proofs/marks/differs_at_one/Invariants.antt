@@ -1,5 +1,0 @@
-use Rattle.ug_verdict.specs.Marked.{IsSameAtAll}
-use Rattle.ug_verdict.proofs.marks.differs_at_one.Given as goal
-
-abbrev pub invariant-loop-i : goal.invariant-loop-i
-invariant-loop-i l = IsSameAtAll l.standings.rows l.session.course.changes l.session.course.from l.syncs l.fn.from l.i l.key
