@@ -10,7 +10,7 @@ use Rattle.std.proofs.lemmas.Bool.Decides.{nat_tests}
 use Rattle.ug_queue.specs.Queues.{Queued, is_member, place_of, from_place, rest_of, passed, shed, with_member, without_member, one_on, past_next}
 use Rattle.ug_queue.proofs.Rests.{rests}
 use Rattle.ug_queue.proofs.MemberRests.{members}
-use Rattle.ug_queue.proofs.Cursors.{is_some-mapped}
+use Rattle.ug_queue.proofs.Placed.{is_some-mapped}
 use Rattle.ug_queue.proofs.Members.{itself}
 
 -- numbers that differ

@@ -13,7 +13,7 @@ use Rattle.std.proofs.lemmas.Bool.Decides.{nat_tests}
 use Rattle.ug_queue.specs.Queues.{Queued, is_member, mapped, least_place, seat_all}
 use Rattle.ug_queue.specs.Lines.{place_from, places_from, AreCounted, IsLine}
 use Rattle.ug_queue.proofs.Counts.{standing-remove, standing-insert, standing-move, standing_at_most, member_stands, someone_stands, counted_inside, counted_lower, counted_raise, get_or-more, first_passed, counted_drop}
-use Rattle.ug_queue.proofs.Cursors.{cursor_at, remove_entry-mapped, insert_entry-mapped, keys_of-mapped, places_after}
+use Rattle.ug_queue.proofs.Placed.{cursor_at, remove_entry-mapped, insert_entry-mapped, keys_of-mapped, places_after}
 use Rattle.ug_queue.proofs.Sheds.{place_inside}
 
 pub length-mapped : (f : ℕ → ℕ) (es : List (ℕ × ℕ)) → length (mapped f es) ≡ length es

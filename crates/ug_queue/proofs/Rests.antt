@@ -13,7 +13,7 @@ use Rattle.std.proofs.lemmas.Map.Keys.{IsDistinct-from_sorted}
 use Rattle.std.proofs.lemmas.Map.Entries.{lookup_from_place}
 use Rattle.ug_queue.specs.Queues.{Queued, is_member, least_place, place_of, from_place, rest_of, passed}
 use Rattle.ug_queue.specs.Rests.{RestLaws}
-use Rattle.ug_queue.proofs.Cursors.{lookup-mapped}
+use Rattle.ug_queue.proofs.Placed.{lookup-mapped}
 use Rattle.ug_queue.proofs.Sheds.{rest_from}
 
 least_cases : (n : ℕ) (b : Bool) (x p : ℕ) (es : List (ℕ × ℕ)) (o : Option ℕ) → IfSome o (λ q. least_place n es ≤ q) → IfSome (cond b (Some x) o) (λ q. min x (least_place n es) ≤ q)

@@ -11,7 +11,7 @@ use Rattle.std.proofs.lemmas.Bool.{cases_eq}
 use Rattle.ug_queue.specs.Queues.{Queued, is_member, mapped, least_place, place_of, from_place, rest_of, passed, without_first, shed}
 use Rattle.ug_queue.specs.Lines.{AreCounted}
 use Rattle.ug_queue.proofs.Counts.{member_stands, first_stands, counted_inside}
-use Rattle.ug_queue.proofs.Cursors.{mapped_twice, mapped_same}
+use Rattle.ug_queue.proofs.Placed.{mapped_twice, mapped_same}
 
 least_earlier : (n : ℕ) (es : List (ℕ × ℕ)) → 0 < least_place n es → least_place (n - 1) (mapped (λ p. p - 1) es) ≡ least_place n es - 1
 least_earlier n [] lt = refl

@@ -1,3 +1,4 @@
+pub mod Cursors
 pub mod Lines
 pub mod Queues
 pub mod Rests

@@ -2,6 +2,7 @@
 //! used twice, of which only those that are there take memory.
 #![tactic(auto)]
 
+mod cursors;
 mod laws;
 mod line;
 mod live;

@@ -1,14 +1,14 @@
 //! The packets and the members' cursors, before packets that nobody waits for are dropped.
-ghost use Rattle.std.specs.Prelude.{◌≡◌, ◌+◌, ◌-◌, ◌<◌, ◌≤◌, ◌%◌, ◌^◌, ℕ, length, get_or, slice_get, slice_set, IfOk, OnOk, OnErr, IfErr, IsTrue, ◌↔◌, false, Some, None, IsSome};
-ghost use Rattle.std.specs.Map.{keys_of, lookup};
-ghost use Rattle.std.specs.BTreeMap.{insert_entry};
+ghost use Rattle.std.specs.Prelude.{◌≡◌, ◌+◌, ◌-◌, ◌<◌, ◌≤◌, ◌^◌, ℕ, length, get_or, slice_get, slice_set, IfOk, OnOk, OnErr, IfErr, IsTrue, ◌↔◌, false, Some, None};
+ghost use Rattle.std.specs.Map.{keys_of};
 ghost use Rattle.std.specs.List.Sorted.{IsStrictlySortedBy};
 ghost use Rattle.std.specs.Ordering.{nat_cmp};
 ghost use Rattle.ug_queue.specs.Rests.{IsInside};
-ghost use Rattle.ug_queue.specs.Queues.{empty_queue, with_packet, with_member, without_member, past_next, without_first, place_of, rest_of, is_member, IsMember, passed, standing};
+ghost use Rattle.ug_queue.specs.Queues.{empty_queue, with_packet, with_member, without_member, past_next, without_first, place_of, rest_of, IsMember, passed, standing};
 
+use crate::cursors::Cursors;
 use std::alloc::Global;
-use std::collections::{BTreeMap, VecDeque};
+use std::collections::VecDeque;
 use std::marker::Model;
 use ug_segchain::SegChain;
 use ug_types::{NoMemory, PeerId, PeerList, Sequence};
@@ -20,7 +20,7 @@ pub struct Line<P> {
     packets: SegChain<P>,
     waiting: VecDeque<usize>,
     start: u64,
-    cursors: BTreeMap<PeerId, u64>,
+    cursors: Cursors,
     limit: usize,
 }
 
@@ -31,9 +31,9 @@ impl<P> Model for Line<P> {
 
     ghost Value = { Queued P };
 
-    ghost view = { λ q. record { packets = q.packets.items; places = places_from q.start q.cursors.entries; limit = q.limit } };
+    ghost view = { λ q. record { packets = q.packets.items; places = places_from q.start q.cursors; limit = q.limit } };
 
-    ghost invariant = { λ q. IsLine (length q.packets.items) q.waiting.items q.start q.cursors.entries };
+    ghost invariant = { λ q. IsLine (length q.packets.items) q.waiting.items q.start q.cursors };
 }
 
 /// One member less stands at the place.
@@ -52,22 +52,6 @@ fn raise(waiting: &mut VecDeque<usize>, place: usize)
     ensures { waiting.new.items ≡ slice_set waiting.old.items place (get_or waiting.old.items place 0 + 1) }
 {
     waiting[place] += 1;
-}
-
-/// The member's cursor goes on by one, round the end of 64 bits. Where it was: one search finds it and changes it.
-fn go_on(cursors: &mut BTreeMap<PeerId, u64>, member: PeerId) -> u64
-    requires { IsSome (lookup (is_member member) cursors.old.entries) }
-    ensures was { lookup (is_member member) cursors.old.entries ≡ Some result }
-    ensures entries { cursors.new.entries ≡ insert_entry nat_cmp cursors.old.entries member ((result + 1) % 2 ^ 64) }
-    ensures ordered { IsStrictlySortedBy nat_cmp (keys_of cursors.new.entries) }
-    ensures small { result < 2 ^ 64 }
-{
-    let Some(cursor) = cursors.get_mut(&member) else {
-        unreachable!()
-    };
-    let was = *cursor;
-    *cursor = was.wrapping_add(1);
-    was
 }
 
 /// Makes the place of the front, where there is none yet.
@@ -92,7 +76,7 @@ impl<P> Line<P> {
             packets: SegChain::new(alloc),
             waiting: VecDeque::new(alloc),
             start: 0,
-            cursors: BTreeMap::new(alloc),
+            cursors: Cursors::new(alloc),
             limit,
         }
     }
@@ -124,7 +108,7 @@ impl<P> Line<P> {
         ensures member { IsTrue result ↔ IsMember self.now member }
         ensures none { result ≡ false → place_of self.now member ≡ None }
     {
-        self.cursors.contains_key(&member)
+        self.cursors.has(member)
     }
 
     /// Whether no member of the other is one of this.
@@ -132,7 +116,7 @@ impl<P> Line<P> {
         ensures apart { IsTrue result → (m : ℕ) → IsMember other.now m → place_of self.now m ≡ None }
         ensures meets { result ≡ false → (m : ℕ) × IsMember other.now m × IsMember self.now m }
     {
-        for member in other.cursors.keys() {
+        for (member, _) in other.cursors.entries() {
             if self.has(*member) {
                 return false;
             }
@@ -154,7 +138,7 @@ impl<P> Line<P> {
         ensures sorted { IsStrictlySortedBy nat_cmp (keys_of self.now.places) }
     {
         let mut members = Sequence::new(alloc);
-        for member in self.cursors.keys() {
+        for (member, _) in self.cursors.entries() {
             let Ok(()) = members.push(*member) else {
                 return Err(NoMemory);
             };
@@ -168,10 +152,7 @@ impl<P> Line<P> {
         ensures place { place_of self.now member ≡ Some result }
         ensures inside { result ≤ length self.now.packets }
     {
-        match self.cursors.get(&member) {
-            Some(cursor) => cursor.wrapping_sub(self.start) as usize,
-            None => unreachable!(),
-        }
+        self.cursors.get(member).wrapping_sub(self.start) as usize
     }
 
     /// Members stand at most at the end.
@@ -221,7 +202,7 @@ impl<P> Line<P> {
         ensures { self.new ≡ past_next self.old member }
     {
         let _members = self.cursors.len();
-        let cursor = go_on(&mut self.cursors, member);
+        let cursor = self.cursors.go_on(member);
         let place = cursor.wrapping_sub(self.start) as usize;
         lower(&mut self.waiting, place);
         raise(&mut self.waiting, place + 1);
@@ -233,7 +214,7 @@ impl<P> Line<P> {
         ensures { self.new ≡ without_member self.old member }
     {
         let place = self.place(member);
-        self.cursors.remove(&member);
+        self.cursors.remove(member);
         lower(&mut self.waiting, place);
     }
 

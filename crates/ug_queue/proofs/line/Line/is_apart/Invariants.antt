@@ -1,10 +1,9 @@
 use Rattle.std.specs.Prelude.{None}
 use Rattle.std.specs.Map.{keys_of}
-use Rattle.std.specs.List.{AllByRecursion}
-use Rattle.std.proofs.Common.{◌≡◌}
-use Rattle.ug_queue.specs.Queues.{place_of, IsMember}
+use Rattle.std.proofs.Common.{◌≡◌, ◌<◌, ℕ, get_or}
+use Rattle.ug_queue.specs.Queues.{place_of}
 use Rattle.ug_queue.proofs.line.Line.is_apart.Given as goal
 
 abbrev pub invariant-loop-member : goal.invariant-loop-member
 invariant-loop-member g l =
-    AllByRecursion (IsMember l.other) l.member-iterator × (AllByRecursion (λ m. place_of l.self m ≡ None) l.member-iterator → AllByRecursion (λ m. place_of l.self m ≡ None) (keys_of l.other.places))
+    (keys_of l.member-items ≡ keys_of l.other.places) × ((k : ℕ) → k < l.member-index → place_of l.self (get_or (keys_of l.member-items) k 0) ≡ None)

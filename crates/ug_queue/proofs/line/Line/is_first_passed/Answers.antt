@@ -15,7 +15,7 @@ returns-then-len-eq0 g c = (
 
 pub returns : goal.returns
 returns g c =
-    let n = length c.self.inside.packets.items in let es = places_from c.self.inside.start c.self.inside.cursors.entries in
+    let n = length c.self.inside.packets.items in let es = places_from c.self.inside.start c.self.inside.cursors in
     let some : 0 < n = omega (arith, c.len.ensures, c.if-len-eq0.false) in
     let long : 0 < length c.self.inside.waiting.items = elim (cases_eq (length c.self.inside.waiting.items) 0) [ inl z ↦ absurd (omega (arith, c.self.invariant.fresh z, some)) | inr nz ↦ omega (arith, nz) ] in
     let count : c.index.result.now ≡ standing es 0 = c.index.ensures ∙ get_or_default c.self.inside.waiting.items 0 c.index.result.now 0 long ∙ c.self.invariant.counted 0 in (

@@ -1,6 +1,6 @@
 use Rattle.std.specs.Prelude.{Option, Some, None, IfSome}
-use Rattle.std.proofs.Common.{◌≡◌, ◌≤◌, ℕ, refl, length, sym, ap, ◌∙◌, subst, arith}
-use Rattle.ug_queue.specs.Queues.{place_of, Queued}
+use Rattle.std.proofs.Common.{◌≡◌, ◌≤◌, ℕ, refl, length, subst}
+use Rattle.ug_queue.specs.Queues.{place_of}
 use Rattle.ug_queue.specs.Rests.{IsInside}
 use Rattle.ug_queue.proofs.Kept.{stands_inside}
 use Rattle.ug_queue.proofs.line.Line.know_places.Goals as goal

@@ -2,17 +2,12 @@
 use Rattle.std.proofs.Common.{◌≡◌, ℕ, ◌+◌, ◌-◌, ◌<◌, ◌≤◌, ◌%◌, ◌^◌, Bool, true, false, cond, List, [], ◌∷◌, Option, Some, None, refl, sym, ap, ◌∙◌, subst, arith}
 use Rattle.std.specs.Prelude.{is_some, IsSome}
 use Rattle.std.specs.Option.{option_map}
-use Rattle.std.specs.Map.{lookup, set_value, remove_entry, keys_of}
-use Rattle.std.specs.List.Sorted.{IsStrictlySortedBy}
-use Rattle.std.specs.Ordering.{nat_cmp, is_eq, match_ordering}
+use Rattle.std.specs.Map.{lookup, remove_entry, keys_of}
+use Rattle.std.specs.Ordering.{nat_cmp, match_ordering}
 use Rattle.std.specs.declared.cmp.Ordering.{Ordering}
 use Rattle.std.specs.declared.cmp.Ordering.TheVariants.{Less, Equal, Greater}
 use Rattle.std.specs.BTreeMap.{insert_entry}
-use Rattle.std.proofs.lemmas.Bool.{cond-true, cond-false}
-use Rattle.std.proofs.lemmas.Cmp.{nat_cmp_total}
-use Rattle.std.proofs.lemmas.Map.Entries.{lookup_at_gap}
-use Rattle.std.proofs.lemmas.Map.Keys.{sorted_tail}
-use Rattle.ug_queue.specs.Queues.{mapped, least_place, is_member}
+use Rattle.ug_queue.specs.Queues.{mapped, least_place}
 use Rattle.ug_queue.specs.Lines.{place_from, places_from}
 
 pub cursor_at : (start place : ℕ) → start < 2 ^ 64 → place < 2 ^ 64 → place_from start ((start + place) % 2 ^ 64) ≡ place
@@ -100,24 +95,3 @@ is_some-mapped t f es = ap is_some (lookup-mapped f t es) ∙ kept_some f (looku
 pub none_of : (o : Option ℕ) → is_some o ≡ false → o ≡ None
 none_of None e = refl
 none_of (Some c) e = cc
-
--- ---- a member's cursor is written where it is
-
-at_head : (m : ℕ) (e y : ℕ × ℕ) → Some e ≡ Some y → nat_cmp m e.0 ≡ Less → nat_cmp m y.0 ≡ Less
-at_head m e y is less = cc
-
-written_step : (r : Ordering) (m v : ℕ) (e : ℕ × ℕ) (es written rest : List (ℕ × ℕ)) → nat_cmp m e.0 ≡ r → (r ≡ Less → lookup (is_member m) (e ∷ es) ≡ None)
-    → IsSome (lookup (is_member m) (e ∷ es)) → (IsSome (lookup (is_member m) es) → written ≡ rest)
-    → cond (is_member m e.0) ((e.0, v) ∷ es) (e ∷ written) ≡ match_ordering r ((m, v) ∷ e ∷ es) ((e.0, v) ∷ es) (e ∷ rest)
-written_step Less m v e es written rest at none some h = absurd (let z = subst (λ (o : Option ℕ). IsSome o) (none refl) some in cc)
-written_step Equal m v e es written rest at none some h = cond-true (is_member m e.0) ((e.0, v) ∷ es) (e ∷ written) (ap is_eq at)
-written_step Greater m v e es written rest at none some h =
-    cond-false (is_member m e.0) ((e.0, v) ∷ es) (e ∷ written) (ap is_eq at)
-    ∙ ap (λ l. e ∷ l) (h (subst (λ (o : Option ℕ). IsSome o) (cond-false (is_member m e.0) (Some e.1) (lookup (is_member m) es) (ap is_eq at)) some))
-
-pub written_there : (m v : ℕ) (es : List (ℕ × ℕ)) → IsStrictlySortedBy nat_cmp (keys_of es) → IsSome (lookup (is_member m) es) → set_value (is_member m) es v ≡ insert_entry nat_cmp es m v
-written_there m v [] s some = absurd cc
-written_there m v (e ∷ es) s some =
-    written_step (nat_cmp m e.0) m v e es (set_value (is_member m) es v) (insert_entry nat_cmp es m v) refl
-    (λ less. lookup_at_gap nat_cmp_total m (e ∷ es) 0 s (λ j y lt is. absurd (omega (arith, lt))) (λ y is. at_head m e y is less)) some
-    (written_there m v es (sorted_tail nat_cmp e.0 (keys_of es) s))
