@@ -283,6 +283,15 @@ threads 1
 threads 0
 [ "$said" = 1 ] && note "one thread without workers" ok || note "one thread without workers" "$said threads"
 
+# More than one thread is seen while a selfrun works, which takes half a second.
+"$program" selfrun 1 > report 2> errors &
+said=1
+while [ "$said" = 1 ] && [ -n "$(readlink /proc/$!/exe)" ]; do
+    said=$(ls /proc/$!/task | wc -l)
+done
+wait $!
+[ "$said" -gt 1 ] && note "threads of a selfrun" ok || note "threads of a selfrun" "$said threads"
+
 # ---- what `run` takes at most
 
 head -n 2000000 lines > as-many-lines
