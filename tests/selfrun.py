@@ -6,7 +6,7 @@
                                     peers and up to 2,000 events, with workers and without, whose sessions `check` then reads
 
 Nothing of it is taken from the program: the generator is that of the PCG paper (XSH RR 64/32), the events are drawn as
-crates/ug_gen/specs says, and a peer's rows are counted by the outbound rules for a speaker's own routes, which every peer is sent
+crates/ug_selfrun/specs says, and a peer's rows are counted by the outbound rules for a speaker's own routes, which every peer is sent
 that its policy's list permits.
 """
 import os

@@ -19,11 +19,11 @@ use Rattle.ug_hearing.specs.Breaches as breaches
 use Rattle.ug_hearing.specs.Breaches.{IsOneOf, Unread, Stuck, Amiss, Short, Off, breach_cmp}
 use Rattle.ug_audit_rules.specs.declared.entry.Entry.{Entry}
 use Rattle.ug_audit_rules.specs.Audited.{is_lost_in, marks_in, marks_to, open_table, IsHeardRight, IsFirstBreach}
-use Rattle.ug_audit_rules.proofs.Timelines.{right-by, first-by}
+use Rattle.ug_audit_rules.proofs.InAList.{right-by, first-by}
 use Rattle.ug_hearing.specs.declared.session.Session.{Session}
 use Rattle.ug_hearing.specs.Judged.{IsSession, table_in, last_table}
-use Rattle.ug_timeline.specs.Timelines.{IsSpan, end_of}
-use Rattle.ug_timeline.proofs.Following.{course}
+use Rattle.ug_audit_rules.specs.Timelines.{IsSpan, end_of}
+use Rattle.ug_audit_rules.proofs.Following.{course}
 use Rattle.ug_audit.specs.declared.asked.Asked.{Asked}
 use Rattle.ug_audit.specs.Asked.{IsAsked, IsAimed, AreWithin, EndsWith}
 use Rattle.ug_audit.proofs.Marks.{one-sorted, one-unsorted, one_there, one_of_all, rises}

@@ -12,8 +12,8 @@ use Rattle.ug_audit_rules.specs.Audited.{IsSound, IsAudited, marks_in, is_lost_i
 use Rattle.ug_report.specs.declared.status.Status.{Status}
 use Rattle.ug_report.specs.declared.status.Status.TheVariants as statuses
 use Rattle.ug_report.specs.Statuses.{row_of}
-use Rattle.ug_timeline.specs.Lines.{said_in}
-use Rattle.ug_command_line.specs.Words.{AuditCommand}
+use Rattle.ug_audit_rules.specs.Lines.{said_in}
+use Rattle.ug_commands.specs.Words.{AuditCommand}
 use Rattle.ug_audit.specs.Files.{IsFile}
 use Rattle.ug_audit.specs.Sessions.{SessionOf, sessions_from, sessions_of_peers, sessions_of, file_name, file_of}
 use Rattle.ug_audit.specs.Auditing.{worlds_of, last_of, told_by, StandsFor, HasEvents, HasReport, IsHeard, IsCertified, IsBroken, AreRight, HasHeard, CameTo, IsRight, IsRefuted, IsUnread, IsTooLong, IsStarved, IsUnclear, IsAuditing}

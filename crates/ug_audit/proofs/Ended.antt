@@ -3,7 +3,7 @@ use Rattle.std.proofs.Common.{◌≡◌, ℕ, ◌⊎◌, inl, inr, List, [], ◌
 use Rattle.ug_edge.specs.Told.{FileTold, AppendsPiece}
 use Rattle.ug_pieces.specs.Reporting.{AppendsFront}
 use Rattle.ug_audit.specs.Texts.{unclear_text}
-use Rattle.ug_command_line.specs.Words.{AuditCommand}
+use Rattle.ug_commands.specs.Words.{AuditCommand}
 use Rattle.ug_commands.specs.Files.{AppendsThenStatus}
 use Rattle.ug_report.specs.declared.status.Status.{Status}
 use Rattle.ug_report.specs.declared.status.Status.TheVariants as statuses

@@ -34,8 +34,8 @@ use Rattle.ug_audit.specs.Asked.{IsAsked, IsAimed, AreWithin, EndsWith}
 use Rattle.ug_audit.proofs.Aims.{is_session, is_right, is_first}
 use Rattle.ug_audit.proofs.Worlds.{ends_with}
 use Rattle.ug_edge.specs.Told.{FileTold}
-use Rattle.ug_timeline.specs.Lines.{said_in}
-use Rattle.ug_command_line.specs.Words.{AuditCommand}
+use Rattle.ug_audit_rules.specs.Lines.{said_in}
+use Rattle.ug_commands.specs.Words.{AuditCommand}
 use Rattle.ug_audit.specs.Files.{IsFile}
 use Rattle.ug_audit.specs.Sessions.{SessionOf, file_of}
 use Rattle.ug_audit.specs.Auditing.{worlds_of, last_of, told_by, IsCertified, IsBroken, IsHeard}

@@ -20,9 +20,9 @@ use Rattle.ug_world.specs.Verdicts.{verdict}
 use Rattle.ug_world.specs.After.{after}
 use Rattle.ug_world.specs.Worlds.{judged, world_after, last_world}
 use Rattle.ug_speaker.specs.Owes.{IsOpening}
-use Rattle.ug_timeline.specs.Lines.{said_in}
-use Rattle.ug_timeline.specs.Timelines.{IsFirst}
-use Rattle.ug_timeline.proofs.Naming.{names-after}
+use Rattle.ug_audit_rules.specs.Lines.{said_in}
+use Rattle.ug_audit_rules.specs.Timelines.{IsFirst}
+use Rattle.ug_audit_rules.proofs.Naming.{names-after}
 use Rattle.ug_audit_rules.specs.Told.{most_lines}
 use Rattle.ug_audit.specs.Files.{IsWithin}
 use Rattle.ug_audit.specs.Auditing.{last_of}

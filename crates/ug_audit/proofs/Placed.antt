@@ -20,7 +20,7 @@ use Rattle.ug_audit.specs.Texts.{session_text}
 use Rattle.ug_audit.specs.Certified.{AddsSession}
 use Rattle.ug_audit.specs.declared.asked.Asked.{Asked}
 use Rattle.ug_audit.specs.Asked.{IsAsked, IsAimed, IsAimedBy}
-use Rattle.ug_command_line.specs.Words.{AuditCommand}
+use Rattle.ug_commands.specs.Words.{AuditCommand}
 use Rattle.ug_audit.specs.Files.{IsFile}
 use Rattle.ug_audit.specs.Sessions.{SessionOf, sessions_from, sessions_of, sessions_of_peers, file_name, file_of}
 use Rattle.ug_config.specs.Reads.{Reads}
@@ -29,8 +29,8 @@ use Rattle.ug_audit.specs.Auditing as audits
 use Rattle.ug_audit.specs.declared.last.LastPeer.{LastPeer}
 use Rattle.ug_audit.specs.declared.last.Last.{Last}
 use Rattle.ug_audit.specs.Last.{last_peer, IsLast}
-use Rattle.ug_timeline.specs.Timelines.{end_of}
-use Rattle.ug_timeline.proofs.GroupTables.{which-world, same-one}
+use Rattle.ug_audit_rules.specs.Timelines.{end_of}
+use Rattle.ug_audit_rules.proofs.GroupTables.{which-world, same-one}
 use Rattle.ug_audit.specs.declared.stop.Stop.{Stop}
 use Rattle.ug_audit.specs.declared.stop.Stop.TheVariants as stops
 use Rattle.ug_audit.specs.declared.run.Run.{Run}

@@ -8,7 +8,7 @@ use Rattle.ug_hearing.specs.declared.breach.Breach.{Breach}
 use Rattle.ug_hearing.specs.Breaches.{kind_number}
 use Rattle.ug_audit.specs.Verdicts as verdicts
 use Rattle.ug_audit.specs.Texts.{refuted_text}
-use Rattle.ug_command_line.specs.Words.{AuditCommand}
+use Rattle.ug_commands.specs.Words.{AuditCommand}
 use Rattle.ug_audit.specs.Files.{IsFile, IsPast}
 use Rattle.ug_audit.specs.Sessions.{SessionOf, sessions_of, file_of}
 use Rattle.ug_audit.specs.Auditing.{last_of, StandsFor, HasEvents, HasReport, IsHeard, IsCertified, IsBroken, AreRight, HasHeard, files_before, files_to, CameTo, IsRight}

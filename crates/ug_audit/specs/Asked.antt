@@ -10,7 +10,7 @@ use Rattle.ug_hearing.specs.declared.session.Session.{Session}
 use Rattle.ug_hearing.specs.Breaches.{IsOneOf}
 use Rattle.ug_audit_rules.specs.declared.entry.Entry.{Entry}
 use Rattle.ug_audit_rules.specs.Audited.{is_lost_in, marks_in, marks_to}
-use Rattle.ug_timeline.specs.Timelines.{IsSpan, end_of}
+use Rattle.ug_audit_rules.specs.Timelines.{IsSpan, end_of}
 use Rattle.ug_audit.specs.declared.asked.Asked.{Asked}
 
 -- What the peer should have over these worlds is known, and when its sessions were.

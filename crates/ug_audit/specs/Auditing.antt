@@ -17,10 +17,10 @@ use Rattle.ug_audit_rules.specs.declared.entry.Entry.{Entry}
 use Rattle.ug_audit_rules.specs.Audited.{opened_with, marks_in, is_lost_in, IsHeardRight, IsFirstBreach}
 use Rattle.ug_audit_rules.specs.Reports.{entry_of, entries_of, AreClear}
 use Rattle.ug_audit_rules.specs.Told.{IsFirstUnclear}
-use Rattle.ug_timeline.specs.Lines.{said_in}
+use Rattle.ug_audit_rules.specs.Lines.{said_in}
 use Rattle.ug_audit.specs.Verdicts as verdicts
 use Rattle.ug_audit.specs.Texts.{session_text, refuted_text, unclear_text}
-use Rattle.ug_command_line.specs.Words.{AuditCommand}
+use Rattle.ug_commands.specs.Words.{AuditCommand}
 use Rattle.ug_commands.specs.Files.{IsPartOf, AppendsThenStatus}
 use Rattle.ug_commands.specs.Grouped as configurations
 use Rattle.ug_report.specs.Statuses.{status_text}

@@ -5,8 +5,8 @@ use Rattle.ug_world.specs.declared.peer_state.PeerState.{PeerState}
 use Rattle.ug_world.specs.World.{World}
 use Rattle.ug_config.specs.Worlds as configs
 use Rattle.ug_audit_rules.specs.Audited.{IsAudited}
-use Rattle.ug_timeline.specs.Lines.{said_in}
-use Rattle.ug_command_line.specs.Words.{AuditCommand}
+use Rattle.ug_audit_rules.specs.Lines.{said_in}
+use Rattle.ug_commands.specs.Words.{AuditCommand}
 use Rattle.ug_audit.specs.Sessions.{file_name}
 use Rattle.ug_audit.specs.Auditing.{last_of, told_by}
 

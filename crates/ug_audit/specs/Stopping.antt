@@ -4,8 +4,8 @@ use Rattle.std.specs.String.{string_bytes}
 use Rattle.ug_edge.specs.Told.{FileTold, AppendsAll}
 use Rattle.ug_pieces.specs.Lines.{lines_of, ended_from}
 use Rattle.ug_world.specs.World.{World}
-use Rattle.ug_timeline.specs.Timelines.{IsFirst}
-use Rattle.ug_timeline.specs.Histories.{AreTimelines}
+use Rattle.ug_audit_rules.specs.Timelines.{IsFirst}
+use Rattle.ug_audit_rules.specs.Histories.{AreTimelines}
 use Rattle.ug_hearing.specs.declared.breach.Breach.{Breach}
 use Rattle.ug_hearing.specs.Breaches.{kind_number}
 use Rattle.ug_audit_rules.specs.declared.entry.Entry.{Entry}
@@ -13,8 +13,8 @@ use Rattle.ug_audit_rules.specs.Reports.{entry_of, entries_of, AreClear}
 use Rattle.ug_audit_rules.specs.Told.{TellsAsMuch, IsFirstUnclear}
 use Rattle.ug_audit.specs.Texts.{refuted_text}
 use Rattle.ug_commands.specs.Files.{IsPartOf}
-use Rattle.ug_command_line.specs.Words.{AuditCommand}
-use Rattle.ug_command_line.specs.declared.command.AuditWords.{AuditWords}
+use Rattle.ug_commands.specs.Words.{AuditCommand}
+use Rattle.ug_commands.specs.declared.command.AuditWords.{AuditWords}
 use Rattle.ug_audit.specs.Files.{IsFile, IsWithin, IsPast, lines_within}
 use Rattle.ug_audit.specs.Sessions.{SessionOf}
 use Rattle.ug_audit.specs.Auditing.{worlds_of, last_of, told_by, files_to, StandsFor, HasReport, HasHeard, IsUnread, IsTooLong, IsStarved, IsUnclear, IsRefuted}

@@ -2,14 +2,13 @@
 
 ghost use Rattle.std.specs.Prelude.{◌≡◌, ◌<◌, ◌≤◌, ◌+◌, ◌-◌, List, length, OnOk};
 ghost use Rattle.ug_world.specs.World as worlds;
-ghost use Rattle.ug_timeline.specs.Timelines.{IsTimeline};
+ghost use Rattle.ug_audit_rules.specs.Timelines.{IsTimeline};
 ghost use Rattle.ug_audit.specs.Asked.{IsAsked, IsAimedBy};
 
 use crate::told::{is_lost, marks_to};
 use std::alloc::Global;
-use ug_audit_rules::Entry;
+use ug_audit_rules::{Entry, Timeline};
 use ug_hearing::{Course, Session};
-use ug_timeline::Timeline;
 use ug_types::{NoMemory, PeerId};
 
 /// What is asked of the session of a peer that it aims at, and what it knows of the others.

@@ -15,12 +15,11 @@ use crate::run::Run;
 use crate::settings::read_first;
 use crate::stop::Stop;
 use std::alloc::Global;
-use ug_command_line::AuditWords;
+use ug_audit_rules::history_of;
+use ug_commands::{AuditWords, configurations_open};
 use ug_edge::{Sink, Site, Source};
-use ug_input_laws::configurations_open;
 use ug_pieces::ShortText;
 use ug_report::Status;
-use ug_timeline::history_of;
 use ug_types::NoMemory;
 
 /// Runs `audit`. It reads the configuration, the events and the report of a run, and then its sessions, by peer in configured

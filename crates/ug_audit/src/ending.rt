@@ -7,7 +7,7 @@ ghost use Rattle.ug_hearing.specs.Breaches.{kind_number};
 ghost use Rattle.ug_audit.specs.Texts as texts;
 ghost use Rattle.ug_commands.specs.Files.{AppendsThenStatus};
 ghost use Rattle.ug_report.specs.Statuses.{status_text};
-ghost use Rattle.ug_command_line.specs.Words as words;
+ghost use Rattle.ug_commands.specs.Words as words;
 ghost use Rattle.ug_audit.specs.Auditing.{IsAuditing};
 ghost use Rattle.ug_audit.specs.Stopping.{IsStopped};
 

@@ -10,7 +10,7 @@ ghost use Rattle.ug_audit.specs.Stopping.{said, IsStopped, IsFileStop};
 use crate::picking::pick;
 use crate::stop::Stop;
 use std::alloc::Global;
-use ug_command_line::AuditWords;
+use ug_commands::AuditWords;
 use ug_edge::{Site, Source};
 use ug_pieces::{Halt, count_lines, read_whole};
 use ug_types::{ByteList, NoMemory};

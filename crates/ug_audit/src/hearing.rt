@@ -4,7 +4,7 @@ ghost use Rattle.std.specs.Prelude.{◌≡◌, ◌≤◌, ◌<◌, ◌∷◌, �
 ghost use Rattle.ug_edge.specs.Told.{Rose, file_told, AppendsAll};
 ghost use Rattle.ug_world.specs.declared.peer_state.PeerState as peers;
 ghost use Rattle.ug_audit.specs.Asked.{IsAsked};
-ghost use Rattle.ug_command_line.specs.Words as words;
+ghost use Rattle.ug_commands.specs.Words as words;
 ghost use Rattle.ug_audit.specs.Sessions.{SessionOf, sessions_from, sessions_of};
 ghost use Rattle.ug_audit.specs.Auditing.{worlds_of};
 ghost use Rattle.ug_audit.specs.Stopping.{last_in, IsRun, IsAt, IsStopped};

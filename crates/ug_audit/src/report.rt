@@ -11,7 +11,7 @@ use crate::picking::pick;
 use crate::stop::Stop;
 use std::alloc::Global;
 use ug_audit_rules::{Entry, Stop as LineStop, read_report};
-use ug_command_line::AuditWords;
+use ug_commands::AuditWords;
 use ug_edge::{Site, Source};
 use ug_pieces::Halt;
 use ug_world::World;

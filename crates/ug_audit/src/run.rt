@@ -2,15 +2,14 @@
 
 ghost use Rattle.std.specs.Prelude.{◌≡◌, ◌≤◌, length, IfOk};
 ghost use Rattle.ug_pieces.specs.Lines.{lines_of};
-ghost use Rattle.ug_timeline.specs.Timelines.{IsFirst};
-ghost use Rattle.ug_timeline.specs.Histories.{IsHistory};
+ghost use Rattle.ug_audit_rules.specs.Timelines.{IsFirst};
+ghost use Rattle.ug_audit_rules.specs.Histories.{IsHistory};
 ghost use Rattle.ug_audit.specs.Auditing.{worlds_of, last_of};
 ghost use Rattle.ug_audit.specs.Stopping.{IsRun};
 
 use crate::last::Last;
 use std::alloc::Global;
-use ug_audit_rules::Entry;
-use ug_timeline::{History, Timelines};
+use ug_audit_rules::{Entry, History, Timelines};
 use ug_types::{ByteList, NoMemory};
 use ug_world::World;
 

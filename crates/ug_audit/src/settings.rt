@@ -8,8 +8,7 @@ ghost use Rattle.ug_audit.specs.Stopping.{said, IsStopped};
 use crate::picking::pick;
 use crate::stop::Stop;
 use std::alloc::Global;
-use ug_command_line::AuditWords;
-use ug_commands::{Stop as WorldStop, read_world};
+use ug_commands::{AuditWords, Stop as WorldStop, read_world};
 use ug_edge::{Site, Source};
 use ug_world::World;
 

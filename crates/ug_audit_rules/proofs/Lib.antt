@@ -1,6 +1,6 @@
 pub mod Refuted
 pub mod Named
-pub mod Timelines
+pub mod InAList
 pub mod Digits
 pub mod Places
 pub mod Words
@@ -8,3 +8,18 @@ pub mod Kept
 pub mod Long
 pub mod Between
 pub mod Sourced
+pub mod Touching
+pub mod Naming
+pub mod Spanning
+pub mod Following
+pub mod Coming
+pub mod Replayed
+pub mod Told
+pub mod Holding
+pub mod MergedChanges
+pub mod MergedKeys
+pub mod GroupTables
+pub mod GroupNotes
+pub mod SeatSteps
+pub mod SeatTurns
+pub mod HistorySteps

@@ -5,3 +5,12 @@ pub mod Kept
 pub mod Told
 pub mod Reading
 pub mod ReadingLaws
+pub mod Lines
+pub mod Touched
+pub mod Timelines
+pub mod Standing
+pub mod Held
+pub mod GroupLogs
+pub mod Merges
+pub mod Seats
+pub mod Histories

@@ -8,7 +8,7 @@ use Rattle.ug_pieces.specs.Reporting.{AppendsFront}
 use Rattle.ug_check.specs.Checks.{HasStopped, IsDone, HasEnded, IsReportedUntil}
 use Rattle.ug_check.specs.declared.stop.Stop.{Stop}
 use Rattle.ug_check.specs.declared.stop.Stop.TheVariants as stops
-use Rattle.ug_command_line.specs.Words.{CheckCommand}
+use Rattle.ug_commands.specs.Words.{CheckCommand}
 use Rattle.ug_commands.specs.Files.{IsPartOf, AppendsThenStatus}
 use Rattle.ug_report.specs.Statuses.{status_text}
 use Rattle.ug_commands.specs.Checked.{IsWhole, IsCutShort, AppendsLinesThenStatus, IsChecked}

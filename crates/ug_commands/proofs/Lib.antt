@@ -3,3 +3,11 @@ pub mod Checks
 pub mod Places
 pub mod Whole
 pub mod Listings
+pub mod Rows
+pub mod Steps
+pub mod Agrees
+pub mod Found
+pub mod Configured
+pub mod Opening
+pub mod Requests
+pub mod EventLines

@@ -10,7 +10,7 @@ use Rattle.ug_check.specs.Decoded.{IsDecoded, check_lines}
 use Rattle.ug_check.specs.Checks.{most_bytes, IsCause}
 use Rattle.ug_check.specs.declared.stop.Stop.{Stop}
 use Rattle.ug_check.specs.declared.stop.Stop.TheVariants as stops
-use Rattle.ug_command_line.specs.Words.{CheckCommand}
+use Rattle.ug_commands.specs.Words.{CheckCommand}
 use Rattle.ug_commands.specs.Files.{IsPartOf, AgreesWithSite, AppendsThenStatus}
 use Rattle.ug_report.specs.Statuses.{status_text}
 use Rattle.ug_report.specs.declared.status.Status.{Status}

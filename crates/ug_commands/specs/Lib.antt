@@ -4,3 +4,6 @@ pub mod Groups
 pub mod Texts
 pub mod Grouped
 pub mod Listed
+pub mod Words
+pub mod Views
+pub mod Grammar

@@ -4,7 +4,7 @@ use Rattle.ug_board.specs.Entry.{Entry}
 use Rattle.ug_report.specs.declared.status.Status.{Status}
 use Rattle.ug_report.specs.Report.{names_in}
 use Rattle.ug_config.specs.One.{one_world}
-use Rattle.ug_command_line.specs.Words.{OneCommand}
+use Rattle.ug_commands.specs.Words.{OneCommand}
 use Rattle.ug_group_rules.specs.Machine.{Job, Said}
 use Rattle.ug_group_rules.specs.Rules.{group_rules, group_speech}
 use Rattle.ug_run.specs.Wires.{AreMadeFor}

@@ -10,7 +10,7 @@ ghost use Rattle.ug_types.specs.declared.key.Key as keys;
 ghost use Rattle.ug_edge.specs.Told.{Rose, IsEnded, AppendsAll, FileText, file_told, Missing};
 ghost use Rattle.ug_report.specs.Report.{names_in};
 ghost use Rattle.ug_config.specs.One.{one_world};
-ghost use Rattle.ug_command_line.specs.Words.{OneCommand, RunCommand, CheckCommand, GroupsCommand, SelfRunCommand, AuditCommand, One, Run, Check, Groups, SelfRun, Audit, command_of, is_command};
+ghost use Rattle.ug_commands.specs.Words.{OneCommand, RunCommand, CheckCommand, GroupsCommand, SelfRunCommand, AuditCommand, One, Run, Check, Groups, SelfRun, Audit, command_of, is_command};
 ghost use Rattle.ug_run.specs.Wires.{AreMadeFor};
 ghost use Rattle.ug_report.specs.Statuses.{row_of, is_fixed, status_text};
 ghost use Rattle.ug_commands.specs.Files.{AppendsThenStatus, PicksJust};

@@ -1,10 +1,10 @@
 -- The words of an audit, as the code has them, say the command that all words are.
 use Rattle.std.proofs.Common.{◌≡◌, Option, Some, sym, ◌∙◌, ap}
-use Rattle.ug_command_line.specs.Words.{Command, AuditCommand, Audit}
-use Rattle.ug_command_line.specs.Views.{command_seen}
-use Rattle.ug_command_line.specs.declared.command.AuditWords.{AuditWords}
-use Rattle.ug_command_line.specs.declared.command.Command as commands
-use Rattle.ug_command_line.specs.declared.command.Command.TheVariants as command
+use Rattle.ug_commands.specs.Words.{Command, AuditCommand, Audit}
+use Rattle.ug_commands.specs.Views.{command_seen}
+use Rattle.ug_commands.specs.declared.command.AuditWords.{AuditWords}
+use Rattle.ug_commands.specs.declared.command.Command as commands
+use Rattle.ug_commands.specs.declared.command.Command.TheVariants as command
 use Rattle.ug_audit.specs.Stopping.{said}
 
 pub some-is : {A : Type 0} (x y : A) → Some x ≡ Some y → x ≡ y

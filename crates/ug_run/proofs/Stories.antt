@@ -21,7 +21,7 @@ use Rattle.ug_sender.specs.Lanes.{LaneView, KeepsLane}
 use Rattle.ug_events.specs.Events.{Happening, IsEvent, Saying, SaysNothing, SaysSync, Says}
 use Rattle.ug_events.specs.Reads.{Reads}
 use Rattle.ug_events.specs.Grammar.{verb_of, routes_verb_of}
-use Rattle.ug_input_laws.proofs.Lines.{line_sound}
+use Rattle.ug_commands.proofs.EventLines.{line_sound}
 use Rattle.ug_speaker.specs.Speech.{Purpose, TakesEvent, MarksTold, Ends, Prepares, Speech}
 use Rattle.ug_speaker.specs.Owes.{IsTimely, StepsRight, IsOpening}
 use Rattle.ug_world.specs.Verdicts.{verdict}

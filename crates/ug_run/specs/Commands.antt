@@ -1,7 +1,7 @@
 -- What the commands promise that speak with neighbours: `one` and `run`.
 use Rattle.std.specs.Prelude.{◌≡◌, ℕ, ◌⊎◌, Bool, true, false, List, [], ◌∷◌, Option, Some, None, Ok, Err, codes}
 use Rattle.ug_edge.specs.Told.{AppendsAll, FileTold, Missing, Picks, file_told}
-use Rattle.ug_command_line.specs.Words.{Command, RunCommand, One, Run, Check, Groups, SelfRun, Audit}
+use Rattle.ug_commands.specs.Words.{Command, RunCommand, One, Run, Check, Groups, SelfRun, Audit}
 use Rattle.ug_board.specs.Entry.{Entry}
 use Rattle.ug_board.specs.Rules.{Rules}
 use Rattle.ug_events.specs.Events.{Saying, Says, ComesUp}

@@ -15,8 +15,8 @@ use Rattle.ug_report.specs.Report.{accepted_count, refused_count}
 use Rattle.ug_report.specs.Statuses.{status_text}
 use Rattle.ug_report.specs.declared.status.Status.{Status}
 use Rattle.ug_report.specs.declared.status.Status.TheVariants as statuses
-use Rattle.ug_gen.specs.Configuration.{workload_world}
-use Rattle.ug_gen.specs.Workload.{workload}
+use Rattle.ug_selfrun.specs.Configuration.{workload_world}
+use Rattle.ug_selfrun.specs.Workload.{workload}
 use Rattle.ug_run.specs.Promise.{IsStopped}
 use Rattle.ug_selfrun.specs.Lines.{lines_of, accepted_events}
 use Rattle.ug_selfrun.specs.Summary.{HasText}

@@ -10,3 +10,7 @@ pub mod Outcomes
 pub mod Promise
 pub mod Commands
 pub mod Drawn
+pub mod Files
+pub mod Reports
+pub mod AuditedRuns
+pub mod Sites

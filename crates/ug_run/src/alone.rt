@@ -4,7 +4,7 @@ ghost use Rattle.std.specs.Prelude.{◌≡◌, ◌↔◌, ℕ, List, Option, [],
 ghost use Rattle.std.specs.String.{string_bytes};
 ghost use Rattle.ug_types.specs.declared.key.Key as keys;
 ghost use Rattle.ug_edge.specs.Told.{Rose, IsEnded, AppendsAll, FileText, file_told, Missing};
-ghost use Rattle.ug_command_line.specs.Words.{CheckCommand, GroupsCommand, AuditCommand, Check, Groups, Audit, command_of, is_command};
+ghost use Rattle.ug_commands.specs.Words.{CheckCommand, GroupsCommand, AuditCommand, Check, Groups, Audit, command_of, is_command};
 ghost use Rattle.ug_report.specs.Statuses.{row_of, status_text};
 ghost use Rattle.ug_commands.specs.Files.{AppendsThenStatus, PicksJust};
 ghost use Rattle.ug_commands.specs.Checked.{IsChecked};
@@ -15,8 +15,7 @@ ghost use Rattle.ug_run.specs.Commands.{has_sessions, is_fed};
 
 use std::alloc::Global;
 use ug_audit::audit;
-use ug_command_line::{Command, command_in, read_command};
-use ug_commands::{check, end, groups};
+use ug_commands::{Command, check, command_in, end, groups, read_command};
 use ug_edge::{Sink, Site};
 use ug_report::Status;
 use ug_types::NoMemory;

@@ -8,7 +8,7 @@ ghost use Rattle.ug_events.specs.Views.{event_of};
 ghost use Rattle.ug_speaker.specs.Owes.{AreEvents};
 ghost use Rattle.ug_report.specs.Report.{names_in};
 ghost use Rattle.ug_config.specs.One.{one_world};
-ghost use Rattle.ug_command_line.specs.Words.{OneCommand, RunCommand, CheckCommand, GroupsCommand, SelfRunCommand, AuditCommand, One, Run, Check, Groups, SelfRun, Audit, command_of, is_command};
+ghost use Rattle.ug_commands.specs.Words.{OneCommand, RunCommand, CheckCommand, GroupsCommand, SelfRunCommand, AuditCommand, One, Run, Check, Groups, SelfRun, Audit, command_of, is_command};
 ghost use Rattle.ug_event_loop.specs.Reading.{first_of};
 ghost use Rattle.ug_run.specs.Wires.{AreMadeFor};
 ghost use Rattle.ug_report.specs.Statuses.{row_of, status_text};
@@ -29,13 +29,13 @@ use std::sync::Wait;
 use std::sync::ledger::Ledger;
 use std::thread::Threads;
 use ug_audit::audit;
-use ug_command_line::{Command, OneWords, RunWords, read_command};
-use ug_commands::{check, end, groups};
+use ug_commands::{
+    Command, OneWords, RunWords, check, configurations_open, end, groups, one_opens, read_command,
+};
 use ug_config::one_world;
 use ug_edge::{Sink, Site};
 use ug_event_loop::Grammar;
 use ug_events::Event;
-use ug_input_laws::{configurations_open, one_opens};
 use ug_report::Status;
 use ug_speaker::Speaker;
 use ug_types::{Name, NoMemory, Sequence, Steps};

@@ -1,2 +1,9 @@
 pub mod Counting
 pub mod Going
+pub mod Counted
+pub mod Good
+pub mod Growing
+pub mod Names
+pub mod Opening
+pub mod Prefixes
+pub mod Sound

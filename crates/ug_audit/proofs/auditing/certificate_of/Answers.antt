@@ -2,7 +2,7 @@ use Rattle.std.proofs.Common.{Err, rules, arith, ◌≡◌, ◌≤◌, ◌++◌,
 use Rattle.ug_edge.specs.Told.{Rose, file_told, AppendsAll}
 use Rattle.std.specs.Global.{Vec}
 use Rattle.ug_types.specs.declared.sequence.Sequence.{Sequence}
-use Rattle.ug_timeline.specs.Histories.{IsHistory}
+use Rattle.ug_audit_rules.specs.Histories.{IsHistory}
 use Rattle.ug_audit_rules.specs.Told.{TellsAsMuch}
 use Rattle.ug_audit_rules.specs.declared.entry.Entry.{Entry}
 use Rattle.ug_audit.specs.Auditing.{HasReport, worlds_of, last_of, told_by}

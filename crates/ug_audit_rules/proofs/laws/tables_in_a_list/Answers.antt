@@ -1,4 +1,4 @@
-use Rattle.ug_audit_rules.proofs.Timelines.{right-by, first-by}
+use Rattle.ug_audit_rules.proofs.InAList.{right-by, first-by}
 use Rattle.ug_audit_rules.proofs.laws.tables_in_a_list.Goals as goal
 
 pub returns : goal.returns

@@ -1,6 +1,6 @@
 use Rattle.std.proofs.Common.{◌≡◌, sym, subst}
 use Rattle.ug_edge.specs.Told.{Rose, AppendsAll, file_told}
-use Rattle.ug_command_line.specs.Words.{AuditCommand}
+use Rattle.ug_commands.specs.Words.{AuditCommand}
 use Rattle.ug_audit.specs.Auditing.{IsAuditing}
 use Rattle.ug_audit.specs.Right.{AreRight}
 use Rattle.ug_run.proofs.Audited.{some-is, same-command}

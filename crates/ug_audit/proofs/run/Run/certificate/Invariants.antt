@@ -1,6 +1,6 @@
 use Rattle.std.proofs.Common.{◌≡◌, ℕ, List, [], drop, Option}
 use Rattle.ug_edge.specs.Told.{file_told}
-use Rattle.ug_command_line.specs.Words.{AuditCommand}
+use Rattle.ug_commands.specs.Words.{AuditCommand}
 use Rattle.ug_audit.specs.Sessions.{sessions_of, sessions_of_peers}
 use Rattle.ug_audit.specs.Stopping.{last_in, IsAt}
 use Rattle.ug_audit.proofs.run.Run.certificate.Given as goal

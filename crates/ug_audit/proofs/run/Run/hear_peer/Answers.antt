@@ -1,8 +1,8 @@
 use Rattle.std.proofs.Common.{rules, arith, ◌≡◌, ◌+◌, ◌-◌, ◌++◌, ℕ, List, ap, subst, sym, refl, ◌∙◌, length, slice_get, Some, Option}
 use Rattle.ug_edge.specs.Told.{file_told, AppendsAll}
 use Rattle.ug_world.specs.declared.peer_state.PeerState.{PeerState}
-use Rattle.ug_timeline.specs.Timelines.{IsTimeline, HasSessions}
-use Rattle.ug_timeline.specs.Histories.{AreTimelines}
+use Rattle.ug_audit_rules.specs.Timelines.{IsTimeline, HasSessions}
+use Rattle.ug_audit_rules.specs.Histories.{AreTimelines}
 use Rattle.ug_audit.specs.Sessions.{sessions_from}
 use Rattle.ug_audit.specs.Auditing.{worlds_of, last_of}
 use Rattle.ug_audit.specs.Stopping.{IsAt, last_in}

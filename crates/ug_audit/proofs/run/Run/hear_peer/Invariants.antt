@@ -2,7 +2,7 @@ use Rattle.std.proofs.Common.{◌≡◌, ◌+◌, ◌-◌, ◌++◌, ℕ, List, 
 use Rattle.ug_edge.specs.Told.{file_told}
 use Rattle.ug_world.specs.declared.peer_state.PeerState.{PeerState}
 use Rattle.ug_audit.specs.Asked.{IsAsked}
-use Rattle.ug_command_line.specs.Words.{AuditCommand}
+use Rattle.ug_commands.specs.Words.{AuditCommand}
 use Rattle.ug_audit.specs.Sessions.{SessionOf, sessions_from}
 use Rattle.ug_audit.specs.Auditing.{worlds_of}
 use Rattle.ug_audit.specs.Stopping.{last_in, IsAt}

@@ -1,7 +1,7 @@
 use Rattle.std.proofs.Common.{◌≡◌, subst, ap, sym, List, ℕ}
 use Rattle.ug_world.specs.World.{World}
-use Rattle.ug_timeline.specs.declared.timelines.Timelines.{Timelines}
-use Rattle.ug_timeline.specs.Histories.{AreTimelines}
+use Rattle.ug_audit_rules.specs.declared.timelines.Timelines.{Timelines}
+use Rattle.ug_audit_rules.specs.Histories.{AreTimelines}
 use Rattle.ug_audit.specs.Auditing.{worlds_of, last_of}
 use Rattle.ug_audit.specs.Last.{IsLast}
 use Rattle.ug_audit.specs.declared.last.Last.{Last}

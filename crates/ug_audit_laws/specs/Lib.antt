@@ -1,4 +1,0 @@
-pub mod Files
-pub mod Reports
-pub mod Runs
-pub mod Sites

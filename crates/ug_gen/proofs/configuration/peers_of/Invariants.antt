@@ -1,7 +1,0 @@
-use Rattle.std.proofs.Common.{◌≡◌, ◌+◌, ◌-◌, ◌++◌}
-use Rattle.ug_gen.specs.Configuration.{peers_from}
-use Rattle.ug_gen.proofs.configuration.peers_of.Given as goal
-
--- what is there and what is still to come are all
-abbrev pub invariant-loop-i : goal.invariant-loop-i
-invariant-loop-i l = l.peers.items ++ peers_from (1 + l.i) (l.count - l.i) ≡ peers_from 1 l.count

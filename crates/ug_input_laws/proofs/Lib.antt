@@ -1,5 +1,0 @@
-pub mod Found
-pub mod Configured
-pub mod Opening
-pub mod Requests
-pub mod Lines

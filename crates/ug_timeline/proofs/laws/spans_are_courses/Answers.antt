@@ -1,5 +1,0 @@
-use Rattle.ug_timeline.proofs.Following.{course}
-use Rattle.ug_timeline.proofs.laws.spans_are_courses.Goals as goal
-
-pub returns : goal.returns
-returns c = λ entries p n ws from to log span. course entries p n ws from to log span

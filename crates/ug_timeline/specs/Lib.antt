@@ -1,9 +1,0 @@
-pub mod Lines
-pub mod Touched
-pub mod Timelines
-pub mod Standing
-pub mod Held
-pub mod GroupLogs
-pub mod Merges
-pub mod Seats
-pub mod Histories
