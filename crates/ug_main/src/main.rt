@@ -27,6 +27,7 @@ ghost use Rattle.ug_main.specs.Ran.{Ran, IsOneRun, HasDrawn};
 use std::alloc::Global;
 use std::io::{self, ErrorKind};
 use std::marker::Brand;
+use std::mem::forget;
 use std::process::ExitCode;
 use std::rt::Files;
 use std::sync::Wait;
@@ -175,6 +176,8 @@ fn answer<R: Threads + Wait + Sync, E: Site, K: Sink>(
 }
 
 /// Runs a command with sessions, with a counter of its own, and answers its status. What `run` says of a status is said of this one.
+///
+/// The history isn't given back piece by piece, which took a twelfth of a run: the process ends behind it.
 fn begin<L: Ledger, R: Threads + Wait + Sync, E: Site, K: Sink>(
     rt: &R,
     alloc: Global,
@@ -204,7 +207,13 @@ fn begin<L: Ledger, R: Threads + Wait + Sync, E: Site, K: Sink>(
     ensures ended { is_fed (command_of (map string_bytes words.now)) ≡ true → (row_of result).completed ≡ true → IsEnded (E.left site.new) }
 {
     let mut steps = Steps::<L>::new(blank);
-    run(rt, alloc, words, site, report, &mut steps).status
+    let Done {
+        status,
+        history,
+        ..
+    } = run(rt, alloc, words, site, report, &mut steps);
+    forget(history);
+    status
 }
 
 /// The run of the shipped program: `serve` over update groups. What it gives back, and what the site and the report came
