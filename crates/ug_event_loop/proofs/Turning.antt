@@ -1,6 +1,6 @@
 -- What turns come to, one after the other.
-use Rattle.std.proofs.Common.{◌≡◌, ℕ, Bool, true, false, List, [], ◌∷◌, ◌++◌, Option, Some, None, Ok, Err, refl, sym, ◌∙◌, ap, subst, append_assoc}
-use Rattle.std.specs.Prelude.{filter, not}
+use Rattle.std.proofs.Common.{◌≡◌, ◌+◌, ℕ, Bool, true, false, List, [], ◌∷◌, ◌++◌, length, length-append, Option, Some, None, Ok, Err, refl, sym, ◌∙◌, ap, subst, arith, append_assoc}
+use Rattle.std.specs.Prelude.{filter, min, not}
 use Rattle.std.proofs.lemmas.List.{append-nil}
 use Rattle.std.proofs.lemmas.List.Elements.{filter-append, All-append, All-nil}
 use Rattle.ug_board.specs.declared.steps.BoardStep.{BoardStep}
@@ -20,7 +20,7 @@ use Rattle.ug_speaker.specs.Owes.{StepsRight, IsTimely, StaysDrained, closed_by}
 use Rattle.ug_speaker.specs.Story.{IsUnasked, IsUnaskedStep, IsBetween, IsDone, DoesEvent, Does}
 use Rattle.ug_types.specs.declared.mark.Mark.{Mark}
 use Rattle.ug_report.specs.Report.{Answer, Passed, Refused, Took, Synced}
-use Rattle.ug_event_loop.specs.Turns.{PreparesBy, IsPreparing, GoesOn, WindsUp, EndsNot, IsOpenBy, StaysOpen, Answers, AnswersAt}
+use Rattle.ug_event_loop.specs.Turns.{PreparesBy, IsPreparing, GoesOn, WindsUp, EndsNot, IsOpenBy, StaysOpen, Answers, AnswersAt, AreMore}
 
 pub each_more : {A : Type 0} (P : A → Type 0) (xs ys : List A) → Each P xs → Each P ys → Each P (xs ++ ys)
 each_more P [] ys a b = b
@@ -37,6 +37,16 @@ adds_nothing owner number h = ([], sym (append-nil h), All-nil (λ e. owner e �
 pub adds_further : {E : Type 0} (owner : E → ℕ) (number : ℕ) (a b c : List E) → Adds owner number a b → Adds owner number b c → Adds owner number a c
 adds_further {E} owner number a b c one two =
     (one.0 ++ two.0, two.1 ∙ ap (λ (z : List E). z ++ two.0) one.1 ∙ append_assoc a one.0 two.0, All-append (λ e. owner e ≡ number) one.0 two.0 one.2 two.2)
+
+-- so many more
+pub none_more : {E : Type 0} (h : List E) → AreMore 0 h h
+none_more h few = omega arith
+
+pub one_more : {E : Type 0} (count further : ℕ) (a b c : List E) (x : E) → further ≡ min (count + 1) 18446744073709551615 → AreMore count a b → c ≡ b ++ x ∷ [] → AreMore further a c
+one_more count further a b c x counted more is few =
+    let size = ap length is ∙ length-append b (x ∷ []) in
+    let before = more (omega (arith, counted, few)) in
+    omega (arith, counted, few, size, before)
 
 -- what adds nothing is nothing
 pub append-same : {A : Type 0} (xs ys : List A) → xs ++ ys ≡ xs → ys ≡ []

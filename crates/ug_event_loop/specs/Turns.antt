@@ -1,5 +1,5 @@
 -- What a builder does on a board in its turns.
-use Rattle.std.specs.Prelude.{◌≡◌, ℕ, Bool, true, false, List, [], ◌++◌, Option, Some, None}
+use Rattle.std.specs.Prelude.{◌≡◌, ◌+◌, ◌<◌, ℕ, Bool, true, false, List, [], ◌++◌, length, Option, Some, None}
 use Rattle.ug_types.specs.declared.mark.Mark.{Mark}
 use Rattle.ug_board.specs.declared.steps.BoardStep.{BoardStep}
 use Rattle.ug_board.specs.declared.steps.BoardStep.TheVariants.{Job as DoJob, Lane as LaneTakes}
@@ -43,6 +43,10 @@ is_refused cames.Passed = 0
 is_refused (cames.Refused number inner) = 1
 is_refused (cames.Took said) = 0
 is_refused (cames.Synced said) = 0
+
+-- so many more, by a count that stays at the end of its type once it is there
+abbrev pub AreMore : {E : Type 0} → ℕ → List E → List E → Type 0
+AreMore count old new = count < 18446744073709551615 → length new ≡ length old + count
 
 module _ {Opening State Job Said : Type 0} (rules : Rules Opening State Job Said) (speech : Speech Opening State Job Said) where
   -- a step that prepares

@@ -8,7 +8,7 @@ ghost use Rattle.ug_events.specs.Views.{event_of};
 ghost use Rattle.ug_world.specs.Verdicts.{verdict};
 ghost use Rattle.ug_speaker.specs.Speech.{MarksTold, Prepares};
 ghost use Rattle.ug_speaker.specs.Owes.{IsPrepared};
-ghost use Rattle.ug_event_loop.specs.Turns.{GoesOn, WindsUp, Answers, IsSettled, IsUntold, answer_of};
+ghost use Rattle.ug_event_loop.specs.Turns.{GoesOn, WindsUp, Answers, AreMore, IsSettled, IsUntold, answer_of};
 ghost use Rattle.ug_event_loop.specs.declared.board.Work.TheVariants.{Settling, Draining};
 ghost use Rattle.ug_event_loop.specs.Counts.{least_of, most_of, RisesBy, RisesWithin};
 
@@ -75,7 +75,7 @@ fn next_job<S: Speaker>(board: &Board<S>, work: Work) -> Result<Option<S::Job>, 
 }
 
 /// Does such work until there is none, and answers how many jobs that were.
-#[tactic(auto, using(crate::proofs::Turning::adds_nothing, crate::proofs::Turning::adds_further, crate::proofs::Turning::goes_nowhere))]
+#[tactic(auto, using(crate::proofs::Turning::adds_nothing, crate::proofs::Turning::adds_further, crate::proofs::Turning::goes_nowhere, crate::proofs::Turning::none_more))]
 fn prepare<S: Speaker, R: Wait, L: Ledger>(
     rt: &R,
     board: &mut Board<S>,
@@ -90,6 +90,7 @@ fn prepare<S: Speaker, R: Wait, L: Ledger>(
     ensures unspent { OnOk result (board.new.spent ≡ false) }
     ensures settled { work ≡ Settling → OnOk result (IsSettled S.Machine.rules S.speech (state_of S.Machine.rules board.new)) }
     ensures prepared { work ≡ Draining → OnOk result (IsPrepared S.Machine.rules S.speech (state_of S.Machine.rules board.new)) }
+    ensures jobs { IfOk result (λ jobs. AreMore jobs board.old.history board.new.history) }
     ensures legal { IsLegal S.Machine.rules board.new.opening board.new.history }
     ensures steps_least { RisesBy steps.old steps.new (least_of S.Machine.rules board.old.opening board.old.history) (least_of S.Machine.rules board.old.opening board.new.history) }
     ensures steps_most { OnOk result (RisesWithin steps.old steps.new (most_of S.Machine.rules board.old.opening board.old.history) (most_of S.Machine.rules board.old.opening board.new.history)) }
@@ -162,6 +163,7 @@ pub(crate) fn settle<S: Speaker, R: Wait, L: Ledger>(
     ensures adds { Adds (λ entry. entry.pass) 0 board.old.history board.new.history }
     ensures history { GoesOn S.Machine.rules S.speech board.old.history board.new.history }
     ensures settled { OnOk result (IsSettled S.Machine.rules S.speech (state_of S.Machine.rules board.new)) }
+    ensures jobs { IfOk result (λ settled. AreMore settled.jobs board.old.history board.new.history) }
     ensures room { IfOk result (λ settled. settled.room ≡ (S.speech.world (state_of S.Machine.rules board.new)).local.queue_limit) }
     ensures legal { IsLegal S.Machine.rules board.new.opening board.new.history }
     ensures steps_least { RisesBy steps.old steps.new (least_of S.Machine.rules board.old.opening board.old.history) (least_of S.Machine.rules board.old.opening board.new.history) }
@@ -212,6 +214,7 @@ pub(crate) fn mark<S: Speaker, R: Wait, L: Ledger>(
     ensures answers { IfOk result (λ marked. IfSome marked.value (λ came. Answers S.Machine.rules S.speech board.old.opening (Ok SaysSync) (answer_of S.speech.marks came) board.old.history board.new.history)) }
     ensures waits { IfOk result (λ marked. IfNone marked.value (GoesOn S.Machine.rules S.speech board.old.history board.new.history)) }
     ensures untold { IfOk result (λ marked. IfNone marked.value (IsUntold S.Machine.rules S.speech (state_of S.Machine.rules board.new))) }
+    ensures jobs { IfOk result (λ marked. IfNone marked.value (AreMore marked.jobs board.old.history board.new.history)) }
     ensures stopped { OnErr result (GoesOn S.Machine.rules S.speech board.old.history board.new.history) }
     ensures legal { IsLegal S.Machine.rules board.new.opening board.new.history }
     ensures steps_least { RisesBy steps.old steps.new (least_of S.Machine.rules board.old.opening board.old.history) (least_of S.Machine.rules board.old.opening board.new.history) }
@@ -258,6 +261,7 @@ pub(crate) fn conclude<S: Speaker, R: Wait, L: Ledger>(
     ensures adds { Adds (λ entry. entry.pass) 0 board.old.history board.new.history }
     ensures history { WindsUp S.Machine.rules S.speech board.old.history board.new.history }
     ensures waits { IfOk result (λ told. told.value ≡ false → GoesOn S.Machine.rules S.speech board.old.history board.new.history) }
+    ensures jobs { IfOk result (λ told. told.value ≡ false → AreMore told.jobs board.old.history board.new.history) }
     ensures untold { IfOk result (λ told. told.value ≡ false → IsUntold S.Machine.rules S.speech (state_of S.Machine.rules board.new)) }
     ensures drained { IfOk result (λ told. told.value ≡ true → S.speech.drained (state_of S.Machine.rules board.new) ≡ true) }
     ensures closed { IfOk result (λ told. told.value ≡ true → S.speech.closed (state_of S.Machine.rules board.new) ≡ true) }

@@ -6,7 +6,8 @@
 use crate::prepared::Settled;
 use std::hint::spin_loop;
 use std::sync::Wait;
-use std::sync::atomic::AtomicU64;
+use std::sync::atomic::Ordering::SeqCst;
+use std::sync::atomic::{AtomicBool, AtomicU64};
 use std::time::Duration;
 use ug_board::Board;
 use ug_speaker::Speaker;
@@ -41,8 +42,10 @@ pub(crate) struct Pace {
     usual: usize,
     /// Whether this is a further time behind an event.
     is_further: bool,
-    /// How many packets a queue got about, since lanes were rung for.
+    /// How many packets a queue got about, since lanes were rung for with many.
     ahead: usize,
+    /// Whether lanes were rung for since a queue got the last of these.
+    is_rung: AtomicBool,
     /// How often lanes had rung back when they were rung for.
     rings: u64,
     /// How many rang back in time the last time, and how many did at most.
@@ -61,6 +64,7 @@ impl Pace {
             usual: 0,
             is_further: false,
             ahead: 0,
+            is_rung: AtomicBool::new(false),
             rings: 0,
             answers: 0,
             most: 0,
@@ -69,14 +73,15 @@ impl Pace {
         }
     }
 
-    /// Whether lanes weren't rung for since there was something new for them.
+    /// Whether lanes weren't rung for since there was something new for them. From now on they were.
     pub(crate) fn is_ahead(&self) -> bool {
-        self.ahead > 0
+        self.ahead > 0 && !self.is_rung.swap(true, SeqCst)
     }
 
     /// Counts as if there were something new for lanes.
     pub(crate) fn step_back(&mut self) {
         self.ahead = self.ahead.max(1);
+        self.is_rung.store(false, SeqCst);
     }
 
     /// Rings for lanes where there were further jobs, or there was something new for them before. It answers whether it rang.
@@ -109,6 +114,9 @@ impl Pace {
         let packets = self.packets(settled.jobs);
         self.is_further = false;
         self.ahead = self.ahead.saturating_add(packets);
+        if packets > 0 {
+            self.is_rung.store(false, SeqCst);
+        }
         if !is_due || self.ahead < most_ahead(settled.room) {
             return false;
         }
