@@ -4,6 +4,7 @@
 # sorted and in random order. Beside it the same keys are set and announced in an Adj-RIB-Out alone (bench/adjout), in turn
 # with it. Prints for each how many nanoseconds a key takes, of RUNS runs (5) the least of each figure, what it takes beside the
 # Adj-RIB-Out, what each further member takes a packet, how it grows from 100,000 to 1,000,000, and the peak memory a key.
+# All of it is done with pages of memory of 4 KB, and then with pages of 2 MB, for which the C library asks the system (docs/RUNNING.md).
 # The programs are no part of the gate: they are proved and built in a copy of the repository. With SUBGROUP and ADJOUT they
 # are taken as built. It wants GNU time.
 set -e
@@ -70,29 +71,33 @@ run() {
     done | awk '!($1 in least) || $2 < least[$1] { least[$1] = $2 } END { for (name in least) print name, least[name] }' > "$work/least"
 }
 
-for order in sorted random; do
-    scatter=1
-    [ "$order" = sorted ] || scatter=2654435761
-    rm -f "$work/before"
-    for keys in 100000 1000000; do
-        run $keys $scatter
-        touch "$work/before"
-        awk -v keys=$keys -v order=$order '
-            FILENAME == ARGV[1] { before[$1] = $2; next }
-            { least[$1] = $2 }
-            function growth(name) { return name in before ? sprintf(", growth %.1f", least[name] / before[name]) : "" }
-            END {
-                printf "%d keys in %s order: an Adj-RIB-Out alone %d ns a key, %d bytes%s\n",
-                    keys, order, least["alone"] / keys, 1024 * least["alone-memory"] / keys, growth("alone")
-                split("1 8 32", all, " ")
-                for (i = 1; i <= 3; i++) {
-                    m = all[i]
-                    printf "  %2d members: %d ns a key (desire %d, format %d, take %d), %d beside the Adj-RIB-Out, %d bytes%s",
-                        m, least["all-" m] / keys, least["desire-" m] / keys, least["format-" m] / keys, least["take-" m] / keys,
-                        (least["all-" m] - least["alone"]) / keys, 1024 * least["memory-" m] / keys, growth("all-" m)
-                    printf "; %d ns a member and packet\n", least["take-" m] / m / (keys / 10)
-                }
-            }' "$work/before" "$work/least"
-        cp "$work/least" "$work/before"
+for pages in "4 KB" "2 MB"; do
+    [ "$pages" = "4 KB" ] || export GLIBC_TUNABLES=glibc.malloc.hugetlb=1
+    echo "pages of $pages"
+    for order in sorted random; do
+        scatter=1
+        [ "$order" = sorted ] || scatter=2654435761
+        rm -f "$work/before"
+        for keys in 100000 1000000; do
+            run $keys $scatter
+            touch "$work/before"
+            awk -v keys=$keys -v order=$order '
+                FILENAME == ARGV[1] { before[$1] = $2; next }
+                { least[$1] = $2 }
+                function growth(name) { return name in before ? sprintf(", growth %.1f", least[name] / before[name]) : "" }
+                END {
+                    printf "%d keys in %s order: an Adj-RIB-Out alone %d ns a key, %d bytes%s\n",
+                        keys, order, least["alone"] / keys, 1024 * least["alone-memory"] / keys, growth("alone")
+                    split("1 8 32", all, " ")
+                    for (i = 1; i <= 3; i++) {
+                        m = all[i]
+                        printf "  %2d members: %d ns a key (desire %d, format %d, take %d), %d beside the Adj-RIB-Out, %d bytes%s",
+                            m, least["all-" m] / keys, least["desire-" m] / keys, least["format-" m] / keys, least["take-" m] / keys,
+                            (least["all-" m] - least["alone"]) / keys, 1024 * least["memory-" m] / keys, growth("all-" m)
+                        printf "; %d ns a member and packet\n", least["take-" m] / m / (keys / 10)
+                    }
+                }' "$work/before" "$work/least"
+            cp "$work/least" "$work/before"
+        done
     done
 done
