@@ -344,6 +344,7 @@ impl<S: Speaker> Builder<S> {
     pub(crate) fn ring(&self, turnstile: &Turnstile<Board<S>>) {
         if self.pace.is_ahead() {
             turnstile.news().ring();
+            self.pace.note_ring();
         }
     }
 

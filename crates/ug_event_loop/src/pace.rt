@@ -73,9 +73,14 @@ impl Pace {
         }
     }
 
-    /// Whether lanes weren't rung for since there was something new for them. From now on they were.
+    /// Whether lanes weren't rung for since there was something new for them.
     pub(crate) fn is_ahead(&self) -> bool {
-        self.ahead > 0 && !self.is_rung.swap(true, SeqCst)
+        self.ahead > 0 && !self.is_rung.load(SeqCst)
+    }
+
+    /// Lanes were rung for. What a queue got counts on until they are with many.
+    pub(crate) fn note_ring(&self) {
+        self.is_rung.store(true, SeqCst);
     }
 
     /// Counts as if there were something new for lanes.
