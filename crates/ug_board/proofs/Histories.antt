@@ -63,13 +63,13 @@ module _ {Opening State Job Said : Type 0} (rules : Rules Opening State Job Said
         counted = omega arith;
       }
 
-  -- The same of a job, for whose entry and the steps that are due after it room was made.
+  -- The same of a job, for whose entry and at least the steps that are due after it room was made.
   pub IsInStep-job :
       (o o' : Opening) (old new : List (Entry Job Said)) (entry : Entry Job Said)
       (spare spare' due : ℕ) (state state' : State) (jobs jobs' : ℕ) (job : Job)
       → o' ≡ o → state ≡ replay rules o old → jobs ≤ length old
       → entry.step ≡ DoJob job → state' ≡ rules.after job state
-      → new ≡ old ++ entry ∷ [] → due + 1 ≤ spare → spare ≤ spare' + 1 → due ≡ rules.due state' → jobs' ≡ jobs + 1
+      → new ≡ old ++ entry ∷ [] → due + 1 ≤ spare → spare ≤ spare' + 1 → rules.due state' ≤ due → jobs' ≡ jobs + 1
       → IsInStep rules o' new spare' state' jobs'
   IsInStep-job o o' old new entry spare spare' due state state' jobs jobs' job same stands most is moved grown room kept owed done =
       let moved' : state' ≡ after_step rules entry.step state = moved ∙ ap (λ s. after_step rules s state) (sym is) in

@@ -1,6 +1,6 @@
 //! The calls of a machine that stands behind a pointer: each says what the machine's own call says.
 
-ghost use Rattle.std.specs.Prelude.{◌≡◌, ◌+◌, ◌<◌, ◌≤◌, length, true, OnOk, IfOk};
+ghost use Rattle.std.specs.Prelude.{◌≡◌, ◌+◌, ◌<◌, ◌≤◌, length, true, false, OnOk, IfOk};
 ghost use Rattle.ug_board.specs.Rules.{buffer_size, MayTake, LeavesHanded};
 
 use crate::machine::Machine;
@@ -56,4 +56,12 @@ pub(crate) fn due_behind<M: Machine>(machine: &Box<M>) -> u64
     ensures { result ≡ M.rules.due (M.state machine.now.value) }
 {
     machine.due()
+}
+
+/// Whether the job may raise that bound.
+pub(crate) fn may_raise_due_behind<M: Machine>(machine: &Box<M>, job: &M::Job) -> bool
+    requires { M.rules.legal job.now (M.state machine.now.value) ≡ true }
+    ensures { result ≡ false → M.rules.due (M.rules.after job.now (M.state machine.now.value)) ≤ M.rules.due (M.state machine.now.value) }
+{
+    machine.may_raise_due(job)
 }

@@ -6,7 +6,7 @@ ghost use Rattle.ug_board.specs.declared.steps.LaneSaid.TheVariants.{Stop, Noted
 ghost use Rattle.ug_board.specs.Rules.{buffer_size, lane_said, LeavesHanded};
 ghost use Rattle.ug_board.specs.History.{IsLegal, MayGoOn, fresh_board, state_of, job_entry, lane_entries, spent_said};
 
-use crate::behind::{due_behind, job_behind, lane_behind, may_lose_behind};
+use crate::behind::{due_behind, job_behind, lane_behind, may_lose_behind, may_raise_due_behind};
 use crate::entry::BoardEntry;
 use crate::history::{History, HistoryList};
 use crate::kept::Done;
@@ -88,10 +88,12 @@ impl<M: Machine> Board<M> {
         if self.history.len() == usize::MAX {
             return Err(NoMemory);
         }
+        let raises = may_raise_due_behind(&self.machine, &job);
         let said = job_behind(&mut self.machine, &job, steps)?;
         let kept = M::copy_said(&said)?;
         let done = enclose(self.alloc, job, kept)?;
-        make_room(&mut self.history, due_behind(&self.machine))?;
+        let due = room_for_lanes(&self.machine, &self.history, raises);
+        make_room(&mut self.history, due)?;
         self.history.add_job(pass, done);
         self.spent = false;
         Ok(said)
@@ -215,6 +217,18 @@ fn enclose<J: Drop, R: Drop>(alloc: Global, job: J, said: R) -> Result<Box<Done<
         Ok(done) => Ok(done),
         Err(_refused) => Err(NoMemory),
     }
+}
+
+/// Room that is enough for the entries that lanes can add before the next job: behind a job that did not raise what is due,
+/// the room that there is.
+fn room_for_lanes<M: Machine>(machine: &Box<M>, history: &HistoryList<M>, raises: bool) -> u64
+    requires { raises ≡ false → M.rules.due (M.state machine.now.value) ≤ history.now.spare }
+    ensures { M.rules.due (M.state machine.now.value) ≤ result }
+{
+    if raises {
+        return due_behind(machine);
+    }
+    history.room() as u64
 }
 
 /// Makes room for one entry and for those that are due after it. Running out of memory changes no entry.

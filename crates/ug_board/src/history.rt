@@ -62,6 +62,13 @@ impl<J, R> History<J, R> {
         self.kept.len()
     }
 
+    /// For how many further entries there is room.
+    pub(crate) fn room(&self) -> usize
+        ensures { result ≡ self.now.spare }
+    {
+        self.room
+    }
+
     /// Entry `i`, counted from 0.
     pub fn at(&self, i: usize) -> BoardEntry<&J, &R>
         requires { i < length self.now.items }

@@ -36,8 +36,8 @@ invariant_of-self-2 g c =
     ∙ (ap (λ r. front ++ record { pass = c.args.pass; step = DoJob c.args.job; said = JobSaid r } ∷ []) told
     ∙ ap (λ h. h ++ entry ∷ []) c.make_room.ensures.items)) in (
       returns-clause-legal g c,
-      λ same. IsInStep-job g.M.Machine.rules _ _ _ _ entry _ _ c.due_behind.result _ _ _ _ c.args.job
+      λ same. IsInStep-job g.M.Machine.rules _ _ _ _ entry _ _ c.room_for_lanes-due.result _ _ _ _ c.args.job
           c.job_behind.ensures.opening in_step.stands in_step.counted refl c.in_ok-said.ensures.state items
-          c.in_ok-make_room.ensures.room c.add_job.ensures.spare c.due_behind.ensures c.in_ok-said.ensures.jobs,
+          c.in_ok-make_room.ensures.room c.add_job.ensures.spare c.room_for_lanes-due.ensures c.in_ok-said.ensures.jobs,
       λ same. absurd cc,
     )
