@@ -57,6 +57,7 @@ pub mod TakeEntered
 pub mod TakeCounted
 pub mod TakeTurned
 pub mod TakeDone
+pub mod TakeDues
 pub mod KeyLists
 pub mod Reached
 pub mod ChangeKeys

@@ -104,6 +104,10 @@ impl Machine for Groups {
         self.state.due()
     }
 
+    fn may_raise_due(&self, job: &GroupJob) -> bool {
+        self.state.may_raise_due(job)
+    }
+
     fn copy_said(said: &GroupSaid) -> Result<GroupSaid, NoMemory> {
         said.copy()
     }

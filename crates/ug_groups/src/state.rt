@@ -24,7 +24,7 @@ use crate::merging::merge;
 use crate::quiet::{due_of, is_drained};
 use crate::settling::{is_settled, next_draining, next_settling};
 use crate::slowing::slow;
-use crate::taking::take_event;
+use crate::taking::{peer_of, take_event};
 use std::alloc::Global;
 use std::marker::Model;
 use std::mem;
@@ -128,6 +128,26 @@ impl GroupState {
         ensures { result ≡ due self.now.world.peers self.now.members }
     {
         due_of(&self.world, &self.subgroups, &self.members)
+    }
+
+    /// Whether a job that may be done can raise what is due. An event about routes or a list begins no session and formats
+    /// no packet.
+    pub fn may_raise_due(&self, job: &GroupJob) -> bool
+        requires { legal job.now self.now ≡ true }
+        ensures { result ≡ false → group_rules.due (after_job job.now self.now) ≤ group_rules.due self.now }
+    {
+        match &job.work {
+            Work::Take(event) => self.may_raise_due_by(event),
+            Work::Format(_) | Work::Merge(_, _) | Work::Slow(_) | Work::Sync | Work::Close => true,
+        }
+    }
+
+    fn may_raise_due_by(&self, event: &Event) -> bool
+        requires { legal (machine.Take (event_of event.now)) self.now ≡ true }
+        ensures { result ≡ false → group_rules.due (after_job (machine.Take (event_of event.now)) self.now) ≤ group_rules.due self.now }
+    {
+        prove!(!self.closed);
+        peer_of(event).is_some()
     }
 
     /// Whether nothing has to be done before the next event.

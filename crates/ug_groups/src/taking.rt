@@ -54,7 +54,7 @@ pub(crate) fn take_event<L: Ledger>(
 }
 
 /// The name of the peer that an event is about.
-fn peer_of(event: &Event) -> Option<&Name>
+pub(crate) fn peer_of(event: &Event) -> Option<&Name>
     ensures { option_map (λ n. n.now) result ≡ named_by (event_of event.now) }
 {
     match event {
