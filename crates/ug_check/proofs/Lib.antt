@@ -1,3 +1,4 @@
+pub mod Laden
 pub mod Steps
 pub mod Reports
 pub mod Streams

@@ -139,6 +139,19 @@ reads_all total left now next r t messages eors within ended takes h = record {
   settled = h.settled;
 }
 
+-- the same where the table was brought up to date then
+pub brought_up : (left next : Option (List ℕ)) (r s : ReaderState) (t u : Rows) (messages eors more marks : ℕ) → ((stream : List ℕ) → IsSettled r t messages eors stream → IsSettled s u more marks stream)
+    → HasReadAll left next r t messages eors → HasReadAll left next s u more marks
+brought_up left next r s t u messages eors more marks goes h = record { stream = h.stream; taken = h.taken; ended = h.ended; within = h.within; settled = goes h.stream h.settled }
+
+pub ends_without : (total : ℕ) (left now next : Option (List ℕ)) (session : Capabilities) (r : ReaderState) (t : Rows) (messages eors : ℕ) → TakesFront now next [] → IsBehind total left now r t messages eors
+    → HasStopped stops.NoMemory session left next
+ends_without total left now next session r t messages eors takes h = record {
+  read = h.stream;
+  taken = subst (λ (s : List ℕ). TakesFront left next s) (append-nil h.stream) (TakesFront-more left now next h.stream [] h.taken takes);
+  cause = tt;
+}
+
 pub begins_without : (left : Option (List ℕ)) (session : Capabilities) → HasStopped stops.NoMemory session left left
 begins_without left session = record { read = []; taken = TakesFront-none left; cause = tt }
 

@@ -1,6 +1,6 @@
 //! A stream that is read piece by piece into a table.
 
-ghost use Rattle.std.specs.Prelude.{◌≡◌, ◌+◌, ◌<◌, ◌≤◌, ◌^◌, ◌++◌, List, ℕ, length, OnOk, IfOk, IfErr, IfSome, IfNone, true, false, if◌then◌else◌};
+ghost use Rattle.std.specs.Prelude.{◌≡◌, ◌+◌, ◌<◌, ◌≤◌, ◌^◌, [], ◌++◌, List, ℕ, length, OnOk, IfOk, IfErr, IfSome, IfNone, true, false, if◌then◌else◌};
 ghost use Rattle.ug_types.specs.Messages.{Message, message_of};
 ghost use Rattle.ug_types.specs.declared.key.Key as route_keys;
 ghost use Rattle.ug_message.specs.Tables.{applied};
@@ -8,21 +8,31 @@ ghost use Rattle.ug_message.specs.Reading.{message_size};
 ghost use Rattle.ug_message.specs.Received.{IsUnfinished, Says, Awaited};
 ghost use Rattle.ug_update.specs.Readers.{new_reader, front, behind_message, HasRead};
 ghost use Rattle.ug_check.specs.Rows.{no_rows, reading_of};
+ghost use Rattle.ug_check.specs.Laden.{laden, AreWaiting, AreWaiting-prop};
 ghost use Rattle.ug_check.specs.Checkers.{HasChecked, IsSettled, IsPieceCause};
 
 use crate::stop::Stop;
 use crate::table::Table;
+use crate::waiting::Change;
 use std::alloc::Global;
 use ug_types::{Capabilities, Item, Next, NoMemory};
 use ug_update::Reader;
 
-/// A reader of the stream, the table that its messages left so far, and how many messages and End-of-RIBs they were.
+/// For each row of the table, the announcements of so many bytes may wait: with their attributes they take memory as the
+/// bytes do.
+const BYTES_A_ROW: usize = 16;
+
+/// A reader of the stream, the table that its messages left so far, where some announcements still wait, in how many
+/// bytes those came, at most, and how many messages and End-of-RIBs there were.
 #[derive(Drop)]
 pub struct Checker {
     pub reader: Reader,
     pub table: Table,
+    pub waiting: Vec<Change>,
+    bytes: usize,
     pub messages: u64,
     pub eors: u64,
+    ghost awaited: { AreWaiting table.refreshes waiting.items } by { AreWaiting-prop table.refreshes waiting.items },
     ghost counted: { messages ≤ reader.taken },
     ghost marked: { eors ≤ messages },
 }
@@ -31,13 +41,15 @@ impl Checker {
     /// A checker before any byte.
     pub fn new(alloc: Global, session: Capabilities) -> Checker
         ensures reader { result.reader ≡ new_reader session }
-        ensures table { result.table ≡ no_rows }
+        ensures table { laden result.table result.waiting.items ≡ no_rows }
         ensures messages { result.messages ≡ 0 }
         ensures eors { result.eors ≡ 0 }
     {
         Checker {
             reader: Reader::of(alloc, session),
             table: Table::new(alloc),
+            waiting: Vec::new(alloc),
+            bytes: 0,
             messages: 0,
             eors: 0,
         }
@@ -47,9 +59,9 @@ impl Checker {
     pub fn take_piece(&mut self, piece: &[u8]) -> Result<(), Stop>
         requires live { self.old.reader.stopped ≡ false }
         requires fits { self.old.reader.taken + length self.old.reader.left + length piece.now < 2 ^ 64 }
-        ensures ok { OnOk result ((stream : List ℕ) → HasChecked self.old.reader self.old.table self.old.messages self.old.eors stream →
-            IsSettled self.new.reader self.new.table self.new.messages self.new.eors (stream ++ piece.now)) }
-        ensures stopped { IfErr result (λ stop. (stream : List ℕ) → HasChecked self.old.reader self.old.table self.old.messages self.old.eors stream →
+        ensures ok { OnOk result ((stream : List ℕ) → HasChecked self.old.reader (laden self.old.table self.old.waiting.items) self.old.messages self.old.eors stream →
+            IsSettled self.new.reader (laden self.new.table self.new.waiting.items) self.new.messages self.new.eors (stream ++ piece.now)) }
+        ensures stopped { IfErr result (λ stop. (stream : List ℕ) → HasChecked self.old.reader (laden self.old.table self.old.waiting.items) self.old.messages self.old.eors stream →
             IsPieceCause stop self.old.reader.session (stream ++ piece.now)) }
         ensures live { OnOk result (self.new.reader.stopped ≡ false) }
         ensures size { OnOk result (self.new.reader.taken + length self.new.reader.left ≡ self.old.reader.taken + length self.old.reader.left + length piece.now) }
@@ -62,7 +74,7 @@ impl Checker {
         loop {
             match self.step() {
                 Ok(true) => {}
-                Ok(false) => return Ok(()),
+                Ok(false) => return self.relieve(piece.len()),
                 Err(stop) => return Err(stop),
             }
         }
@@ -71,11 +83,11 @@ impl Checker {
     /// Takes the next message, where there is one, and answers whether there was.
     fn step(&mut self) -> Result<bool, Stop>
         requires { self.old.reader.stopped ≡ false }
-        ensures ok { OnOk result ((stream : List ℕ) → HasChecked self.old.reader self.old.table self.old.messages self.old.eors stream →
-            HasChecked self.new.reader self.new.table self.new.messages self.new.eors stream) }
+        ensures ok { OnOk result ((stream : List ℕ) → HasChecked self.old.reader (laden self.old.table self.old.waiting.items) self.old.messages self.old.eors stream →
+            HasChecked self.new.reader (laden self.new.table self.new.waiting.items) self.new.messages self.new.eors stream) }
         ensures more { IfOk result (λ more. more ≡ true → length self.new.reader.left < length self.old.reader.left) }
         ensures last { IfOk result (λ more. more ≡ false → IsUnfinished self.new.reader.session self.new.reader.left) }
-        ensures stopped { IfErr result (λ stop. (stream : List ℕ) → HasChecked self.old.reader self.old.table self.old.messages self.old.eors stream →
+        ensures stopped { IfErr result (λ stop. (stream : List ℕ) → HasChecked self.old.reader (laden self.old.table self.old.waiting.items) self.old.messages self.old.eors stream →
             IsPieceCause stop self.old.reader.session stream) }
         ensures live { OnOk result (self.new.reader.stopped ≡ false) }
         ensures size { OnOk result (self.new.reader.taken + length self.new.reader.left ≡ self.old.reader.taken + length self.old.reader.left) }
@@ -91,19 +103,46 @@ impl Checker {
         }
     }
 
+    /// Brings the table up to date where announcements of many bytes wait, with those of a piece of this length.
+    fn relieve(&mut self, len: usize) -> Result<(), Stop>
+        ensures ok { OnOk result ((stream : List ℕ) → IsSettled self.old.reader (laden self.old.table self.old.waiting.items) self.old.messages self.old.eors stream →
+            IsSettled self.new.reader (laden self.new.table self.new.waiting.items) self.new.messages self.new.eors stream) }
+        ensures reader { self.new.reader ≡ self.old.reader }
+        ensures cause { IfErr result (λ stop. stop ≡ Stop.NoMemory) }
+    {
+        self.bytes = self.bytes.saturating_add(len);
+        if self.bytes / BYTES_A_ROW < self.table.len() {
+            return Ok(());
+        }
+        self.finish()
+    }
+
+    /// Brings the table up to date: no announcement waits then.
+    pub fn finish(&mut self) -> Result<(), Stop>
+        ensures ok { OnOk result ((stream : List ℕ) → IsSettled self.old.reader (laden self.old.table self.old.waiting.items) self.old.messages self.old.eors stream →
+            IsSettled self.new.reader self.new.table self.new.messages self.new.eors stream) }
+        ensures none { self.new.waiting.items ≡ [] }
+        ensures reader { self.new.reader ≡ self.old.reader }
+        ensures cause { IfErr result (λ stop. stop ≡ Stop.NoMemory) }
+    {
+        self.bytes = 0;
+        self.table.take_in(&mut self.waiting)?;
+        Ok(())
+    }
+
     /// Takes the message that the reader gave last.
     fn take_item(&mut self, item: &Item) -> Result<(), Stop>
         requires { self.old.messages < self.old.reader.taken }
         ensures reader { self.new.reader ≡ self.old.reader }
         ensures table { OnOk result ((key : route_keys.Key) →
-            (reading_of self.new.table).table key ≡ (applied (reading_of self.old.table) (message_of item.now)).table key) }
+            (reading_of (laden self.new.table self.new.waiting.items)).table key ≡ (applied (reading_of (laden self.old.table self.old.waiting.items)) (message_of item.now)).table key) }
         ensures stale { OnOk result ((key : route_keys.Key) →
-            (reading_of self.new.table).stale key ≡ (applied (reading_of self.old.table) (message_of item.now)).stale key) }
+            (reading_of (laden self.new.table self.new.waiting.items)).stale key ≡ (applied (reading_of (laden self.old.table self.old.waiting.items)) (message_of item.now)).stale key) }
         ensures messages { OnOk result (self.new.messages ≡ self.old.messages + 1) }
         ensures eors { OnOk result (self.new.eors ≡ self.old.eors + (if self.old.reader.ended then 1 else 0)) }
         ensures cause { IfErr result (λ stop. stop ≡ Stop.NoMemory) }
     {
-        self.table.apply(item)?;
+        self.table.follow(item, &mut self.waiting)?;
         let is_end_of_rib = self.reader.was_eor();
         self.messages += 1;
         if is_end_of_rib {

@@ -16,6 +16,10 @@ pub fn count_rows(alloc: Global, session: Capabilities, bytes: &[u8]) -> Result<
 {
     let mut checker = Checker::new(alloc, session);
     match checker.take_piece(bytes) {
+        Ok(()) => {}
+        Err(stop) => return Err(stop),
+    }
+    match checker.finish() {
         Ok(()) => Ok(checker.table.len()),
         Err(stop) => Err(stop),
     }

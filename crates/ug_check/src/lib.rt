@@ -13,6 +13,7 @@ mod sharing;
 mod stop;
 mod stream;
 mod table;
+mod waiting;
 
 pub use checking::check;
 pub use counting::count_rows;

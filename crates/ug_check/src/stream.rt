@@ -47,7 +47,10 @@ pub fn read_stream<E: Source>(
             Err(Failed) => return Err(Stop::Read),
         };
         if count == 0 {
-            return Ok(checker);
+            match checker.finish() {
+                Ok(()) => return Ok(checker),
+                Err(cause) => return Err(cause),
+            }
         }
         let within = count.min(MOST_BYTES - total);
         let (piece, _) = buffer.as_slice().split_at(within);

@@ -1,4 +1,4 @@
-ghost use Rattle.std.specs.Prelude.{◌≡◌, ◌==◌, length, Some, None, false, is_some, OnOk, IsSome, IfOk, IfSome, IfNone, option_copied, if◌then◌else◌};
+ghost use Rattle.std.specs.Prelude.{◌≡◌, ◌==◌, [], length, Some, None, false, is_some, OnOk, IsSome, IfOk, IfSome, IfNone, option_copied, if◌then◌else◌};
 ghost use Rattle.std.specs.Map.{keys_of};
 ghost use Rattle.std.specs.BTreeMap.Range.{IsLeBy};
 ghost use Rattle.std.specs.List.Sorted.{IsStrictlySortedBy};
@@ -7,23 +7,32 @@ ghost use Rattle.ug_types.specs.Keys.{same_key};
 ghost use Rattle.ug_types.specs.Messages.{message_of, changes_of, Updates};
 ghost use Rattle.ug_message.specs.Tables.{applied, among};
 ghost use Rattle.ug_check.specs.Rows.{reading_of, row_at, no_rows, IsAfter};
+ghost use Rattle.ug_check.specs.Laden.{laden, with_change, AreV4, AreWaiting};
 
 use crate::iter::RowIter;
 use crate::row::{Announced, Row};
 use crate::rows::{count_stale, put_v4, put_v6, remove_v4, remove_v6, stored_after, sweep};
 use crate::sharing::Sharing;
+use crate::waiting::{Change, add_each, announcement, in_key_order};
 use std::alloc::Global;
 use std::collections::BTreeMap;
 use std::marker::Model;
+use std::mem::replace;
 use std::rc::Rc;
 use ug_short_key::{V4Key, V6Key};
 use ug_types::{Attrs, Family, Item, Key, NoMemory, Update};
+
+/// A table of so many rows is too large for the nearest caches, and announcements wait for it.
+const LARGE: usize = 1 << 18;
+
+/// So many messages that only announce, one after the other, are a long row of them.
+const LONG: usize = 100;
 
 /// What the messages of a session leave: for each key the attributes of its route, and which keys are stale since a
 /// refresh began.
 ///
 /// The routes of an UPDATE share what is kept of them, and so do UPDATEs that have the same attributes, one after the
-/// other; a row is small. It tells how many refreshes had begun when its route was last announced, so that the begin of a refresh touches none, and its end each once.
+/// other; a row is small. It tells how many refreshes had begun when its route was last announced, so that the begin of a refresh touches none, and its end each once. It counts too how many messages in a row only announced routes.
 #[derive(Drop)]
 pub struct Table {
     alloc: Global,
@@ -32,6 +41,7 @@ pub struct Table {
     v6: BTreeMap<V6Key, Row>,
     refreshes: u64,
     refreshing: bool,
+    in_a_row: usize,
 }
 
 impl Model for Table {
@@ -57,6 +67,7 @@ impl Table {
             v6: BTreeMap::new(alloc),
             refreshes: 0,
             refreshing: false,
+            in_a_row: 0,
         }
     }
 
@@ -76,6 +87,106 @@ impl Table {
             Item::Ignored => {}
         }
         Ok(())
+    }
+
+    /// Does what a message says, where some announcements still wait. Announcements of IPv4 are added to them. Where they
+    /// are many, and before any other message, they are taken in.
+    pub(crate) fn follow(&mut self, item: &Item, waiting: &mut Vec<Change>) -> Result<(), NoMemory>
+        requires { AreWaiting self.old.refreshes waiting.old.items }
+        ensures table { OnOk result ((key : route_keys.Key) →
+            (reading_of (laden self.new waiting.new.items)).table key ≡ (applied (reading_of (laden self.old waiting.old.items)) (message_of item.now)).table key) }
+        ensures stale { OnOk result ((key : route_keys.Key) →
+            (reading_of (laden self.new waiting.new.items)).stale key ≡ (applied (reading_of (laden self.old waiting.old.items)) (message_of item.now)).stale key) }
+        ensures waiting { AreWaiting self.new.refreshes waiting.new.items }
+    {
+        match announcement(item) {
+            Some((keys, attrs)) if self.puts_off(keys, waiting.len()) => {
+                self.wait(keys, attrs, waiting)
+            }
+            Some(_) => {
+                self.take_in(waiting)?;
+                self.apply(item)
+            }
+            None => {
+                self.in_a_row = 0;
+                self.take_in(waiting)?;
+                self.apply(item)
+            }
+        }
+    }
+
+    /// Whether announcements of these keys are to wait, where so many do: not where those are many for the rows. Where
+    /// none waits, they do behind a long row of announcements, but not where their place is found soon: in a small table
+    /// or above all rows.
+    fn puts_off(&mut self, keys: &[Key], count: usize) -> bool
+        ensures { self.new ≡ self.old }
+    {
+        self.in_a_row = self.in_a_row.saturating_add(1);
+        if count == 0 {
+            return self.in_a_row > LONG && self.len() >= LARGE && !self.ends_before(keys);
+        }
+        count < self.len() / 2
+    }
+
+    /// Whether the first of the keys stands above all rows of IPv4.
+    fn ends_before(&self, keys: &[Key]) -> bool {
+        let Some(first) = keys.first() else {
+            return true;
+        };
+        match self.v4.last_key_value() {
+            Some((last, _)) => last.widen() < *first,
+            None => true,
+        }
+    }
+
+    fn wait(
+        &mut self,
+        keys: &[Key],
+        attrs: &Attrs,
+        waiting: &mut Vec<Change>,
+    ) -> Result<(), NoMemory>
+        requires family { AreV4 keys.now }
+        requires waiting { AreWaiting self.old.refreshes waiting.old.items }
+        ensures row { OnOk result ((q : route_keys.Key) → row_at (laden self.new waiting.new.items).rows q ≡ (if among keys.now q then Some attrs.now else row_at (laden self.old waiting.old.items).rows q)) }
+        ensures stale { OnOk result ((q : route_keys.Key) → among (laden self.new waiting.new.items).stale q ≡ (if among keys.now q then false else among (laden self.old waiting.old.items).stale q)) }
+        ensures waiting { AreWaiting self.new.refreshes waiting.new.items }
+    {
+        let shared = self.share(attrs)?;
+        add_each(waiting, keys, &shared)
+    }
+
+    /// Takes in the announcements that wait, and none does then. After running out of memory some may be lost.
+    pub(crate) fn take_in(&mut self, waiting: &mut Vec<Change>) -> Result<(), NoMemory>
+        requires { AreWaiting self.old.refreshes waiting.old.items }
+        ensures row { OnOk result ((q : route_keys.Key) → row_at self.new.rows q ≡ row_at (laden self.old waiting.old.items).rows q) }
+        ensures stale { OnOk result ((q : route_keys.Key) → among self.new.stale q ≡ among (laden self.old waiting.old.items).stale q) }
+        ensures none { waiting.new.items ≡ [] }
+    {
+        let changes = replace(waiting, Vec::new(self.alloc));
+        let sorted = in_key_order(changes)?;
+        self.put_in_turn(sorted)
+    }
+
+    fn put_in_turn(&mut self, changes: Vec<Change>) -> Result<(), NoMemory>
+        requires { AreWaiting self.old.refreshes changes.items }
+        ensures row { OnOk result ((q : route_keys.Key) → row_at self.new.rows q ≡ row_at (laden self.old changes.items).rows q) }
+        ensures stale { OnOk result ((q : route_keys.Key) → among self.new.stale q ≡ among (laden self.old changes.items).stale q) }
+    {
+        let mut rest = changes.into_iter();
+        while let Some(change) = rest.next() {
+            self.put_change(change)?;
+        }
+        Ok(())
+    }
+
+    fn put_change(&mut self, change: Change) -> Result<(), NoMemory>
+        requires { change.row.shared.value.seen ≡ self.old.refreshes }
+        ensures row { OnOk result ((q : route_keys.Key) → row_at self.new.rows q ≡ row_at (with_change change self.old).rows q) }
+        ensures stale { OnOk result ((q : route_keys.Key) → among self.new.stale q ≡ among (with_change change self.old).stale q) }
+        ensures refreshes { self.new.refreshes ≡ self.old.refreshes }
+    {
+        let Change { key, row } = change;
+        self.put_row(&key.widen(), row)
     }
 
     fn change(&mut self, update: &Update) -> Result<(), NoMemory>
@@ -152,6 +263,15 @@ impl Table {
         let row = Row {
             shared: shared.clone()?,
         };
+        self.put_row(key, row)
+    }
+
+    fn put_row(&mut self, key: &Key, row: Row) -> Result<(), NoMemory>
+        requires { row.shared.value.seen ≡ self.old.refreshes }
+        ensures row { OnOk result ((q : route_keys.Key) → row_at self.new.rows q ≡ (if same_key q key.now then Some row.shared.value.attrs else row_at self.old.rows q)) }
+        ensures stale { OnOk result ((q : route_keys.Key) → among self.new.stale q ≡ (if same_key q key.now then false else among self.old.stale q)) }
+        ensures refreshes { self.new.refreshes ≡ self.old.refreshes }
+    {
         match key.prefix.family {
             Family::V4 => put_v4(&mut self.v4, key, row),
             Family::V6 => put_v6(&mut self.v6, key, row),

@@ -1,9 +1,10 @@
-use Rattle.std.proofs.Common.{◌≡◌, ℕ, ◌+◌, ◌-◌, List, length, take, refl, ap, subst, ◌∙◌, arith, rules}
+use Rattle.std.proofs.Common.{◌≡◌, ℕ, ◌+◌, ◌-◌, List, length, take, refl, sym, ap, subst, ◌∙◌, arith, rules}
 use Rattle.ug_edge.specs.Told.{Rose}
 use Rattle.ug_update.specs.Readers.{ReaderState}
 use Rattle.ug_pieces.specs.ReadingLaws.{taken_none, piece_within, buffer_back}
-use Rattle.ug_check.specs.Checks.{most_bytes}
-use Rattle.ug_check.proofs.Streams.{begins, goes_on, stops_at, passes_limit, not_read, reads_all, reads_no, reports_no}
+use Rattle.ug_check.specs.Checks.{most_bytes, HasStopped}
+use Rattle.ug_check.specs.declared.stop.Stop.{Stop}
+use Rattle.ug_check.proofs.Streams.{begins, goes_on, stops_at, passes_limit, not_read, reads_all, brought_up, ends_without, reads_no, reports_no}
 use Rattle.ug_check.proofs.stream.read_stream.Goals as goal
 
 pub loop-count-init : goal.loop-count-init
@@ -29,14 +30,22 @@ returns-in-Err-read-clause-stopped g c =
 pub returns-in-Err-read-clause-unread : goal.returns-in-Err-read-clause-unread
 returns-in-Err-read-clause-unread g c = λ e. subst (λ (n : ℕ). Rose n (g.E.Source.faults c.read.new.self)) c.loop-count.invariant.faults c.in-Err-read.ensures.failed
 
-pub returns-then-count-eq0-clause-ok : goal.returns-then-count-eq0-clause-ok
+pub returns-in-Ok-finish-clause-ok : goal.returns-in-Ok-finish-clause-ok
 unfolding most_bytes
-returns-then-count-eq0-clause-ok g c =
+returns-in-Ok-finish-clause-ok g c =
     let none : c.in-Ok-read.count ≡ 0 = c.if-count-eq0.true in
     let room = c.loop-count.invariant.room in
     let len = c.as_mut_slice.ensures.len in
-    reads_all c.loop-count.total (g.E.Source.left c.args.source.now) (g.E.Source.left c.loop-count.source) (g.E.Source.left c.read.new.self) _ _ _ _ c.loop-count.invariant.within
-    (c.in-Ok-read.ensures.end none (omega arith)) (taken_none _ _ _ _ none c.in-Ok-read.ensures.taken) c.loop-count.invariant.behind
+    brought_up (g.E.Source.left c.args.source.now) (g.E.Source.left c.read.new.self) _ _ _ _ _ _ _ _ c.in-Ok-finish.ensures.ok
+    (reads_all c.loop-count.total (g.E.Source.left c.args.source.now) (g.E.Source.left c.loop-count.source) (g.E.Source.left c.read.new.self) _ _ _ _ c.loop-count.invariant.within
+    (c.in-Ok-read.ensures.end none (omega arith)) (taken_none _ _ _ _ none c.in-Ok-read.ensures.taken) c.loop-count.invariant.behind)
+
+pub returns-in-Err-finish-clause-stopped : goal.returns-in-Err-finish-clause-stopped
+returns-in-Err-finish-clause-stopped g c =
+    let none : c.in-Ok-read.count ≡ 0 = c.if-count-eq0.true in
+    subst (λ (s : Stop). HasStopped s c.args.session (g.E.Source.left c.args.source.now) (g.E.Source.left c.read.new.self)) (sym c.in-Err-finish.ensures.cause)
+    (ends_without c.loop-count.total (g.E.Source.left c.args.source.now) (g.E.Source.left c.loop-count.source) (g.E.Source.left c.read.new.self) c.args.session _ _ _ _
+    (taken_none _ _ _ _ none c.in-Ok-read.ensures.taken) c.loop-count.invariant.behind)
 
 pub returns-in-Err-take_piece-clause-stopped : goal.returns-in-Err-take_piece-clause-stopped
 unfolding most_bytes
