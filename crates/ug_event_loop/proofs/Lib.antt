@@ -29,3 +29,4 @@ pub mod Syncs
 pub mod Requests
 pub mod Keeps
 pub mod Marked
+pub mod Mooring

@@ -1,23 +1,22 @@
 //! A file of events read beside a crew at work.
 
-ghost use Rattle.std.specs.Prelude.{◌≡◌, ◌≤◌, [], map, true, false};
+ghost use Rattle.std.specs.Prelude.{◌≡◌, ◌≤◌, [], length, map, true, false, not, is_some};
 ghost use Rattle.std.specs.Vec.{vec_len, vec_capacity};
 ghost use denote.Param.Send.{IsSend, IsSync};
 ghost use Rattle.ug_events.specs.Views.{event_of};
 ghost use Rattle.ug_speaker.specs.Owes.{AreEvents};
-ghost use Rattle.ug_sender.specs.Posts.{AreHere, post_of, posts, posts_of};
+ghost use Rattle.ug_sender.specs.Posts.{AreHere, IsRosterOf, post_of, posts, posts_of};
 ghost use Rattle.ug_event_loop.specs.Reading.{first_of, IsRead};
 
 use crate::reading::Reading;
+use std::marker::Brand;
 use std::sync::Wait;
-use std::sync::atomic::AtomicUsize;
-use std::sync::atomic::Ordering::SeqCst;
 use std::sync::ledger::Ledger;
 use std::thread;
 use std::thread::Threads;
 use ug_board::Board;
 use ug_edge::{Sink, Source, Wire};
-use ug_sender::{Crew, Lane, SamePost, Worker, labour, put_in, take_out};
+use ug_sender::{Crew, Dock, Docks, Fleet, Lane, Roster, Worker, labour, put_in, take_out};
 use ug_speaker::Speaker;
 use ug_turnstile::Turnstile;
 use ug_types::{Sequence, Steps};
@@ -34,7 +33,7 @@ struct Lent<'t, 'a, 'b, 'c, S: Speaker, E, K, L: Ledger> {
 
 /// Reads the file beside the crew, each lane in a thread of its own where they are to work apart, and hands all lanes
 /// back once they have stopped. A lane whose thread is refused works here. Nothing is said of when it returns; it takes
-/// no memory but what reading and the threads take.
+/// no memory but what reading, docks and the threads take, and where there is none for docks all lanes work here.
 pub fn read_beside<R: Threads + Wait + Sync, W: Wire, S: Speaker, E: Source, K: Sink, L: Ledger>(
     rt: &R,
     turnstile: &Turnstile<Board<S>>,
@@ -63,7 +62,7 @@ pub fn read_beside<R: Threads + Wait + Sync, W: Wire, S: Speaker, E: Source, K: 
         report,
         steps,
     };
-    let (lanes, lent) = beside(rt, turnstile, crew, apart, lent);
+    let (lanes, lent) = beside::<Brand, R, W, S, E, K, L>(rt, turnstile, crew, apart, lent);
     let Lent {
         reading,
         source,
@@ -82,12 +81,13 @@ fn take_back<T>(x: &mut T)
     ensures { x.new ≡ x.old }
 {}
 
-/// Starts the threads, reads the file beside them, and waits until all are done.
+/// Starts the threads, reads the file beside them, waits until all are done, and hands the lanes back.
 fn beside<
     't,
     'a,
     'b,
     'c,
+    N: Roster<S::Opening> + Send + Sync,
     R: Threads + Wait + Sync,
     W: Wire,
     S: Speaker,
@@ -101,6 +101,8 @@ fn beside<
     apart: bool,
     lent: Lent<'t, 'a, 'b, 'c, S, E, K, L>,
 ) -> (Sequence<Lane<W, S>>, Lent<'t, 'a, 'b, 'c, S, E, K, L>)
+    requires at { N.turnstile ≡ turnstile.now.id }
+    requires roster { IsRosterOf N.post (posts_of crew) }
     requires here { lent.reading.now.builder.pass.turnstile ≡ turnstile.now.id }
     requires crew { AreHere turnstile.now.id (posts_of crew) }
     requires form { AreEvents (map event_of lent.reading.now.first.items) }
@@ -118,22 +120,66 @@ fn beside<
     ensures made { E.made result.1.source.now ≡ E.made lent.entry.source.now }
     ensures wire_faults { E.wire_faults result.1.source.now ≡ E.wire_faults lent.entry.source.now }
 {
-    let refused = AtomicUsize::new(usize::MAX);
-    let refused = &refused;
+    let docks: Docks<N, W, S> = Docks::new(lent.reading.alloc, starting(&crew, apart));
+    let (crew, lent) = beside_docks(rt, turnstile, &docks, crew, lent);
+    (crew.gather(rt, turnstile, docks), lent)
+}
+
+/// Starts a thread for each lane that has a dock, reads the file beside them, and waits until all are done.
+fn beside_docks<
+    't,
+    'a,
+    'b,
+    'c,
+    N: Roster<S::Opening> + Send + Sync,
+    R: Threads + Wait + Sync,
+    W: Wire,
+    S: Speaker,
+    E: Source,
+    K: Sink,
+    L: Ledger,
+>(
+    rt: &R,
+    turnstile: &Turnstile<Board<S>>,
+    docks: &Docks<N, W, S>,
+    crew: Crew<W, S>,
+    lent: Lent<'t, 'a, 'b, 'c, S, E, K, L>,
+) -> (Crew<W, S>, Lent<'t, 'a, 'b, 'c, S, E, K, L>)
+    requires at { N.turnstile ≡ turnstile.now.id }
+    requires roster { IsRosterOf N.post (posts_of crew) }
+    requires docks { docks.now ≤ length crew }
+    requires here { lent.reading.now.builder.pass.turnstile ≡ turnstile.now.id }
+    requires crew { AreHere turnstile.now.id (posts_of crew) }
+    requires form { AreEvents (map event_of lent.reading.now.first.items) }
+    ensures posts { posts_of result.0 ≡ posts_of crew }
+    ensures reading { result.1.reading.ghost_name ≡ lent.entry.reading.ghost_name }
+    ensures source { result.1.source.ghost_name ≡ lent.entry.source.ghost_name }
+    ensures report { result.1.report.ghost_name ≡ lent.entry.report.ghost_name }
+    ensures steps { result.1.steps.ghost_name ≡ lent.entry.steps.ghost_name }
+    ensures ended { IsRead S.Machine.rules S.speech (first_of lent.entry.reading.now.first.items) lent.entry.reading.now.builder result.1.reading.now.builder
+        (record { left = E.left lent.entry.source.now; reads_failed = E.faults lent.entry.source.now; held = K.held lent.entry.report.now; writes_failed = K.faults lent.entry.report.now; steps = lent.entry.steps.now })
+        (record { left = E.left result.1.source.now; reads_failed = E.faults result.1.source.now; held = K.held result.1.report.now; writes_failed = K.faults result.1.report.now; steps = result.1.steps.now })
+        result.1.reading.now.end }
+    ensures files { E.files result.1.source.now ≡ E.files lent.entry.source.now }
+    ensures picks { E.picks result.1.source.now ≡ E.picks lent.entry.source.now }
+    ensures made { E.made result.1.source.now ≡ E.made lent.entry.source.now }
+    ensures wire_faults { E.wire_faults result.1.source.now ≡ E.wire_faults lent.entry.source.now }
+{
     let (workers, room) = crew.into_parts();
-    let count = starting(&workers, apart);
     thread::scope(
         thread::scope_env(),
         rt,
-        |scope| -> (Sequence<Lane<W, S>>, Lent<S, E, K, L>)
-            requires sends { IsSend W.row × IsSend S.row × IsSend S.Job.row × IsSend S.Said.row × IsSync R.row }
+        |scope| -> (Crew<W, S>, Lent<S, E, K, L>)
+            requires sends { IsSend N.row × IsSend W.row × IsSend S.row × IsSend S.Job.row × IsSend S.Said.row × IsSync N.row × IsSync R.row }
+            requires at { N.turnstile ≡ turnstile.now.id }
+            requires roster { IsRosterOf N.post (posts_of workers.items) }
+            requires docks { docks.now ≤ vec_len workers }
             requires here { lent.reading.now.builder.pass.turnstile ≡ turnstile.now.id }
             requires crew { AreHere turnstile.now.id (posts_of workers.items) }
             requires form { AreEvents (map event_of lent.reading.now.first.items) }
-            requires count { count ≤ vec_len workers }
             requires none { room.items ≡ [] }
             requires room { vec_len workers ≤ vec_capacity room }
-            ensures posts { posts result.0.items ≡ posts_of workers.items }
+            ensures posts { posts_of result.0 ≡ posts_of workers.items }
             ensures reading { result.1.reading.ghost_name ≡ lent.entry.reading.ghost_name }
             ensures source { result.1.source.ghost_name ≡ lent.entry.source.ghost_name }
             ensures report { result.1.report.ghost_name ≡ lent.entry.report.ghost_name }
@@ -148,36 +194,34 @@ fn beside<
             ensures wire_faults { E.wire_faults result.1.source.now ≡ E.wire_faults lent.entry.source.now }
         {
             let mut workers = workers;
-            for place in 0..count {
+            for place in 0..docks.len() {
                 let worker = match take_out(&mut workers, place).into_here() {
-                    Ok(lane) => match scope.spawn_with(
-                        SamePost::of(&lane),
-                        move || -> Lane<W, S>
-                            requires here { lane.pass.turnstile ≡ turnstile.now.id }
-                            ensures post { post_of result ≡ post_of lane }
-                        { labour(rt, turnstile, lane, place, refused) },
-                    ) {
-                        Ok(child) => Worker::apart(child),
-                        Err(refusal) => {
-                            refused.store(place, SeqCst);
-                            Worker::here((refusal.value)())
-                        }
-                    },
+                    Ok(lane) => {
+                        let dock = docks.at(place);
+                        let has_thread = scope
+                            .spawn(
+                                move ||
+                                    requires at { N.turnstile ≡ turnstile.now.id }
+                                { labour(rt, turnstile, dock) },
+                            )
+                            .is_ok();
+                        manned(rt, dock, lane, place, has_thread)
+                    }
                     Err(worker) => worker,
                 };
                 put_in(&mut workers, place, worker);
             }
-            let mut crew = Crew::of(workers, room);
+            let mut fleet = Fleet::of(Crew::of(workers, room), docks, turnstile);
             let Lent {
                 reading,
                 source,
                 report,
                 steps,
             } = lent;
-            reading.attend(rt, turnstile, &mut crew, source, report, steps);
-            crew.pump_to_end(rt, turnstile);
+            reading.attend(rt, turnstile, &mut fleet, source, report, steps);
+            fleet.pump_to_end(rt, turnstile);
             (
-                crew.join(rt),
+                fleet.into_crew(),
                 Lent {
                     reading,
                     source,
@@ -189,11 +233,31 @@ fn beside<
     )
 }
 
-/// How many workers start: all where they are to work apart, and else none.
-fn starting<W: Wire, S: Speaker>(workers: &Vec<Worker<W, S>>, apart: bool) -> usize
-    ensures within { result ≤ vec_len workers.now }
-    ensures all { apart ≡ true → result ≡ vec_len workers.now }
+/// How many lanes get threads: all where they are to work apart, and else none.
+fn starting<W: Wire, S: Speaker>(crew: &Crew<W, S>, apart: bool) -> usize
+    ensures within { result ≤ length crew.now }
+    ensures all { apart ≡ true → result ≡ length crew.now }
     ensures none { apart ≡ false → result ≡ 0 }
 {
-    if apart { workers.len() } else { 0 }
+    if apart { crew.len() } else { 0 }
+}
+
+/// A lane in its dock where it has a thread, and else here.
+fn manned<N: Roster<S::Opening>, R: Wait, W: Wire, S: Speaker>(
+    rt: &R,
+    dock: &Dock<N, W, S>,
+    lane: Lane<W, S>,
+    place: usize,
+    has_thread: bool,
+) -> Worker<W, S>
+    requires here { lane.pass.turnstile ≡ N.turnstile }
+    requires post { post_of lane ≡ N.post place }
+    ensures post { result.post ≡ post_of lane }
+    ensures here { is_some result.here ≡ not has_thread }
+{
+    if has_thread {
+        Worker::moor(rt, dock, lane, place)
+    } else {
+        Worker::here(lane)
+    }
 }

@@ -13,7 +13,7 @@ ghost use Rattle.ug_event_loop.specs.declared.board.Work.TheVariants.{Settling, 
 ghost use Rattle.ug_event_loop.specs.Counts.{least_of, most_of, RisesBy, RisesWithin};
 
 use crate::came::Came;
-use crate::prepared::{Prepared, Settled};
+use crate::settled::Settled;
 use std::alloc::Global;
 use std::sync::Wait;
 use std::sync::ledger::Ledger;
@@ -207,14 +207,13 @@ pub(crate) fn mark<S: Speaker, R: Wait, L: Ledger>(
     rt: &R,
     board: &mut Board<S>,
     steps: &mut Steps<L>,
-) -> Result<Prepared<Option<Came<S::Said>>>, NoMemory>
+) -> Result<Option<Came<S::Said>>, NoMemory>
     ensures opening { board.new.opening ≡ board.old.opening }
     ensures stays_spent { board.old.spent ≡ true → board.new.spent ≡ true }
     ensures adds { Adds (λ entry. entry.pass) 0 board.old.history board.new.history }
-    ensures answers { IfOk result (λ marked. IfSome marked.value (λ came. Answers S.Machine.rules S.speech board.old.opening (Ok SaysSync) (answer_of S.speech.marks came) board.old.history board.new.history)) }
-    ensures waits { IfOk result (λ marked. IfNone marked.value (GoesOn S.Machine.rules S.speech board.old.history board.new.history)) }
-    ensures untold { IfOk result (λ marked. IfNone marked.value (IsUntold S.Machine.rules S.speech (state_of S.Machine.rules board.new))) }
-    ensures jobs { IfOk result (λ marked. IfNone marked.value (AreMore marked.jobs board.old.history board.new.history)) }
+    ensures answers { IfOk result (λ marked. IfSome marked (λ came. Answers S.Machine.rules S.speech board.old.opening (Ok SaysSync) (answer_of S.speech.marks came) board.old.history board.new.history)) }
+    ensures waits { IfOk result (λ marked. IfNone marked (GoesOn S.Machine.rules S.speech board.old.history board.new.history)) }
+    ensures untold { IfOk result (λ marked. IfNone marked (IsUntold S.Machine.rules S.speech (state_of S.Machine.rules board.new))) }
     ensures stopped { OnErr result (GoesOn S.Machine.rules S.speech board.old.history board.new.history) }
     ensures legal { IsLegal S.Machine.rules board.new.opening board.new.history }
     ensures steps_least { RisesBy steps.old steps.new (least_of S.Machine.rules board.old.opening board.old.history) (least_of S.Machine.rules board.old.opening board.new.history) }
@@ -223,13 +222,12 @@ pub(crate) fn mark<S: Speaker, R: Wait, L: Ledger>(
     if board.is_spent() {
         return Err(NoMemory);
     }
-    let jobs = prepare(rt, board, Work::Draining, steps)?;
+    prepare(rt, board, Work::Draining, steps)?;
     if !board.machine().is_drained() {
-        return Ok(Prepared { jobs, value: None });
+        return Ok(None);
     }
     let said = do_job(board, S::sync_job(), steps)?;
-    let value = Some(Came::Synced(said));
-    Ok(Prepared { jobs, value })
+    Ok(Some(Came::Synced(said)))
 }
 
 /// Ends the work on the board.
@@ -255,16 +253,15 @@ pub(crate) fn conclude<S: Speaker, R: Wait, L: Ledger>(
     rt: &R,
     board: &mut Board<S>,
     steps: &mut Steps<L>,
-) -> Result<Prepared<bool>, NoMemory>
+) -> Result<bool, NoMemory>
     ensures opening { board.new.opening ≡ board.old.opening }
     ensures stays_spent { board.old.spent ≡ true → board.new.spent ≡ true }
     ensures adds { Adds (λ entry. entry.pass) 0 board.old.history board.new.history }
     ensures history { WindsUp S.Machine.rules S.speech board.old.history board.new.history }
-    ensures waits { IfOk result (λ told. told.value ≡ false → GoesOn S.Machine.rules S.speech board.old.history board.new.history) }
-    ensures jobs { IfOk result (λ told. told.value ≡ false → AreMore told.jobs board.old.history board.new.history) }
-    ensures untold { IfOk result (λ told. told.value ≡ false → IsUntold S.Machine.rules S.speech (state_of S.Machine.rules board.new)) }
-    ensures drained { IfOk result (λ told. told.value ≡ true → S.speech.drained (state_of S.Machine.rules board.new) ≡ true) }
-    ensures closed { IfOk result (λ told. told.value ≡ true → S.speech.closed (state_of S.Machine.rules board.new) ≡ true) }
+    ensures waits { IfOk result (λ told. told ≡ false → GoesOn S.Machine.rules S.speech board.old.history board.new.history) }
+    ensures untold { IfOk result (λ told. told ≡ false → IsUntold S.Machine.rules S.speech (state_of S.Machine.rules board.new)) }
+    ensures drained { IfOk result (λ told. told ≡ true → S.speech.drained (state_of S.Machine.rules board.new) ≡ true) }
+    ensures closed { IfOk result (λ told. told ≡ true → S.speech.closed (state_of S.Machine.rules board.new) ≡ true) }
     ensures legal { IsLegal S.Machine.rules board.new.opening board.new.history }
     ensures steps_least { RisesBy steps.old steps.new (least_of S.Machine.rules board.old.opening board.old.history) (least_of S.Machine.rules board.old.opening board.new.history) }
     ensures steps_most { OnOk result (RisesWithin steps.old steps.new (most_of S.Machine.rules board.old.opening board.old.history) (most_of S.Machine.rules board.old.opening board.new.history)) }
@@ -272,12 +269,12 @@ pub(crate) fn conclude<S: Speaker, R: Wait, L: Ledger>(
     if board.is_spent() {
         return Err(NoMemory);
     }
-    let jobs = prepare(rt, board, Work::Draining, steps)?;
+    prepare(rt, board, Work::Draining, steps)?;
     if !board.machine().is_drained() {
-        return Ok(Prepared { jobs, value: false });
+        return Ok(false);
     }
     close(board, steps)?;
-    Ok(Prepared { jobs, value: true })
+    Ok(true)
 }
 
 /// Ends the work on the board at once: unless the board is spent, it is closed then.

@@ -18,6 +18,7 @@ ghost use Rattle.ug_event_loop.specs.Reading.{StandsWithin};
 use crate::came::Came;
 use crate::grammar::{Grammar, read};
 use crate::pace::Pace;
+use crate::settled::Settled;
 use crate::stop::Stop;
 use crate::tally::Tally;
 use crate::turns::{
@@ -32,7 +33,7 @@ use ug_edge::{Sink, Wire};
 use ug_events::{Event, Line, LineReader, LineRefusal};
 use ug_pieces::write_all;
 use ug_report::{write_marks, write_refusal};
-use ug_sender::Crew;
+use ug_sender::{Fleet, Roster};
 use ug_speaker::Speaker;
 use ug_turnstile::{Pass, Turnstile};
 use ug_types::{NameList, NoMemory, Steps};
@@ -94,7 +95,7 @@ impl<S: Speaker> Builder<S> {
                 accepted: 0,
                 refused: 0,
             },
-            pace: Pace::new(coalesce),
+            pace: Pace::new(),
             may_wait: false,
         }
     }
@@ -128,11 +129,11 @@ impl<S: Speaker> Builder<S> {
     }
 
     /// Marks how much each live peer was told, once everything is told.
-    fn sync<R: Wait, W: Wire, L: Ledger>(
+    fn sync<R: Wait, N: Roster<S::Opening>, W: Wire, L: Ledger>(
         &mut self,
         rt: &R,
         turnstile: &Turnstile<Board<S>>,
-        crew: &mut Crew<W, S>,
+        crew: &mut Fleet<'_, N, W, S>,
         steps: &mut Steps<L>,
     ) -> Result<Came<S::Said>, NoMemory>
         requires here { self.old.pass.turnstile ≡ turnstile.now.id }
@@ -146,24 +147,23 @@ impl<S: Speaker> Builder<S> {
         ensures steps_least { RisesBy steps.old steps.new (least_at S.Machine.rules self.old.pass.root self.old.pass.seen) (least_at S.Machine.rules self.old.pass.root self.new.pass.seen) }
         ensures steps_most { OnOk result (RisesWithin steps.old steps.new (most_at S.Machine.rules self.old.pass.root self.old.pass.seen) (most_at S.Machine.rules self.old.pass.root self.new.pass.seen)) }
     {
-        self.pace.step_back();
         for _ in rt.forever() {
             let rings = turnstile.back().rings();
             let marked = mark_in_turn(rt, turnstile, &mut self.pass, steps)?;
-            if let Some(came) = marked.value {
+            if let Some(came) = marked {
                 return Ok(came);
             }
-            wait_for(rt, turnstile, crew, &mut self.pace, rings, marked.jobs);
+            wait_for(rt, turnstile, crew, &mut self.pace, rings);
         }
         unreachable!()
     }
 
     /// What a line comes to.
-    fn come<R: Wait, W: Wire, L: Ledger>(
+    fn come<R: Wait, N: Roster<S::Opening>, W: Wire, L: Ledger>(
         &mut self,
         rt: &R,
         turnstile: &Turnstile<Board<S>>,
-        crew: &mut Crew<W, S>,
+        crew: &mut Fleet<'_, N, W, S>,
         steps: &mut Steps<L>,
         line: &[u8],
     ) -> Result<Came<S::Said>, NoMemory>
@@ -232,11 +232,11 @@ impl<S: Speaker> Builder<S> {
 
     /// Takes a line, and tells the report what it came to. Where it was an event that was accepted, it answers whether what is
     /// new is due to the lanes.
-    fn take_told<R: Wait, W: Wire, L: Ledger, K: Sink>(
+    fn take_told<R: Wait, N: Roster<S::Opening>, W: Wire, L: Ledger, K: Sink>(
         &mut self,
         rt: &R,
         turnstile: &Turnstile<Board<S>>,
-        crew: &mut Crew<W, S>,
+        crew: &mut Fleet<'_, N, W, S>,
         steps: &mut Steps<L>,
         line: &[u8],
         report: &mut K,
@@ -273,11 +273,11 @@ impl<S: Speaker> Builder<S> {
 
     /// Takes a line, and tells the report what it came to. After an event that was accepted it settles, and after each so many
     /// of them the lanes that work here are pumped, until nothing is sent for now.
-    pub(crate) fn take<R: Wait, W: Wire, L: Ledger, K: Sink>(
+    pub(crate) fn take<R: Wait, N: Roster<S::Opening>, W: Wire, L: Ledger, K: Sink>(
         &mut self,
         rt: &R,
         turnstile: &Turnstile<Board<S>>,
-        crew: &mut Crew<W, S>,
+        crew: &mut Fleet<'_, N, W, S>,
         steps: &mut Steps<L>,
         line: &[u8],
         report: &mut K,
@@ -304,14 +304,14 @@ impl<S: Speaker> Builder<S> {
         Ok(())
     }
 
-    /// Settles after an event, and lets the lanes take what there is for them where that is due. Where that was much, and lanes
-    /// that work apart took it, it settles again.
+    /// Settles after an event, and lets the lanes take what there is for them where that is due. Where that was so much that there
+    /// may be more, and it was taken for lanes in docks, it settles again.
     #[tactic(auto, using(crate::proofs::Turning::goes_further))]
-    fn pass_on<R: Wait, W: Wire, L: Ledger>(
+    fn pass_on<R: Wait, N: Roster<S::Opening>, W: Wire, L: Ledger>(
         &mut self,
         rt: &R,
         turnstile: &Turnstile<Board<S>>,
-        crew: &mut Crew<W, S>,
+        crew: &mut Fleet<'_, N, W, S>,
         steps: &mut Steps<L>,
         is_due: bool,
     ) -> Result<(), NoMemory>
@@ -329,32 +329,48 @@ impl<S: Speaker> Builder<S> {
     {
         for _ in rt.forever() {
             let settled = settle_in_turn(rt, turnstile, &mut self.pass, steps)?;
-            let may_wait = is_due || self.may_wait;
-            pump_where(rt, turnstile, crew, may_wait);
-            self.may_wait = is_due && (self.may_wait || settled.may_be_cut());
-            let has_more = self.pace.keep(rt, turnstile, crew.len(), settled, is_due);
-            if !has_more {
+            if !self.pass_to_lanes(rt, turnstile, crew, settled, is_due) {
                 return Ok(());
             }
         }
         unreachable!()
     }
 
-    /// Rings for the lanes that work apart, where they weren't rung for since there was something new for them.
+    /// Lets the lanes take what these jobs made for them, where that is due, and answers whether there may be more: where so much was
+    /// taken for lanes in docks that a queue was full.
+    fn pass_to_lanes<R: Wait, N: Roster<S::Opening>, W: Wire>(
+        &mut self,
+        rt: &R,
+        turnstile: &Turnstile<Board<S>>,
+        crew: &mut Fleet<'_, N, W, S>,
+        settled: Settled,
+        is_due: bool,
+    ) -> bool
+        requires crew { AreHere turnstile.now.id (posts_of crew.old) }
+        ensures same { self.new ≡ self.old }
+        ensures posts { posts_of crew.new ≡ posts_of crew.old }
+        ensures due { is_due ≡ true → AllRest S.Machine.rules crew.new }
+    {
+        let may_wait = is_due || self.may_wait;
+        pump_where(rt, turnstile, crew, may_wait);
+        self.may_wait = is_due && (self.may_wait || settled.may_be_cut());
+        let may_come = may_wait || settled.jobs > 0 || self.pace.is_ahead();
+        let has_come = may_come && self.pace.keep(rt, turnstile, crew, settled);
+        is_due && has_come && settled.may_be_cut()
+    }
+
+    /// Rings for the threads of lanes, where something was taken for these since they were rung for.
     pub(crate) fn ring(&self, turnstile: &Turnstile<Board<S>>) {
-        if self.pace.is_ahead() {
-            turnstile.news().ring();
-            self.pace.note_ring();
-        }
+        self.pace.ring(turnstile.news());
     }
 
     /// Takes an event before all lines, of which no report speaks. Behind it it settles, and the lanes that work here are
     /// pumped.
-    pub(crate) fn admit<R: Wait, W: Wire, L: Ledger>(
+    pub(crate) fn admit<R: Wait, N: Roster<S::Opening>, W: Wire, L: Ledger>(
         &mut self,
         rt: &R,
         turnstile: &Turnstile<Board<S>>,
-        crew: &mut Crew<W, S>,
+        crew: &mut Fleet<'_, N, W, S>,
         steps: &mut Steps<L>,
         event: Event,
     ) -> Result<(), NoMemory>
@@ -405,11 +421,11 @@ impl<S: Speaker> Builder<S> {
     }
 
     /// Ends the work on the board, once everything is told.
-    pub(crate) fn conclude<R: Wait, W: Wire, L: Ledger>(
+    pub(crate) fn conclude<R: Wait, N: Roster<S::Opening>, W: Wire, L: Ledger>(
         &mut self,
         rt: &R,
         turnstile: &Turnstile<Board<S>>,
-        crew: &mut Crew<W, S>,
+        crew: &mut Fleet<'_, N, W, S>,
         steps: &mut Steps<L>,
     ) -> Result<(), NoMemory>
         requires here { self.old.pass.turnstile ≡ turnstile.now.id }
@@ -423,15 +439,14 @@ impl<S: Speaker> Builder<S> {
         ensures steps_least { RisesBy steps.old steps.new (least_at S.Machine.rules self.old.pass.root self.old.pass.seen) (least_at S.Machine.rules self.old.pass.root self.new.pass.seen) }
         ensures steps_most { OnOk result (RisesWithin steps.old steps.new (most_at S.Machine.rules self.old.pass.root self.old.pass.seen) (most_at S.Machine.rules self.old.pass.root self.new.pass.seen)) }
     {
-        self.pace.step_back();
         for _ in rt.forever() {
             let rings = turnstile.back().rings();
             let concluded = conclude_in_turn(rt, turnstile, &mut self.pass, steps)?;
-            if concluded.value {
+            if concluded {
                 turnstile.news().ring();
                 return Ok(());
             }
-            wait_for(rt, turnstile, crew, &mut self.pace, rings, concluded.jobs);
+            wait_for(rt, turnstile, crew, &mut self.pace, rings);
         }
         unreachable!()
     }
@@ -469,10 +484,10 @@ fn is_begin(event: &Event) -> bool {
 }
 
 /// Pumps the lanes that work here, where that is due.
-fn pump_where<R: Wait, W: Wire, S: Speaker>(
+fn pump_where<R: Wait, N: Roster<S::Opening>, W: Wire, S: Speaker>(
     rt: &R,
     turnstile: &Turnstile<Board<S>>,
-    crew: &mut Crew<W, S>,
+    crew: &mut Fleet<'_, N, W, S>,
     is_due: bool,
 )
     requires crew { AreHere turnstile.now.id (posts_of crew.old) }
@@ -485,26 +500,23 @@ fn pump_where<R: Wait, W: Wire, S: Speaker>(
     }
 }
 
-/// Rings for the lanes that work apart, where there may be something new for them, and pumps those that work here; where that
-/// did nothing waits until a lane rang more often than that.
-///
-/// A lane that waits has taken all that there was when it was rung for. So it is rung for again only behind further jobs: else
-/// lanes that have nothing to do would wake each other as long as one of them is not done.
-fn wait_for<R: Wait, W: Wire, S: Speaker>(
+/// Pumps the lanes that work here, and takes what there is for those in docks; where neither did anything it rings for threads of
+/// lanes for which something was taken before, and waits until one rang more often than that.
+fn wait_for<R: Wait, N: Roster<S::Opening>, W: Wire, S: Speaker>(
     rt: &R,
     turnstile: &Turnstile<Board<S>>,
-    crew: &mut Crew<W, S>,
+    crew: &mut Fleet<'_, N, W, S>,
     pace: &mut Pace,
     rings: u64,
-    jobs: usize,
 )
     requires crew { AreHere turnstile.now.id (posts_of crew.old) }
     ensures posts { posts_of crew.new ≡ posts_of crew.old }
     ensures rest { AllRest S.Machine.rules crew.new }
 {
-    let has_rung = pace.ring_behind(turnstile, jobs);
     let has_done = crew.pump_here(rt, turnstile);
-    if !has_done && !(has_rung && pace.wait(rt, turnstile, crew.len()) > 0) {
+    let has_come = pace.load(rt, turnstile, crew).has_come;
+    if !has_done && !has_come {
+        pace.ring(turnstile.news());
         turnstile.back().wait(rt, rings);
     }
 }

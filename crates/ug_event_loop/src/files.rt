@@ -20,7 +20,7 @@ use std::sync::ledger::Ledger;
 use ug_board::Board;
 use ug_edge::{Failed, Sink, Source, Wire};
 use ug_pieces::{Halt, LineHalt, LineStop, halt_of_pieces, halt_of_stop};
-use ug_sender::Crew;
+use ug_sender::{Fleet, Roster};
 use ug_speaker::Speaker;
 use ug_turnstile::Turnstile;
 use ug_types::Steps;
@@ -37,12 +37,12 @@ const KEPT: usize = 4097;
 
 /// Reads a file to its end, of so many bytes at most, and takes the lines that a newline ends. Before it reads, which may take long
 /// where more has yet to be written, lanes are told of what is new.
-fn read_ended<R: Wait, W: Wire, S: Speaker, L: Ledger, E: Source, K: Sink>(
+fn read_ended<R: Wait, N: Roster<S::Opening>, W: Wire, S: Speaker, L: Ledger, E: Source, K: Sink>(
     rt: &R,
     alloc: Global,
     turnstile: &Turnstile<Board<S>>,
     builder: &mut Builder<S>,
-    crew: &mut Crew<W, S>,
+    crew: &mut Fleet<'_, N, W, S>,
     steps: &mut Steps<L>,
     limit: usize,
     source: &mut E,
@@ -102,12 +102,20 @@ fn read_ended<R: Wait, W: Wire, S: Speaker, L: Ledger, E: Source, K: Sink>(
 }
 
 /// Reads a file to its end, and takes its lines.
-pub(crate) fn read_events<R: Wait, W: Wire, S: Speaker, L: Ledger, E: Source, K: Sink>(
+pub(crate) fn read_events<
+    R: Wait,
+    N: Roster<S::Opening>,
+    W: Wire,
+    S: Speaker,
+    L: Ledger,
+    E: Source,
+    K: Sink,
+>(
     rt: &R,
     alloc: Global,
     turnstile: &Turnstile<Board<S>>,
     builder: &mut Builder<S>,
-    crew: &mut Crew<W, S>,
+    crew: &mut Fleet<'_, N, W, S>,
     steps: &mut Steps<L>,
     source: &mut E,
     report: &mut K,

@@ -9,7 +9,7 @@ ghost use Rattle.ug_event_loop.specs.Counts.{least_at, most_at, RisesBy, RisesWi
 
 use crate::board::{break_off, conclude, mark, offer, settle};
 use crate::came::Came;
-use crate::prepared::{Prepared, Settled};
+use crate::settled::Settled;
 use std::alloc::Global;
 use std::sync::Wait;
 use std::sync::ledger::Ledger;
@@ -76,15 +76,15 @@ pub(crate) fn mark_in_turn<S: Speaker, R: Wait, L: Ledger>(
     turnstile: &Turnstile<Board<S>>,
     pass: &mut Pass<Board<S>>,
     steps: &mut Steps<L>,
-) -> Result<Prepared<Option<Came<S::Said>>>, NoMemory>
+) -> Result<Option<Came<S::Said>>, NoMemory>
     requires here { pass.old.turnstile ≡ turnstile.now.id }
     requires free { pass.old.holds ≡ false }
     requires number { pass.old.number ≡ 0 }
     ensures same { IsSamePass pass.old pass.new }
     ensures free { pass.new.holds ≡ false }
-    ensures answers { IfOk result (λ marked. IfSome marked.value (λ came. AnswersAt S.Machine.rules S.speech pass.new.root (Ok SaysSync) (answer_of S.speech.marks came) pass.old.seen pass.new.seen)) }
-    ensures waits { IfOk result (λ marked. IfNone marked.value (GoesOn S.Machine.rules S.speech pass.old.seen pass.new.seen)) }
-    ensures untold { IfOk result (λ marked. IfNone marked.value (IsUntoldAt S.Machine.rules S.speech pass.new.root pass.new.seen)) }
+    ensures answers { IfOk result (λ marked. IfSome marked (λ came. AnswersAt S.Machine.rules S.speech pass.new.root (Ok SaysSync) (answer_of S.speech.marks came) pass.old.seen pass.new.seen)) }
+    ensures waits { IfOk result (λ marked. IfNone marked (GoesOn S.Machine.rules S.speech pass.old.seen pass.new.seen)) }
+    ensures untold { IfOk result (λ marked. IfNone marked (IsUntoldAt S.Machine.rules S.speech pass.new.root pass.new.seen)) }
     ensures stopped { OnErr result (GoesOn S.Machine.rules S.speech pass.old.seen pass.new.seen) }
     ensures legal { IsLegalAt S.Machine.rules S.speech pass.new.root pass.new.seen }
     ensures steps_least { RisesBy steps.old steps.new (least_at S.Machine.rules pass.old.root pass.old.seen) (least_at S.Machine.rules pass.old.root pass.new.seen) }
@@ -103,16 +103,16 @@ pub(crate) fn conclude_in_turn<S: Speaker, R: Wait, L: Ledger>(
     turnstile: &Turnstile<Board<S>>,
     pass: &mut Pass<Board<S>>,
     steps: &mut Steps<L>,
-) -> Result<Prepared<bool>, NoMemory>
+) -> Result<bool, NoMemory>
     requires here { pass.old.turnstile ≡ turnstile.now.id }
     requires free { pass.old.holds ≡ false }
     requires number { pass.old.number ≡ 0 }
     ensures same { IsSamePass pass.old pass.new }
     ensures free { pass.new.holds ≡ false }
     ensures history { WindsUp S.Machine.rules S.speech pass.old.seen pass.new.seen }
-    ensures waits { IfOk result (λ told. told.value ≡ false → GoesOn S.Machine.rules S.speech pass.old.seen pass.new.seen) }
-    ensures untold { IfOk result (λ told. told.value ≡ false → IsUntoldAt S.Machine.rules S.speech pass.new.root pass.new.seen) }
-    ensures ended { IfOk result (λ told. told.value ≡ true → IsEndedAt S.Machine.rules S.speech pass.new.root pass.new.seen) }
+    ensures waits { IfOk result (λ told. told ≡ false → GoesOn S.Machine.rules S.speech pass.old.seen pass.new.seen) }
+    ensures untold { IfOk result (λ told. told ≡ false → IsUntoldAt S.Machine.rules S.speech pass.new.root pass.new.seen) }
+    ensures ended { IfOk result (λ told. told ≡ true → IsEndedAt S.Machine.rules S.speech pass.new.root pass.new.seen) }
     ensures legal { IsLegalAt S.Machine.rules S.speech pass.new.root pass.new.seen }
     ensures steps_least { RisesBy steps.old steps.new (least_at S.Machine.rules pass.old.root pass.old.seen) (least_at S.Machine.rules pass.old.root pass.new.seen) }
     ensures steps_most { OnOk result (RisesWithin steps.old steps.new (most_at S.Machine.rules pass.old.root pass.old.seen) (most_at S.Machine.rules pass.old.root pass.new.seen)) }

@@ -1,4 +1,5 @@
 pub mod Crews
+pub mod Loads
 pub mod Missing
 pub mod Outcomes
 pub mod Pieces

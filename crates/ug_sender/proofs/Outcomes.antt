@@ -148,20 +148,20 @@ ending-numbers Stop = refl
 ending-numbers More = refl
 
 -- the losses that a call leads to
-Losses : List (Deed (List ℕ)) → List (Deed (List ℕ)) → Type 0
+unfoldable pub Losses : List (Deed (List ℕ)) → List (Deed (List ℕ)) → Type 0
 Losses old new = (lost : List ℕ) × (new ≡ old ++ map (λ n. Loses n) lost)
 
-went-losses : (went : Went) (session : Option ℕ) (old new : List (Deed (List ℕ))) → TellsWent went session old new → Losses old new
+pub went-losses : (went : Went) (session : Option ℕ) (old new : List (Deed (List ℕ))) → TellsWent went session old new → Losses old new
 unfolding Losses
 went-losses Well session old new tells = ([], tells ∙ sym (append-nil old))
 went-losses (Ill noted) None old new tells = absurd tells
 went-losses (Ill true) (Some n) old new tells = (n ∷ [], tells)
 went-losses (Ill false) (Some n) old new tells = ([], tells ∙ sym (append-nil old))
 
-abbrev loses : List ℕ → List (Deed (List ℕ))
+abbrev pub loses : List ℕ → List (Deed (List ℕ))
 loses numbers = map (λ n. Loses n) numbers
 
-map-both : (a b : List ℕ) → loses (a ++ b) ≡ loses a ++ loses b
+pub map-both : (a b : List ℕ) → loses (a ++ b) ≡ loses a ++ loses b
 map-both [] b = refl
 map-both (x ∷ a) b = ap (λ l. Loses x ∷ l) (map-both a b)
 
@@ -229,7 +229,7 @@ went-longer (Ill noted) None old new tells = absurd tells
 went-longer (Ill true) (Some n) old new tells = let more = ap length tells in omega (arith, length-append old (Loses n ∷ []))
 went-longer (Ill false) (Some n) old new tells = let same = ap length tells in omega arith
 
-length-hands : (packets : List Packet) → length (hands packets) ≡ length packets
+pub length-hands : (packets : List Packet) → length (hands packets) ≡ length packets
 length-hands packets = length-map packets (λ p. Hands p.session p.bytes)
 
 done_by :

@@ -50,7 +50,7 @@ taken-further latest count filled len buf buf' d0 d1 d2 taken step =
           ∙ (append_assoc d0 (hands taken.packets) (hands (packet ∷ [])) ∙ ap (λ d. d0 ++ d) (sym (hands-more taken.packets packet))));
     }
 
-begins-hands : (d : List (Deed (List ℕ))) (packets : List Packet) → begins (d ++ hands packets) ≡ begins d
+pub begins-hands : (d : List (Deed (List ℕ))) (packets : List Packet) → begins (d ++ hands packets) ≡ begins d
 begins-hands [] [] = refl
 begins-hands [] (packet ∷ packets) = begins-hands [] packets
 begins-hands (Begins n ∷ d) packets = ap (λ m. 1 + m) (begins-hands d packets)
@@ -97,7 +97,7 @@ adds-nothing owner number a = ([], sym (append-nil a), All-nil (λ e. owner e �
 
 -- One answer within a turn, by what stands in the buffer
 
-take-past : (filled len : ℕ) (front room : List ℕ) → length front ≡ filled → take (filled + len) (front ++ room) ≡ front ++ take len room
+pub take-past : (filled len : ℕ) (front room : List ℕ) → length front ≡ filled → take (filled + len) (front ++ room) ≡ front ++ take len room
 take-past filled len front room is = ap (λ n. take (n + len) (front ++ room)) (sym is) ∙ take-append-add front room len
 
 bytes-open : (latest : Option ℕ) (session : ℕ) (bytes : List ℕ) → latest ≡ Some session → bytes_of latest (record { session = session; bytes = bytes }) ≡ bytes

@@ -3,6 +3,7 @@ pub mod Lanes
 pub mod Tellings
 pub mod Pieces
 pub mod Rounds
+pub mod Loads
 pub mod Posts
 pub mod Places
 pub mod PostLaws

@@ -1,5 +1,5 @@
 -- Posts: where the lanes of a run stand, whatever they have sent.
-use Rattle.std.specs.Prelude.{◌≡◌, ℕ, List, [], ◌∷◌, All, Option, Some, None, map}
+use Rattle.std.specs.Prelude.{◌≡◌, ℕ, List, [], ◌∷◌, All, Option, Some, None, map, get_or, slice_get}
 use Rattle.atomic_table.specs.Seated.{TableId}
 use Rattle.ug_edge.specs.Told.{WireName}
 use Rattle.ug_board.specs.Entry.{Entry}
@@ -35,6 +35,21 @@ AreSamePosts [] [] = Unit {0}
 AreSamePosts [] (new ∷ news) = ⊥
 AreSamePosts (old ∷ olds) [] = ⊥
 AreSamePosts (old ∷ olds) (new ∷ news) = IsSamePost old new × AreSamePosts olds news
+
+-- The lane at each place of these has the post that is told of that place.
+abbrev pub IsRosterOf : {Opening : Type 0} → (ℕ → Post Opening) → List (Post Opening) → Type 0
+IsRosterOf {Opening} post all = (place : ℕ) (at : Post Opening) → slice_get all place ≡ Some at → post place ≡ at
+
+-- a turnstile and a post of which nothing is said
+abbrev pub nowhere : TableId
+nowhere = record { words = 0; slots = 0; views_name = 0; atom = 0; block = 0; offset = 0; slot_names = [] }
+
+abbrev pub no_post : {Opening : Type 0} → Post Opening
+no_post = record { turnstile = nowhere; number = 0; root = None; peer = 0; made_for = record { dir = []; peer = [] } }
+
+-- the post at a place of these
+abbrev pub post_at : {Opening : Type 0} → List (Post Opening) → ℕ → Post Opening
+post_at all place = get_or all place no_post
 
 -- A worker: its post, and the pass of its lane where that works here.
 pub record WorkerView (Opening Job Said : Type 0) : Type 0 where

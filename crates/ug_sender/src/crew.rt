@@ -3,14 +3,15 @@
 ghost use Rattle.std.specs.Prelude.{◌≡◌, ◌≤◌, [], length, map, true, false, is_some, All, IfSome, IfOk, IfErr};
 ghost use Rattle.std.specs.Vec.{vec_len, vec_capacity};
 ghost use Rattle.ug_sender.specs.Lanes.{IsOver};
-ghost use Rattle.ug_sender.specs.Posts.{AreHere, AllRest, posts, posts_of, worker_here, here_deeds};
+ghost use Rattle.ug_sender.specs.Posts.{AreHere, AllRest, IsRosterOf, posts, posts_of, worker_here, here_deeds};
 
+use crate::dock::{Dock, Docks, Roster};
 use crate::lane::Lane;
 use crate::worker::Worker;
 use std::alloc::Global;
 use std::marker::Model;
 use std::sync::Wait;
-use std::thread::Threads;
+use std::vec::IntoIter;
 use ug_board::{Board, Machine};
 use ug_edge::Wire;
 use ug_turnstile::Turnstile;
@@ -115,12 +116,19 @@ impl<W: Wire, M: Machine> Crew<W, M> {
         }
     }
 
-    /// The lanes in their order, once the threads are done. It takes no memory.
-    pub fn join<R: Threads>(self, rt: &R) -> Sequence<Lane<W, M>>
+    /// The lanes in their order, once the threads are done: those that aren't here come from their docks. It takes no memory.
+    pub fn gather<R: Wait, N: Roster<M::Opening>>(
+        self,
+        rt: &R,
+        turnstile: &Turnstile<Board<M>>,
+        docks: Docks<N, W, M>,
+    ) -> Sequence<Lane<W, M>>
+        requires here { N.turnstile ≡ turnstile.now.id }
+        requires roster { IsRosterOf N.post (posts_of self) }
         ensures { posts result.items ≡ posts_of self }
     {
         let Crew { workers, room } = self;
-        gather(rt, workers, room)
+        gather(rt, turnstile, workers, docks, room)
     }
 }
 
@@ -140,17 +148,29 @@ fn enlist<W: Wire, M: Machine>(
 }
 
 /// The lanes of the workers, for which there is room.
-fn gather<R: Threads, W: Wire, M: Machine>(
+fn gather<R: Wait, N: Roster<M::Opening>, W: Wire, M: Machine>(
     rt: &R,
+    turnstile: &Turnstile<Board<M>>,
     workers: Vec<Worker<W, M>>,
+    docks: Docks<N, W, M>,
     mut lanes: Vec<Lane<W, M>>,
 ) -> Sequence<Lane<W, M>>
+    requires here { N.turnstile ≡ turnstile.now.id }
+    requires roster { IsRosterOf N.post (posts_of workers.items) }
     requires none { lanes.items ≡ [] }
     requires room { vec_len workers ≤ vec_capacity lanes }
     ensures { posts result.items ≡ posts_of workers.items }
 {
+    let mut docks = docks.into_iter();
     for worker in workers {
-        lanes.push_reserved(worker.join(rt));
+        let lane = worker.join(rt, turnstile, next_of(&mut docks), lanes.len());
+        lanes.push_reserved(lane);
     }
     Sequence::from_vec(lanes)
+}
+
+fn next_of<N: Roster<M::Opening>, W: Wire, M: Machine>(
+    docks: &mut IntoIter<Dock<N, W, M>>,
+) -> Option<Dock<N, W, M>> {
+    docks.next()
 }

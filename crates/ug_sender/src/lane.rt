@@ -32,12 +32,12 @@ const BUFFER_SIZE: usize = 131072;
 /// with a front of what was handed out in it, and all of it where no call failed.
 #[derive(Drop)]
 pub struct Lane<W: Wire, M: Machine> {
-    wire: W,
-    pass: Pass<Board<M>>,
-    peer: PeerId,
-    latest: Option<u32>,
-    unnoted: bool,
-    buf: Vec<u8>,
+    pub(crate) wire: W,
+    pub(crate) pass: Pass<Board<M>>,
+    pub(crate) peer: PeerId,
+    pub(crate) latest: Option<u32>,
+    pub(crate) unnoted: bool,
+    pub(crate) buf: Vec<u8>,
 }
 
 /// The memory that a lane works in: room for the packets of a turn.
@@ -294,7 +294,12 @@ fn with_loss(unnoted: bool, is_noted: bool) -> bool
 }
 
 /// The open session, after a turn and after the calls of the wire for it.
-fn open_after(latest: Option<u32>, ending: Ending, sent: Went, begun: Went) -> Option<u32>
+pub(crate) fn open_after(
+    latest: Option<u32>,
+    ending: Ending,
+    sent: Went,
+    begun: Went,
+) -> Option<u32>
     ensures { result ≡ open_after latest ending sent begun }
 {
     match (ending, sent, begun) {
@@ -306,7 +311,7 @@ fn open_after(latest: Option<u32>, ending: Ending, sent: Went, begun: Went) -> O
 }
 
 /// Whether a loss was not taken, after these calls of the wire.
-fn with_calls(unnoted: bool, sent: Went, begun: Went) -> bool
+pub(crate) fn with_calls(unnoted: bool, sent: Went, begun: Went) -> bool
     ensures { result ≡ ((unnoted || is_unnoted (fate_after sent)) || is_unnoted (fate_after begun)) }
 {
     unnoted || sent.is_unnoted() || begun.is_unnoted()

@@ -5,6 +5,9 @@
 
 mod asking;
 mod crew;
+mod dock;
+mod fleet;
+mod laden;
 mod lane;
 mod open;
 mod places;
@@ -15,8 +18,11 @@ mod turn;
 mod worker;
 
 pub use crew::Crew;
+pub use dock::{Dock, Docks, Intake, Roster};
+pub use fleet::Fleet;
+pub use laden::{Laden, Load};
 pub use lane::{Buffer, Lane, Returned};
 pub use places::{put_in, take_out};
 pub use pumped::{Pumped, Round};
 pub use serve::labour;
-pub use worker::{Child, SamePost, Worker};
+pub use worker::Worker;

@@ -1,15 +1,13 @@
 //! What a worker does with its lane.
 
-ghost use Rattle.std.specs.Prelude.{◌≡◌, ◌⊎◌, true, false};
+ghost use Rattle.std.specs.Prelude.{◌≡◌, true, false};
 ghost use Rattle.ug_turnstile.specs.Passes.{StartsWith};
 ghost use Rattle.ug_sender.specs.Lanes.{IsSamePost, IsAtRest, IsOver, pass_deeds};
-ghost use Rattle.ug_sender.specs.Posts.{post_of};
 
+use crate::dock::{Dock, Roster};
 use crate::lane::Lane;
 use crate::pumped::Pumped;
 use std::sync::Wait;
-use std::sync::atomic::AtomicUsize;
-use std::sync::atomic::Ordering::SeqCst;
 use ug_board::{Board, Machine};
 use ug_edge::Wire;
 use ug_turnstile::Turnstile;
@@ -57,47 +55,42 @@ pub(crate) fn pump_to_end<R: Wait, W: Wire, M: Machine>(
     }
 }
 
-/// The work of a thread: its lane, until there is nothing more to send. A lane whose thread was refused is handed back at
-/// once: `refused` is then its place.
-pub fn labour<R: Wait, W: Wire, M: Machine>(
+/// Pumps the lane until there is nothing to send, for now or for ever, and answers whether it is for ever.
+pub(crate) fn pump_for_now<R: Wait, W: Wire, M: Machine>(
     rt: &R,
     turnstile: &Turnstile<Board<M>>,
-    lane: Lane<W, M>,
-    place: usize,
-    refused: &AtomicUsize,
-) -> Lane<W, M>
-    requires here { lane.pass.turnstile ≡ turnstile.now.id }
-    ensures post { post_of result ≡ post_of lane }
-    ensures over { (result ≡ lane) ⊎ IsOver M.rules result.peer result.pass }
+    lane: &mut Lane<W, M>,
+) -> bool
+    requires here { lane.old.pass.turnstile ≡ turnstile.now.id }
+    ensures same { IsSamePost lane.old lane.new }
+    ensures rests { IsAtRest M.rules lane.new.peer lane.new.pass }
+    ensures over { result ≡ true → IsOver M.rules lane.new.peer lane.new.pass }
 {
-    if refused.load(SeqCst) == place {
-        return lane;
-    }
-    work_by_bell(rt, turnstile, lane)
-}
-
-/// Pumps the lane until there is nothing more to send. Where there is nothing to send for now it rings for the builder, and
-/// waits until that rang.
-fn work_by_bell<R: Wait, W: Wire, M: Machine>(
-    rt: &R,
-    turnstile: &Turnstile<Board<M>>,
-    lane: Lane<W, M>,
-) -> Lane<W, M>
-    requires here { lane.pass.turnstile ≡ turnstile.now.id }
-    ensures post { post_of result ≡ post_of lane }
-    ensures over { IsOver M.rules result.peer result.pass }
-{
-    let mut lane = lane;
     for _ in rt.forever() {
-        let rings = turnstile.news().rings();
         match lane.pump_round(rt, turnstile).end {
-            Pumped::Stopped => return lane,
-            Pumped::Idle => {
-                turnstile.back().ring();
-                turnstile.news().wait(rt, rings);
-            }
+            Pumped::Stopped => return true,
+            Pumped::Idle => return false,
             Pumped::Begun | Pumped::Sent | Pumped::Lost => {}
         }
     }
     unreachable!()
+}
+
+/// The work of a thread: it sends what was taken for the lane of this dock, and takes and sends what there is beyond that, until
+/// there is nothing more to send. Where there is nothing for now it rings for the builder, and waits until that rang.
+pub fn labour<R: Wait, N: Roster<M::Opening>, W: Wire, M: Machine>(
+    rt: &R,
+    turnstile: &Turnstile<Board<M>>,
+    dock: &Dock<N, W, M>,
+)
+    requires here { N.turnstile ≡ turnstile.now.id }
+{
+    for _ in rt.forever() {
+        let rings = turnstile.news().rings();
+        if dock.serve(rt, turnstile) {
+            return;
+        }
+        turnstile.back().ring();
+        turnstile.news().wait(rt, rings);
+    }
 }

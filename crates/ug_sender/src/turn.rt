@@ -1,12 +1,12 @@
 //! What a lane takes in one turn: packets, as long as there are some and there is room for them.
 
-ghost use Rattle.std.specs.Prelude.{◌≡◌, ◌+◌, ◌<◌, ◌≤◌, ◌⊎◌, length, true, false, Some, None};
+ghost use Rattle.std.specs.Prelude.{◌≡◌, ◌+◌, ◌<◌, ◌≤◌, ◌⊎◌, length, true, false, Some, None, IsSome};
 ghost use Rattle.ug_board.specs.Rules.{buffer_size};
 ghost use Rattle.ug_turnstile.specs.Passes.{Adds, IsSamePass, StartsWith};
 ghost use Rattle.ug_sender.specs.declared.turn.Ending.TheVariants.{Idle, Stop, More};
 ghost use Rattle.ug_sender.specs.declared.turn.Next.TheVariants.{Last};
 ghost use Rattle.ug_sender.specs.Lanes.{AreOfPeer, IsOfPeer, IdlesAt, StopsAt, IsOver, deeds_at, pass_deeds};
-ghost use Rattle.ug_sender.specs.Rounds.{TellsStep, TellsTurn};
+ghost use Rattle.ug_sender.specs.Rounds.{TellsStep, TellsTurn, begun_by};
 
 use crate::asking::next_on;
 use crate::open::is_open;
@@ -19,7 +19,7 @@ use ug_types::PeerId;
 const PACKETS_OF_A_TURN: usize = 8192;
 
 /// The bytes of the longest message: a turn goes on as long as there is room for one.
-const LONGEST_MESSAGE: usize = 65535;
+pub(crate) const LONGEST_MESSAGE: usize = 65535;
 
 /// What ended a turn of a lane.
 #[derive(Clone, Copy, PartialEq, Eq)]
@@ -32,6 +32,19 @@ pub(crate) enum Ending {
     Stop,
     /// The buffer is full, or it was the other lanes' turn: there may be more.
     More,
+}
+
+impl Ending {
+    /// Whether a session begins.
+    pub(crate) fn is_begun(self) -> bool
+        ensures yes { result ≡ true → IsSome (begun_by self) }
+        ensures no { result ≡ false → begun_by self ≡ None }
+    {
+        match self {
+            Ending::Begun { .. } => true,
+            Ending::Idle | Ending::Stop | Ending::More => false,
+        }
+    }
 }
 
 /// What a turn of a lane came to.

@@ -5,48 +5,29 @@ ghost use Rattle.ug_turnstile.specs.Passes.{StartsWith};
 ghost use Rattle.ug_sender.specs.Lanes.{IsOver};
 ghost use Rattle.ug_sender.specs.Posts.{post_of, worker_here, worker_apart, Rests, here_deeds};
 
+use crate::dock::{Dock, Roster, lane_of};
 use crate::lane::Lane;
 use crate::serve::{pump_out, pump_to_end};
 use std::marker::Model;
 use std::snapshot::Snapshot;
 use std::sync::Wait;
-use std::thread::{Promise, PromisedHandle, Threads};
 use ug_board::{Board, Machine};
 use ug_edge::Wire;
 use ug_turnstile::Turnstile;
-
-/// The promise of a thread that is given a lane: the lane comes back, at the same post.
-#[derive(Drop)]
-pub struct SamePost<W: Wire, M: Machine>(Snapshot<Lane<W, M>>);
-
-impl<W: Wire, M: Machine> SamePost<W, M> {
-    /// The promise of the post of this lane.
-    pub fn of(lane: &Lane<W, M>) -> Self
-        ensures { result.0.value ≡ lane.now }
-    {
-        SamePost(Snapshot::of(lane))
-    }
-}
-
-impl<W: Wire, M: Machine> Promise<Lane<W, M>> for SamePost<W, M> {
-    ghost kept_by = { λ promise lane. post_of lane ≡ post_of promise.0.value };
-}
 
 /// Where a worker is.
 #[derive(Drop)]
 enum Place<L, H> {
     /// The lane works here, whenever it is pumped.
     Here(L),
-    /// The lane works in this thread.
+    /// The lane has a thread of its own, and lies in its dock or is worked on by that thread. Its post is that of this one.
     Apart(H),
 }
 
-pub type Child<W, M> = PromisedHandle<Lane<W, M>, SamePost<W, M>>;
-
-/// A lane that works in a thread of its own, or here. Contracts see its post, and the pass of a lane that works here.
+/// A lane that has a thread of its own, or works here. Contracts see its post, and the pass of a lane that works here.
 #[derive(Drop)]
 pub struct Worker<W: Wire, M: Machine> {
-    place: Place<Lane<W, M>, Child<W, M>>,
+    place: Place<Lane<W, M>, Snapshot<Lane<W, M>>>,
 }
 
 impl<W: Wire, M: Machine> Model for Worker<W, M> {
@@ -56,7 +37,7 @@ impl<W: Wire, M: Machine> Model for Worker<W, M> {
 
     ghost use Rattle.ug_sender.specs.Places.{at_place};
 
-    ghost view = { λ w. at_place (λ lane. worker_here lane) (λ child. worker_apart child.promise.0.value) w.place };
+    ghost view = { λ w. at_place (λ lane. worker_here lane) (λ lane. worker_apart lane.value) w.place };
 }
 
 impl<W: Wire, M: Machine> Worker<W, M> {
@@ -69,12 +50,27 @@ impl<W: Wire, M: Machine> Worker<W, M> {
         }
     }
 
-    /// A lane that works in this thread.
-    pub fn apart(child: Child<W, M>) -> Self
-        ensures { result ≡ worker_apart child.promise.0.value }
+    /// A lane that has a thread of its own, and is put into its dock.
+    pub fn moor<R: Wait, N: Roster<M::Opening>>(
+        rt: &R,
+        dock: &Dock<N, W, M>,
+        lane: Lane<W, M>,
+        place: usize,
+    ) -> Self
+        requires here { lane.pass.turnstile ≡ N.turnstile }
+        requires post { post_of lane ≡ N.post place }
+        ensures { result ≡ worker_apart lane }
+    {
+        let was = Snapshot::of(&lane);
+        dock.moor(rt, lane, place);
+        Worker::apart(was)
+    }
+
+    fn apart(was: Snapshot<Lane<W, M>>) -> Self
+        ensures { result ≡ worker_apart was.value }
     {
         Worker {
-            place: Place::Apart(child),
+            place: Place::Apart(was),
         }
     }
 
@@ -114,17 +110,25 @@ impl<W: Wire, M: Machine> Worker<W, M> {
     {
         match self.place {
             Place::Here(lane) => Ok(lane),
-            Place::Apart(child) => Err(Worker::apart(child)),
+            Place::Apart(was) => Err(Worker::apart(was)),
         }
     }
 
-    /// The lane, once its thread is done.
-    pub fn join<R: Threads>(self, rt: &R) -> Lane<W, M>
+    /// The lane, once its thread is done: that of its dock, where it isn't here.
+    pub(crate) fn join<R: Wait, N: Roster<M::Opening>>(
+        self,
+        rt: &R,
+        turnstile: &Turnstile<Board<M>>,
+        dock: Option<Dock<N, W, M>>,
+        place: usize,
+    ) -> Lane<W, M>
+        requires here { N.turnstile ≡ turnstile.now.id }
+        requires post { N.post place ≡ self.post }
         ensures { post_of result ≡ self.post }
     {
         match self.place {
             Place::Here(lane) => lane,
-            Place::Apart(child) => child.join(rt),
+            Place::Apart(_was) => lane_of(rt, turnstile, dock, place),
         }
     }
 }

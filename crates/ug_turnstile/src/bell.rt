@@ -3,6 +3,7 @@
 use std::sync::Wait;
 use std::sync::atomic::AtomicU64;
 use std::sync::atomic::Ordering::SeqCst;
+use std::time::Duration;
 
 /// A bell: a count of its rings, which rises whenever something may have come for those that wait. Whoever reads the
 /// count, looks whether something is there, and waits where nothing is until the count is another one, misses nothing
@@ -40,6 +41,14 @@ impl Bell {
     pub fn wait<R: Wait>(&self, rt: &R, rings: u64) {
         let _before = self.waiting.fetch_add(1, SeqCst);
         self.rings.park(rt, (rings % 4294967296) as u32);
+        let _after = self.waiting.fetch_sub(1, SeqCst);
+    }
+
+    /// Waits until it was rung more often than that, but no longer than so. It may return before.
+    pub fn wait_at_most<R: Wait>(&self, rt: &R, rings: u64, moment: Duration) {
+        let _before = self.waiting.fetch_add(1, SeqCst);
+        self.rings
+            .park_timeout(rt, (rings % 4294967296) as u32, moment);
         let _after = self.waiting.fetch_sub(1, SeqCst);
     }
 }

@@ -9,8 +9,8 @@ pub returns-clause-adds : goal.returns-clause-adds
 returns-clause-adds g c =
     adds_further (λ entry. entry.pass) 0 c.args.board.now.history c.prepare.new.board.history c.close.new.board.history c.prepare.ensures.adds c.close.ensures.adds
 
-pub returns-in_err-jobs-clause-history : goal.returns-in_err-jobs-clause-history
-returns-in_err-jobs-clause-history g c =
+pub returns-in_err-prepare-clause-history : goal.returns-in_err-prepare-clause-history
+returns-in_err-prepare-clause-history g c =
     winds_by_going g.S.Machine.rules g.S.Speaker.speech c.args.board.now.history c.prepare.new.board.history c.prepare.ensures.history
 
 pub returns-then-not-is_drained-clause-history : goal.returns-then-not-is_drained-clause-history

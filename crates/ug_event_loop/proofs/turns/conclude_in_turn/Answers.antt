@@ -27,8 +27,8 @@ pub returns-clause-waits : goal.returns-clause-waits
 returns-clause-waits g c =
     let rules = g.S.Machine.rules in
     let speech = g.S.Speaker.speech in
-    if-ok (λ told. told.value ≡ false → GoesOn rules speech c.state.result.now.history c.conclude-concluded.new.board.history)
-    (λ told. told.value ≡ false → GoesOn rules speech c.args.pass.now.seen c.give.new.pass.seen)
+    if-ok (λ told. told ≡ false → GoesOn rules speech c.state.result.now.history c.conclude-concluded.new.board.history)
+    (λ told. told ≡ false → GoesOn rules speech c.args.pass.now.seen c.give.new.pass.seen)
     c.conclude-concluded.result
     (λ told goes untold. goes-over rules speech c.args.pass.now c.take-turn.result c.state.result.now c.conclude-concluded.new.board c.give.new.pass.root c.give.new.pass.seen
     c.requires.number c.take-turn.ensures.agrees c.state.ensures.value c.conclude-concluded.ensures.opening (c.give.ensures.same.2 ∙ c.take-turn.ensures.same.2) c.give.ensures.seen

@@ -10,12 +10,12 @@ pub returns-clause-answers : goal.returns-clause-answers
 returns-clause-answers g c =
     let rules = g.S.Machine.rules in
     let speech = g.S.Speaker.speech in
-    if-ok (λ marked. IfSome marked.value (λ came. Answers rules speech c.state.result.now.opening (Ok SaysSync) (answer_of speech.marks came) c.state.result.now.history c.mark-marked.new.board.history))
-    (λ marked. IfSome marked.value (λ came. AnswersAt rules speech c.give.new.pass.root (Ok SaysSync) (answer_of speech.marks came) c.args.pass.now.seen c.give.new.pass.seen))
+    if-ok (λ marked. IfSome marked (λ came. Answers rules speech c.state.result.now.opening (Ok SaysSync) (answer_of speech.marks came) c.state.result.now.history c.mark-marked.new.board.history))
+    (λ marked. IfSome marked (λ came. AnswersAt rules speech c.give.new.pass.root (Ok SaysSync) (answer_of speech.marks came) c.args.pass.now.seen c.give.new.pass.seen))
     c.mark-marked.result
     (λ marked h. if-some (λ came. Answers rules speech c.state.result.now.opening (Ok SaysSync) (answer_of speech.marks came) c.state.result.now.history c.mark-marked.new.board.history)
     (λ came. AnswersAt rules speech c.give.new.pass.root (Ok SaysSync) (answer_of speech.marks came) c.args.pass.now.seen c.give.new.pass.seen)
-    marked.value
+    marked
     (λ came answers.
     answers-over g.S.Machine.rules g.S.Speaker.speech c.args.pass.now c.take-turn.result c.state.result.now c.mark-marked.new.board c.give.new.pass.root c.give.new.pass.seen
     c.requires.number c.take-turn.ensures.agrees c.state.ensures.value c.mark-marked.ensures.opening (c.give.ensures.same.2 ∙ c.take-turn.ensures.same.2) c.give.ensures.seen
@@ -27,8 +27,8 @@ pub returns-clause-waits : goal.returns-clause-waits
 returns-clause-waits g c =
     let rules = g.S.Machine.rules in
     let speech = g.S.Speaker.speech in
-    if-ok (λ marked. IfNone marked.value (GoesOn rules speech c.state.result.now.history c.mark-marked.new.board.history)) (λ marked. IfNone marked.value (GoesOn rules speech c.args.pass.now.seen c.give.new.pass.seen)) c.mark-marked.result
-    (λ marked h. if-none (GoesOn rules speech c.state.result.now.history c.mark-marked.new.board.history) (GoesOn rules speech c.args.pass.now.seen c.give.new.pass.seen) marked.value (goes-over g.S.Machine.rules g.S.Speaker.speech c.args.pass.now c.take-turn.result c.state.result.now c.mark-marked.new.board c.give.new.pass.root c.give.new.pass.seen
+    if-ok (λ marked. IfNone marked (GoesOn rules speech c.state.result.now.history c.mark-marked.new.board.history)) (λ marked. IfNone marked (GoesOn rules speech c.args.pass.now.seen c.give.new.pass.seen)) c.mark-marked.result
+    (λ marked h. if-none (GoesOn rules speech c.state.result.now.history c.mark-marked.new.board.history) (GoesOn rules speech c.args.pass.now.seen c.give.new.pass.seen) marked (goes-over g.S.Machine.rules g.S.Speaker.speech c.args.pass.now c.take-turn.result c.state.result.now c.mark-marked.new.board c.give.new.pass.root c.give.new.pass.seen
     c.requires.number c.take-turn.ensures.agrees c.state.ensures.value c.mark-marked.ensures.opening (c.give.ensures.same.2 ∙ c.take-turn.ensures.same.2) c.give.ensures.seen) h)
     c.mark-marked.ensures.waits
 

@@ -1,7 +1,7 @@
 use Rattle.std.proofs.Common.{◌≡◌}
 use Rattle.std.specs.Vec.{vec_len}
 use Rattle.ug_sender.specs.Posts.{posts_of}
-use Rattle.ug_event_loop.proofs.beside.fn.beside.scope.Given as goal
+use Rattle.ug_event_loop.proofs.beside.fn.beside_docks.scope.Given as goal
 
 -- the posts are as they were, there is room for the lanes, and what is lent is as it was
 abbrev pub invariant-loop-place : goal.invariant-loop-place

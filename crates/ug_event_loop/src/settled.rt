@@ -1,13 +1,6 @@
-//! What a turn of the builder came to, and how many jobs no line asked for were done in it.
+//! How many jobs no line asked for were done before an event.
 
 ghost use Rattle.std.specs.Prelude.{◌≤◌, ◌↔◌, IsTrue};
-
-/// What a turn came to, and how many jobs were done before.
-#[derive(Drop)]
-pub(crate) struct Prepared<T> {
-    pub(crate) jobs: usize,
-    pub(crate) value: T,
-}
 
 /// How many jobs were done before the next event, and how many packets a queue holds at most.
 #[derive(Clone, Copy, Drop)]

@@ -1,5 +1,5 @@
 use Rattle.ug_sender.specs.Lanes.{IsSamePost}
-use Rattle.ug_sender.proofs.serve.work_by_bell.Given as goal
+use Rattle.ug_sender.proofs.serve.pump_for_now.Given as goal
 
 -- the lane is at its post
 abbrev pub invariant-loop : goal.invariant-loop

@@ -1,0 +1,220 @@
+//! A lane that took packets which its wire has not got yet.
+
+ghost use Rattle.std.specs.Prelude.{◌≡◌, ◌+◌, ◌<◌, ◌≤◌, ◌⊎◌, length, take, drop, true, false, None, IsSome};
+ghost use Rattle.ug_board.specs.Rules.{buffer_size};
+ghost use Rattle.ug_turnstile.specs.Passes.{IsSamePass, StartsWith};
+ghost use Rattle.ug_sender.specs.declared.turn.Ending.TheVariants.{Idle, Stop, More};
+ghost use Rattle.ug_sender.specs.Lanes.{IdlesAt, IsAtRest, IsOfPeer, IsOver, IsSamePost, KeepsLane, pass_deeds};
+ghost use Rattle.ug_sender.specs.Loads.{TellsLoad, TellsSend};
+ghost use Rattle.ug_sender.specs.Rounds.{TellsTurn, begun_by};
+
+use crate::lane::{Lane, open_after, with_calls};
+use crate::sending::{begin_taken, send_taken};
+use crate::turn::{Ending, LONGEST_MESSAGE, Taken, take_turn};
+use std::marker::Model;
+use std::sync::Wait;
+use ug_board::{Board, Machine};
+use ug_edge::Wire;
+use ug_turnstile::{Pass, Turnstile};
+use ug_types::PeerId;
+
+/// Half of the bytes of a lane's buffer.
+const HALF_OF_BUFFER: usize = 65536;
+
+/// A lane that took packets which its wire has not got yet: they stand at the front of its buffer, and behind them the
+/// session that began, if one did. Contracts see what they see of a lane.
+#[derive(Drop)]
+pub struct Laden<W: Wire, M: Machine> {
+    wire: W,
+    pass: Pass<Board<M>>,
+    peer: PeerId,
+    latest: Option<u32>,
+    unnoted: bool,
+    buf: Vec<u8>,
+    filled: usize,
+    ending: Ending,
+}
+
+/// What a load came to.
+#[derive(Clone, Copy, PartialEq, Eq)]
+pub struct Load {
+    /// Whether a packet or a session came.
+    pub has_come: bool,
+    /// Whether it is to be sent soon: a session is to be begun, or half of the buffer is filled.
+    pub is_full: bool,
+    /// Whether all that there was is taken.
+    pub rests: bool,
+}
+
+impl<W: Wire, M: Machine> Model for Laden<W, M> {
+    ghost use Rattle.std.specs.Prelude.{◌≡◌};
+    ghost use Rattle.std.specs.Vec.{vec_items, vec_len};
+    ghost use Rattle.ug_sender.specs.Lanes.{LaneView};
+    ghost use Rattle.ug_sender.specs.Loads.{KeepsLoad};
+
+    ghost Value = { LaneView W M.Opening M.Job M.Said };
+
+    ghost view = { λ l. record { wire = l.wire; made_for = W.made_for l.wire; pass = l.pass; peer = l.peer; latest = l.latest; unnoted = l.unnoted } };
+
+    ghost invariant = { λ l. KeepsLoad M.rules l.pass l.peer (W.sessions l.wire) (W.begun l.wire) (W.faults l.wire) l.latest l.unnoted (vec_items l.buf) l.filled l.ending × (vec_len l.buf ≡ 131072) };
+}
+
+impl<W: Wire, M: Machine> Laden<W, M> {
+    /// A lane with nothing in its buffer.
+    pub fn of(lane: Lane<W, M>) -> Self
+        ensures { result ≡ lane }
+    {
+        let Lane {
+            wire,
+            pass,
+            peer,
+            latest,
+            unnoted,
+            buf,
+        } = lane;
+        Laden {
+            wire,
+            pass,
+            peer,
+            latest,
+            unnoted,
+            buf,
+            filled: 0,
+            ending: Ending::Idle,
+        }
+    }
+
+    /// Whether nothing is to be sent and no session to be begun: the wire holds what the pass was handed.
+    pub fn is_empty(&self) -> bool
+        ensures { result ≡ true → KeepsLane M.rules self.now.pass self.now.peer (W.sessions self.now.wire) (W.begun self.now.wire) (W.faults self.now.wire) self.now.latest self.now.unnoted }
+    {
+        self.filled == 0 && !self.ending.is_begun()
+    }
+
+    /// Takes in one turn what there is for the peer, behind what stands in the buffer already. Nothing is sent. Where a
+    /// session is to be begun first, or where there is no room for a longest message, it takes nothing.
+    pub fn load<R: Wait>(&mut self, rt: &R, turnstile: &Turnstile<Board<M>>) -> Load
+        requires here { self.old.pass.turnstile ≡ turnstile.now.id }
+        ensures same { IsSamePost self.old self.new }
+        ensures seen { StartsWith self.new.pass.seen self.old.pass.seen }
+        ensures wire { self.new.wire ≡ self.old.wire }
+        ensures latest { self.new.latest ≡ self.old.latest }
+        ensures unnoted { self.new.unnoted ≡ self.old.unnoted }
+        ensures told { TellsLoad (pass_deeds M.rules self.old.pass) (pass_deeds M.rules self.new.pass) }
+        ensures still { result.has_come ≡ false → pass_deeds M.rules self.new.pass ≡ pass_deeds M.rules self.old.pass }
+        ensures come { result.has_come ≡ true → pass_deeds M.rules self.new.pass ≡ pass_deeds M.rules self.old.pass → ⊥ }
+        ensures rests { result.rests ≡ true → IsAtRest M.rules self.new.peer self.new.pass }
+        ensures goes_on { result.is_full ≡ false → result.rests ≡ false → result.has_come ≡ true }
+    {
+        if self.ending.is_begun() || self.buf.len() - self.filled < LONGEST_MESSAGE {
+            return Load {
+                has_come: false,
+                is_full: true,
+                rests: false,
+            };
+        }
+        let taken = take_behind(
+            rt,
+            turnstile,
+            &mut self.pass,
+            self.peer,
+            self.latest,
+            self.buf.as_mut_slice(),
+            self.filled,
+        );
+        self.filled += taken.filled;
+        self.ending = taken.ending;
+        load_of(taken, self.filled)
+    }
+
+    /// Sends what stands in the buffer with one call, and then begins the session behind it, if there is one. Where a call
+    /// of the wire fails the loss of its session is asked of the board.
+    pub fn send<R: Wait>(self, rt: &R, turnstile: &Turnstile<Board<M>>) -> Lane<W, M>
+        requires here { self.pass.turnstile ≡ turnstile.now.id }
+        ensures same { IsSamePost self result }
+        ensures seen { StartsWith result.pass.seen self.pass.seen }
+        ensures told { TellsSend (pass_deeds M.rules self.pass) (pass_deeds M.rules result.pass) }
+        ensures faults { W.faults self.wire ≤ W.faults result.wire }
+    {
+        let Laden {
+            mut wire,
+            mut pass,
+            peer,
+            latest,
+            unnoted,
+            mut buf,
+            filled,
+            ending,
+        } = self;
+        let bytes = buf.as_mut_slice();
+        let sent = send_taken(
+            rt, turnstile, &mut wire, &mut pass, peer, latest, bytes, filled,
+        );
+        let begun = begin_taken(rt, turnstile, &mut wire, &mut pass, peer, ending, bytes);
+        Lane {
+            wire,
+            pass,
+            peer,
+            latest: open_after(latest, ending, sent, begun),
+            unnoted: with_calls(unnoted, sent, begun),
+            buf,
+        }
+    }
+}
+
+/// Takes what there is for the peer in one turn, behind the bytes that fill the buffer.
+fn take_behind<M: Machine, R: Wait>(
+    rt: &R,
+    turnstile: &Turnstile<Board<M>>,
+    pass: &mut Pass<Board<M>>,
+    peer: PeerId,
+    latest: Option<u32>,
+    buf: &mut [u8],
+    filled: usize,
+) -> Taken
+    requires here { pass.old.turnstile ≡ turnstile.now.id }
+    requires free { pass.old.holds ≡ false }
+    requires own { IsOfPeer peer pass.old }
+    requires filled { filled ≤ length buf.old }
+    ensures same { IsSamePass pass.old pass.new }
+    ensures free { pass.new.holds ≡ false }
+    ensures own { IsOfPeer peer pass.new }
+    ensures seen { StartsWith pass.new.seen pass.old.seen }
+    ensures front { take filled buf.new ≡ take filled buf.old }
+    ensures told { TellsTurn latest result (drop filled buf.new) (pass_deeds M.rules pass.old) (pass_deeds M.rules pass.new) }
+    ensures idle { result.ending ≡ Idle → IdlesAt M.rules pass.new.root peer pass.new.seen }
+    ensures over { result.ending ≡ Stop → IsOver M.rules peer pass.new }
+    ensures unspent { result.ending ≡ Idle → pass.new.spent ≡ false }
+    ensures more { result.ending ≡ More → filled + buffer_size ≤ length buf.old → 0 < result.packets }
+{
+    let (_, room) = buf.split_at_mut(filled);
+    take_turn(rt, turnstile, pass, peer, latest, room)
+}
+
+/// What a load came to, by its turn, and by how many bytes fill the buffer then.
+fn load_of(taken: Taken, filled: usize) -> Load
+    ensures still { result.has_come ≡ false → (taken.packets ≡ 0) × (begun_by taken.ending ≡ None) }
+    ensures come { result.has_come ≡ true → (0 < taken.packets) ⊎ IsSome (begun_by taken.ending) }
+    ensures rests { result.rests ≡ true → (taken.ending ≡ Idle) ⊎ (taken.ending ≡ Stop) }
+    ensures goes_on { result.is_full ≡ false → result.rests ≡ false → taken.ending ≡ More }
+{
+    let has_come = taken.packets > 0;
+    let is_full = filled >= HALF_OF_BUFFER;
+    match taken.ending {
+        Ending::Begun { .. } => Load {
+            has_come: true,
+            is_full: true,
+            rests: false,
+        },
+        Ending::Idle | Ending::Stop => Load {
+            has_come,
+            is_full,
+            rests: true,
+        },
+        Ending::More => Load {
+            has_come,
+            is_full,
+            rests: false,
+        },
+    }
+}
