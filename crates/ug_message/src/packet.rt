@@ -65,10 +65,9 @@ fn put_address(buf: &mut [u8], place: usize, address: &Addr)
     requires { place + address_size address.now.family ≤ length buf.old }
     ensures { buf.new ≡ with_address (Some place) address.now buf.old }
 {
-    let bytes = address.bits.to_be_bytes();
     match address.family {
-        Family::V4 => put(buf, place, &bytes[..4]),
-        Family::V6 => put(buf, place, &bytes[..16]),
+        Family::V4 => put(buf, place, &address.bits.to_be_bytes()[..4]),
+        Family::V6 => put(buf, place, &address.bits.to_be_bytes()),
     }
 }
 
