@@ -1,7 +1,7 @@
 #!/bin/bash
 # Runs 1,000,000 packets through a queue with 1, 8 and 64 members, with a queue of 40 and of 4,000 packets, and prints for
-# each how long a packet takes a member: its turn at `is_member`, `left`, `next` and `advance`. The program, bench/queue, is
-# no part of the gate: it is proved and built in a copy of the repository.
+# each how long a packet takes a member: its turn at `is_member`, `left`, `stand`, `next` and `advance`. The program,
+# bench/queue, is no part of the gate: it is proved and built in a copy of the repository.
 set -e
 cd "$(dirname "${BASH_SOURCE[0]}")/.."
 work=$(mktemp -d)

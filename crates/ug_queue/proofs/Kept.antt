@@ -10,10 +10,14 @@ use Rattle.std.proofs.lemmas.List.{append_assoc}
 use Rattle.std.specs.BTreeMap.{insert_entry}
 use Rattle.std.proofs.lemmas.Bool.{cases_eq}
 use Rattle.std.proofs.lemmas.Bool.Decides.{nat_tests}
+use Rattle.std.proofs.lemmas.Cmp.{nat_cmp_total}
+use Rattle.std.proofs.lemmas.Map.Entries.{lookup_from_place}
+use Rattle.std.proofs.lemmas.Map.Keys.{IsDistinct-from_sorted}
+use Rattle.std.specs.Cmp.{eq_by_cmp_equiv}
 use Rattle.ug_queue.specs.Queues.{Queued, is_member, mapped, least_place, seat_all}
 use Rattle.ug_queue.specs.Lines.{place_from, places_from, AreCounted, IsLine}
 use Rattle.ug_queue.proofs.Counts.{standing-remove, standing-insert, standing-move, standing_at_most, member_stands, someone_stands, counted_inside, counted_lower, counted_raise, get_or-more, first_passed, counted_drop}
-use Rattle.ug_queue.proofs.Placed.{cursor_at, remove_entry-mapped, insert_entry-mapped, keys_of-mapped, places_after}
+use Rattle.ug_queue.proofs.Placed.{cursor_at, next_cursor, entry_before, remove_entry-mapped, insert_entry-mapped, keys_of-mapped, places_after}
 use Rattle.ug_queue.proofs.Sheds.{place_inside}
 
 pub length-mapped : (f : ℕ → ℕ) (es : List (ℕ × ℕ)) → length (mapped f es) ≡ length es
@@ -39,8 +43,19 @@ module _ (n : ℕ) (w : List ℕ) (s : ℕ) (es : List (ℕ × ℕ)) (l : IsLine
   pub stands_inside : (m p : ℕ) → lookup (is_member m) here ≡ Some p → (p < length w) × (p ≤ n)
   stands_inside m p at = place_inside n w here (is_member m) p l.counted l.long at
 
+  -- whose entry it is
+  pub stands_at : (i m p : ℕ) → slice_get here i ≡ Some (m, p) → lookup (is_member m) here ≡ Some p
+  stands_at i m p at = lookup_from_place (eq_by_cmp_equiv nat_cmp_total) here i m p (IsDistinct-from_sorted nat_cmp (keys_of here) here_sorted) at
+
   pub stands_some : (m p : ℕ) → lookup (is_member m) here ≡ Some p → 1 ≤ get_or w p 0
   stands_some m p at = omega (arith, l.counted p, member_stands (is_member m) here p at)
+
+  -- its cursor goes on by one
+  pub cursor_on : (fs : List (ℕ × ℕ)) (i m p : ℕ) → slice_get here i ≡ Some (m, p) → ((e : ℕ × ℕ) → slice_get es i ≡ Some e → fs ≡ insert_entry nat_cmp es e.0 ((e.1 + 1) % 2 ^ 64))
+      → fs ≡ insert_entry nat_cmp es m ((s + (p + 1)) % 2 ^ 64)
+  cursor_on fs i m p at on =
+      let entry = entry_before (place_from s) es i m p at in
+      on (m, entry.0) entry.1 ∙ ap (insert_entry nat_cmp es m) (next_cursor s entry.0 l.small ∙ ap (λ k. (s + (k + 1)) % 2 ^ 64) entry.2)
 
   lowered : (m p : ℕ) → lookup (is_member m) here ≡ Some p → AreCounted (set w p (get_or w p 0 - 1)) (remove_entry (is_member m) here)
   lowered m p at = counted_lower w here (remove_entry (is_member m) here) p l.counted (stands_inside m p at).0 (λ i. standing-remove (is_member m) here p i at)

@@ -1,5 +1,5 @@
 -- Places that are read off cursors, and lists of members under a change of their places.
-use Rattle.std.proofs.Common.{◌≡◌, ℕ, ◌+◌, ◌-◌, ◌<◌, ◌≤◌, ◌%◌, ◌^◌, Bool, true, false, cond, List, [], ◌∷◌, Option, Some, None, refl, sym, ap, ◌∙◌, subst, arith}
+use Rattle.std.proofs.Common.{◌≡◌, ℕ, zero, suc, ◌+◌, ◌-◌, ◌<◌, ◌≤◌, ◌%◌, ◌^◌, Bool, true, false, cond, List, [], ◌∷◌, slice_get, Option, Some, None, refl, sym, ap, ◌∙◌, subst, arith}
 use Rattle.std.specs.Prelude.{is_some, IsSome}
 use Rattle.std.specs.Option.{option_map}
 use Rattle.std.specs.Map.{lookup, remove_entry, keys_of}
@@ -14,8 +14,8 @@ pub cursor_at : (start place : ℕ) → start < 2 ^ 64 → place < 2 ^ 64 → pl
 cursor_at start place ls lp = omega (arith, ls, lp)
 
 -- a cursor that goes on by one is at the next place
-pub next_cursor : (start cursor : ℕ) → start < 2 ^ 64 → cursor < 2 ^ 64 → (cursor + 1) % 2 ^ 64 ≡ (start + (place_from start cursor + 1)) % 2 ^ 64
-next_cursor start cursor ls lc = omega (arith, ls, lc)
+pub next_cursor : (start cursor : ℕ) → start < 2 ^ 64 → (cursor + 1) % 2 ^ 64 ≡ (start + (place_from start cursor + 1)) % 2 ^ 64
+next_cursor start cursor ls = omega (arith, ls)
 
 pub place_after : (start cursor : ℕ) → start < 2 ^ 64 → 1 ≤ place_from start cursor → place_from ((start + 1) % 2 ^ 64) cursor ≡ place_from start cursor - 1
 place_after start cursor ls le = omega (arith, ls, le)
@@ -51,6 +51,17 @@ module _ (f : ℕ → ℕ) where
   keys_of-mapped [] = refl
   keys_of-mapped (e ∷ es) = ap (λ l. e.0 ∷ l) (keys_of-mapped es)
 
+  pub slice_get-mapped : (es : List (ℕ × ℕ)) (i m c : ℕ) → slice_get es i ≡ Some (m, c) → slice_get (mapped f es) i ≡ Some (m, f c)
+  slice_get-mapped [] i m c at = absurd cc
+  slice_get-mapped (e ∷ es) zero m c at = ap (λ (o : Option (ℕ × ℕ)). option_map (λ (x : ℕ × ℕ). (x.0, f x.1)) o) at
+  slice_get-mapped (e ∷ es) (suc i) m c at = slice_get-mapped es i m c at
+
+  -- what stands there before the change
+  pub entry_before : (es : List (ℕ × ℕ)) (i m p : ℕ) → slice_get (mapped f es) i ≡ Some (m, p) → (c : ℕ) × (slice_get es i ≡ Some (m, c)) × (f c ≡ p)
+  entry_before [] i m p at = absurd cc
+  entry_before (e ∷ es) zero m p at = let whole : (e.0, f e.1) ≡ (m, p) = cc in (e.1, ap (λ (x : ℕ × ℕ). Some (x.0, e.1)) whole, ap (λ (x : ℕ × ℕ). x.1) whole)
+  entry_before (e ∷ es) (suc i) m p at = entry_before es i m p at
+
 pub mapped_twice : (f g h : ℕ → ℕ) → ((p : ℕ) → g (f p) ≡ h p) → (es : List (ℕ × ℕ)) → mapped g (mapped f es) ≡ mapped h es
 mapped_twice f g h same [] = refl
 mapped_twice f g h same (e ∷ es) = λ i. (e.0, same e.1 i) ∷ mapped_twice f g h same es i
@@ -66,9 +77,6 @@ places_after start n [] ls lt = refl
 places_after start n (e ∷ es) ls lt =
     let here = place_after start e.1 ls (omega (arith, lt)) in let on = places_after start n es ls (omega (arith, lt)) in
     λ i. (e.0, here i) ∷ on i
-
-pub found : (t : ℕ → Bool) (f : ℕ → ℕ) (es : List (ℕ × ℕ)) (c : ℕ) → lookup t es ≡ Some c → lookup t (mapped f es) ≡ Some (f c)
-found t f es c e = lookup-mapped f t es ∙ ap (option_map f) e
 
 unmapped : (f : ℕ → ℕ) (o : Option ℕ) → option_map f o ≡ None → o ≡ None
 unmapped f None e = refl

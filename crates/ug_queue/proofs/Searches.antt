@@ -1,5 +1,5 @@
 -- Members by rising number, each with its cursor: where a search ends, and what is read, written, put in and taken out there.
-use Rattle.std.proofs.Common.{◌≡◌, ℕ, zero, suc, ◌+◌, ◌<◌, ◌≤◌, ◌==◌, Bool, true, false, cond, List, [], ◌∷◌, ◌++◌, length, take, get_or, set, insert, remove, Option, Some, None, refl, sym, ap, ◌∙◌, subst, arith, nat_lt}
+use Rattle.std.proofs.Common.{◌≡◌, ℕ, zero, suc, ◌+◌, ◌<◌, ◌≤◌, ◌==◌, ◌%◌, ◌^◌, Bool, true, false, cond, List, [], ◌∷◌, ◌++◌, length, take, get_or, slice_get, set, insert, remove, Option, Some, None, refl, sym, ap, ◌∙◌, subst, arith, nat_lt}
 use Rattle.std.specs.Prelude.{is_some, IsSome, slice_index_or}
 use Rattle.std.specs.Map.{lookup, remove_entry, keys_of}
 use Rattle.std.specs.List.{AllByRecursion}
@@ -15,7 +15,8 @@ use Rattle.std.proofs.lemmas.Cmp.{nat_cmp_total, ranked}
 use Rattle.std.proofs.lemmas.List.{get_or-map, take_more, take_all}
 use Rattle.std.proofs.lemmas.List.Sorted.{IsPartitionedBy-ltb}
 use Rattle.std.proofs.lemmas.Map.Entries.{length-keys_of, lookup_head, lookup_tail, lookup_at_gap}
-use Rattle.std.proofs.lemmas.Map.Keys.{sorted_tail, non_decreasing_from_sorted}
+use Rattle.std.proofs.lemmas.Map.Keys.{sorted_tail, non_decreasing_from_sorted, below_from_sorted}
+use Rattle.std.proofs.lemmas.Option.{slice_get-get_or, get_or_from_slice_get}
 use Rattle.ug_queue.specs.Cursors.{lower_count}
 use Rattle.ug_queue.specs.Queues.{is_member}
 
@@ -83,14 +84,14 @@ module _ (m : ℕ) (e : ℕ × ℕ) (es : Entries) where
 -- the member's entry stands at i
 pub record IsFound (m : ℕ) (es : List (ℕ × ℕ)) (i : ℕ) : Type 0 where
   pub within : i < length es
-  pub read : (d : ℕ × ℕ) → lookup (is_member m) es ≡ Some (get_or es i d).1
+  pub read : (d : ℕ × ℕ) → slice_get es i ≡ Some (m, (get_or es i d).1)
   pub written : (d : ℕ × ℕ) (v : ℕ) → set es i ((get_or es i d).0, v) ≡ insert_entry nat_cmp es m v
   pub removed : remove es i ≡ remove_entry (is_member m) es
 
 found_here : (m : ℕ) (e : ℕ × ℕ) (es : Entries) → nat_cmp m e.0 ≡ Equal → IsFound m (e ∷ es) 0
 found_here m e es at = record {
   within = omega arith;
-  read = λ d. lookup_head (is_member m) e es (ap is_eq at);
+  read = λ d. ap (λ k. Some (k, e.1)) (sym (same m e es at));
   written = λ d v. sym (inserted_by m e es v Equal at);
   removed = sym (cond-true (is_member m e.0) es (e ∷ remove_entry (is_member m) es) (ap is_eq at));
 }
@@ -98,7 +99,7 @@ found_here m e es at = record {
 found_later : (m : ℕ) (e : ℕ × ℕ) (es : Entries) (i : ℕ) → nat_cmp m e.0 ≡ Greater → IsFound m es i → IsFound m (e ∷ es) (suc i)
 found_later m e es i at found = record {
   within = omega (arith, found.within);
-  read = λ d. lookup_tail (is_member m) e es (ap is_eq at) ∙ found.read d;
+  read = found.read;
   written = λ d v. ap (λ l. e ∷ l) (found.written d v) ∙ sym (inserted_by m e es v Greater at);
   removed = ap (λ l. e ∷ l) found.removed ∙ sym (cond-false (is_member m e.0) es (e ∷ remove_entry (is_member m) es) (ap is_eq at));
 }
@@ -114,6 +115,28 @@ found_step m e es Greater at s some later =
 pub found_there : (m : ℕ) (es : List (ℕ × ℕ)) → IsStrictlySortedBy nat_cmp (keys_of es) → IsSome (lookup (is_member m) es) → IsFound m es (lower_count es m)
 found_there m [] s some = absurd cc
 found_there m (e ∷ es) s some = found_step m e es (nat_cmp m e.0) refl s some (found_there m es (sorted_tail nat_cmp e.0 (keys_of es) s))
+
+-- ---- the member of an entry
+
+same_entry : (x e : ℕ × ℕ) → Some x ≡ Some e → x ≡ e
+same_entry x e is = cc
+
+-- keys rise from the first entry on
+first_lower : (x : ℕ × ℕ) (es : Entries) (i : ℕ) (e : ℕ × ℕ) → AreSorted (x ∷ es) → i < length es → slice_get es i ≡ Some e → x.0 < e.0
+first_lower x es i e s lt at =
+    let rising = below_from_sorted (keys_of (x ∷ es)) 0 (suc i) 0 s (omega arith) (omega (arith, lt, length-keys_of es)) in
+    omega (arith, rising, get_or-map (λ (y : ℕ × ℕ). y.0) es i e 0 lt, ap (λ (y : ℕ × ℕ). y.0) (get_or_from_slice_get es i e e at))
+
+pub found_at : (es : List (ℕ × ℕ)) (i : ℕ) (e : ℕ × ℕ) → IsStrictlySortedBy nat_cmp (keys_of es) → slice_get es i ≡ Some e → IsFound e.0 es i
+found_at [] i e s at = absurd cc
+found_at (x ∷ es) zero e s at = subst (λ (y : ℕ × ℕ). IsFound y.0 (x ∷ es) 0) (same_entry x e at) (found_here x.0 x es (sym (nat_cmp_is x.0 x.0 Equal refl)))
+found_at (x ∷ es) (suc i) e s at =
+    let later = found_at es i e (sorted_tail nat_cmp x.0 (keys_of es) s) at in
+    found_later e.0 x es i (sym (nat_cmp_is e.0 x.0 Greater (first_lower x es i e s later.within at))) later
+
+-- another cursor in its place
+pub written_at : (es : List (ℕ × ℕ)) (i : ℕ) (e : ℕ × ℕ) (v : ℕ) → IsStrictlySortedBy nat_cmp (keys_of es) → slice_get es i ≡ Some e → set es i (e.0, v) ≡ insert_entry nat_cmp es e.0 v
+written_at es i e v s at = ap (λ (x : ℕ × ℕ). set es i (x.0, v)) (sym (get_or_from_slice_get es i e e at)) ∙ (found_at es i e s at).written e v
 
 -- ---- whether it is a member
 
@@ -215,6 +238,22 @@ module _ (test : ℕ → Bool) where
   removed_sorted [] s = tt
   removed_sorted (e ∷ es) s = removed_step (test e.0) e es s (removed_sorted es s.1)
 
+-- ---- a cursor that goes on
+
+-- d is what was read at i
+module _ (es vs : List (ℕ × ℕ)) (i : ℕ) (d : ℕ × ℕ) (s : IsStrictlySortedBy nat_cmp (keys_of es)) (seen : es ≡ vs) (is : d ≡ slice_index_or es i d) where
+  pub gone_on : (e : ℕ × ℕ) → slice_get vs i ≡ Some e → set es i (d.0, (d.1 + 1) % 2 ^ 64) ≡ insert_entry nat_cmp vs e.0 ((e.1 + 1) % 2 ^ 64)
+  gone_on e at =
+      let here : slice_get es i ≡ Some e = ap (λ l. slice_get l i) seen ∙ at in
+      ap (λ (x : ℕ × ℕ). set es i (x.0, (x.1 + 1) % 2 ^ 64)) (is ∙ get_or_from_slice_get es i e d here) ∙ written_at es i e ((e.1 + 1) % 2 ^ 64) s here
+      ∙ ap (λ l. insert_entry nat_cmp l e.0 ((e.1 + 1) % 2 ^ 64)) seen
+
+  pub gone_on_sorted : i < length vs → IsStrictlySortedBy nat_cmp (keys_of (set es i (d.0, (d.1 + 1) % 2 ^ 64)))
+  gone_on_sorted lt =
+      let v = (d.1 + 1) % 2 ^ 64 in
+      let here : slice_get es i ≡ Some d = slice_get-get_or es i d (omega (arith, lt, ap length seen)) ∙ ap Some (sym is) in
+      subst (λ l. IsStrictlySortedBy nat_cmp (keys_of l)) (sym (written_at es i d v s here)) (inserted_sorted d.0 v es s)
+
 -- ---- at the place that a search gave: es are the entries, fs those that were searched, and vs what contracts see
 
 module _ (m i : ℕ) (es fs vs : List (ℕ × ℕ)) (s : IsStrictlySortedBy nat_cmp (keys_of es)) (searched : fs ≡ es) (seen : es ≡ vs) (place : i ≡ lower_count fs m) where
@@ -224,11 +263,8 @@ module _ (m i : ℕ) (es fs vs : List (ℕ × ℕ)) (s : IsStrictlySortedBy nat_
   pub found : IsSome (lookup (is_member m) vs) → IsFound m es i
   found some = subst (IsFound m es) (sym at_place) (found_there m es s (subst (λ l. IsSome (lookup (is_member m) l)) (sym seen) some))
 
-  pub read_at : IsSome (lookup (is_member m) vs) → (e : ℕ × ℕ) → e ≡ slice_index_or es i e → lookup (is_member m) vs ≡ Some e.1
-  read_at some e is = sym (ap (lookup (is_member m)) seen) ∙ (found some).read e ∙ ap (λ (x : ℕ × ℕ). Some x.1) (sym is)
-
-  pub written_at : IsSome (lookup (is_member m) vs) → (e : ℕ × ℕ) (v : ℕ) → e ≡ slice_index_or es i e → set es i (e.0, v) ≡ insert_entry nat_cmp es m v
-  written_at some e v is = ap (λ (x : ℕ × ℕ). set es i (x.0, v)) is ∙ (found some).written e v
+  pub read_at : IsSome (lookup (is_member m) vs) → (e : ℕ × ℕ) → e ≡ slice_index_or es i e → slice_get vs i ≡ Some (m, e.1)
+  read_at some e is = sym (ap (λ l. slice_get l i) seen) ∙ (found some).read e ∙ ap (λ (x : ℕ × ℕ). Some (m, x.1)) (sym is)
 
   pub put_at : (v : ℕ) → lookup (is_member m) vs ≡ None → insert es i (m, v) ≡ insert_entry nat_cmp es m v
   put_at v none = ap (λ k. insert es k (m, v)) at_place ∙ put_there m v es (ap (lookup (is_member m)) seen ∙ none)

@@ -1,7 +1,7 @@
 -- The packets that every member has passed, and what is left when they are gone.
-use Rattle.std.proofs.Common.{◌≡◌, ℕ, zero, suc, ◌+◌, ◌-◌, ◌<◌, ◌≤◌, inl, inr, Bool, cond, List, [], ◌∷◌, length, drop, slice_get, Option, Some, None, refl, ap, ◌∙◌, arith, length-drop}
+use Rattle.std.proofs.Common.{◌≡◌, ℕ, zero, suc, ◌+◌, ◌-◌, ◌<◌, ◌≤◌, inl, inr, Bool, cond, List, [], ◌∷◌, length, drop, slice_get, Some, None, refl, ap, ◌∙◌, arith, length-drop}
 use Rattle.std.proofs.Math.Seq.{drop-drop}
-use Rattle.std.specs.Prelude.{min, IsSome}
+use Rattle.std.specs.Prelude.{min}
 use Rattle.std.specs.Map.{lookup}
 use Rattle.std.specs.Ordering.{nat_cmp, match_ordering, is_eq}
 use Rattle.std.specs.declared.cmp.Ordering.{Ordering}
@@ -49,6 +49,17 @@ least-insert n m v (x ∷ es) e = least_insert_cases (nat_cmp m x.0) n m v x es 
 pub passed_joined : (n m : ℕ) (es : List (ℕ × ℕ)) → lookup (is_member m) es ≡ None → least_place n (insert_entry nat_cmp es m n) ≡ least_place n es
 passed_joined n m es e = omega (arith, least-insert n m n es e, least_at_most n es)
 
+moved_cases : (r : Ordering) (n m p v : ℕ) (x : ℕ × ℕ) (es fs : List (ℕ × ℕ)) → cond (is_eq r) (Some x.1) (lookup (is_member m) es) ≡ Some p → 0 < p → min x.1 (least_place n es) ≡ 0
+    → (lookup (is_member m) es ≡ Some p → least_place n es ≡ 0 → least_place n fs ≡ 0) → least_place n (match_ordering r ((m, v) ∷ x ∷ es) ((x.0, v) ∷ es) (x ∷ fs)) ≡ 0
+moved_cases Less n m p v x es fs at lt e h = omega (arith, e)
+moved_cases Equal n m p v x es fs at lt e h = let here : x.1 ≡ p = cc in omega (arith, here, lt, e)
+moved_cases Greater n m p v x es fs at lt e h = elim (cases_eq x.1 0) [ inl z ↦ omega (arith, z) | inr nz ↦ omega (arith, h at (omega (arith, nz, e))) ]
+
+-- where a member that isn't at the front moves, who needs the first packet still does
+pub needed_still : (n m p v : ℕ) (es : List (ℕ × ℕ)) → lookup (is_member m) es ≡ Some p → 0 < p → least_place n es ≡ 0 → least_place n (insert_entry nat_cmp es m v) ≡ 0
+needed_still n m p v [] at lt e = absurd cc
+needed_still n m p v (x ∷ es) at lt e = moved_cases (nat_cmp m x.0) n m p v x es (insert_entry nat_cmp es m v) at lt e (λ on later. needed_still n m p v es on lt later)
+
 -- a member stands at most at the end
 pub place_inside : (n : ℕ) (w : List ℕ) (es : List (ℕ × ℕ)) (t : ℕ → Bool) (p : ℕ) → AreCounted w es → (0 < length w → length w ≡ n + 1) → lookup t es ≡ Some p → (p < length w) × (p ≤ n)
 place_inside n w es t p c long e =
@@ -72,13 +83,12 @@ module _ {P : Type 0} where
       let places : mapped (λ p. p - passed q) q.places ≡ q.places = mapped_same (λ p. p - passed q) (λ p. omega (arith, e)) q.places in
       λ i. record { packets = packets i; places = places i; limit = q.limit }
 
-  -- who has packets to take is a member
-  pub some_place : (packets : List P) (o : Option ℕ) → 0 < length (from_place packets o) → IsSome o
-  some_place packets None lt = absurd (omega (arith, lt))
-  some_place packets (Some p) lt = refl
-
   pub rest_from : (q : Queued P) (m p : ℕ) → place_of q m ≡ Some p → rest_of q m ≡ drop p q.packets
   rest_from q m p e = ap (from_place q.packets) e
+
+  -- who has packets to take stands before the end
+  pub next_before : (q : Queued P) (m p : ℕ) → place_of q m ≡ Some p → 0 < length (rest_of q m) → p < length q.packets
+  next_before q m p e lt = omega (arith, lt, ap length (rest_from q m p e), length-drop p q.packets)
 
   pub slice_get-drop : (xs : List P) (p : ℕ) → slice_get (drop p xs) 0 ≡ slice_get xs p
   slice_get-drop [] zero = refl

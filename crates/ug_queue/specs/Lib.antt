@@ -3,3 +3,4 @@ pub mod Lines
 pub mod Queues
 pub mod Rests
 pub mod Spread
+pub mod Stands

@@ -1,5 +1,5 @@
 //! Where the members' cursors are kept, and how one of them is found.
-ghost use Rattle.std.specs.Prelude.{◌≡◌, ◌+◌, ◌<◌, ◌≤◌, ◌%◌, ◌^◌, [], length, OnOk, OnErr, None, Some, is_some, IsSome};
+ghost use Rattle.std.specs.Prelude.{◌≡◌, ◌+◌, ◌<◌, ◌≤◌, ◌%◌, ◌^◌, [], ℕ, length, slice_get, OnOk, OnErr, None, Some, is_some, IsSome};
 ghost use Rattle.std.specs.Map.{keys_of, lookup, remove_entry};
 ghost use Rattle.std.specs.BTreeMap.{insert_entry};
 ghost use Rattle.std.specs.List.Sorted.{IsStrictlySortedBy};
@@ -81,30 +81,25 @@ impl Cursors {
         self.entries[i].0 == member
     }
 
-    /// The member's cursor.
+    /// The index of the member's entry, and its cursor: one search finds both.
     #[inline]
-    pub fn get(&self, member: PeerId) -> u64
+    pub fn find(&self, member: PeerId) -> (usize, u64)
         requires { IsSome (lookup (is_member member) self.now) }
-        ensures { lookup (is_member member) self.now ≡ Some result }
+        ensures { slice_get self.now result.0 ≡ Some (member, result.1) }
     {
         let i = place(&self.entries, member);
-        self.entries[i].1
+        (i, self.entries[i].1)
     }
 
-    /// The member's cursor goes on by one, round the end of 64 bits. Where it was: one search finds it and changes it.
+    /// The cursor at the index goes on by one, round the end of 64 bits. Nothing is searched.
     #[inline]
-    pub fn go_on(&mut self, member: PeerId) -> u64
-        requires { IsSome (lookup (is_member member) self.old) }
-        ensures was { lookup (is_member member) self.old ≡ Some result }
-        ensures entries { self.new ≡ insert_entry nat_cmp self.old member ((result + 1) % 2 ^ 64) }
+    pub fn go_on(&mut self, index: usize)
+        requires { index < length self.old }
+        ensures entries { (e : ℕ × ℕ) → slice_get self.old index ≡ Some e → self.new ≡ insert_entry nat_cmp self.old e.0 ((e.1 + 1) % 2 ^ 64) }
         ensures ordered { IsStrictlySortedBy nat_cmp (keys_of self.new) }
-        ensures small { result < 2 ^ 64 }
     {
-        let i = place(&self.entries, member);
-        let entry = &mut self.entries[i];
-        let was = entry.1;
-        entry.1 = was.wrapping_add(1);
-        was
+        let entry = &mut self.entries[index];
+        entry.1 = entry.1.wrapping_add(1);
     }
 
     /// Takes a member in. Running out of memory changes nothing.

@@ -7,7 +7,9 @@ mod laws;
 mod line;
 mod live;
 mod queue;
+mod stand;
 
 pub use laws::{member_laws, rest_laws};
 pub use live::Live;
 pub use queue::Queue;
+pub use stand::Stand;

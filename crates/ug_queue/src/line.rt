@@ -1,12 +1,14 @@
 //! The packets and the members' cursors, before packets that nobody waits for are dropped.
-ghost use Rattle.std.specs.Prelude.{◌≡◌, ◌+◌, ◌-◌, ◌<◌, ◌≤◌, ◌^◌, ℕ, length, get_or, slice_get, slice_set, IfOk, OnOk, OnErr, IfErr, IsTrue, ◌↔◌, false, Some, None};
+ghost use Rattle.std.specs.Prelude.{◌≡◌, ◌+◌, ◌-◌, ◌<◌, ◌≤◌, ◌^◌, ℕ, length, get_or, slice_get, slice_set, IfOk, OnOk, OnErr, IfErr, IsTrue, ◌↔◌, false, Some, None, option_copied};
 ghost use Rattle.std.specs.Map.{keys_of};
 ghost use Rattle.std.specs.List.Sorted.{IsStrictlySortedBy};
 ghost use Rattle.std.specs.Ordering.{nat_cmp};
 ghost use Rattle.ug_queue.specs.Rests.{IsInside};
+ghost use Rattle.ug_queue.specs.Stands.{IsStand};
 ghost use Rattle.ug_queue.specs.Queues.{empty_queue, with_packet, with_member, without_member, past_next, without_first, place_of, rest_of, IsMember, passed, standing};
 
 use crate::cursors::Cursors;
+use crate::stand::Stand;
 use std::alloc::Global;
 use std::collections::VecDeque;
 use std::marker::Model;
@@ -146,13 +148,40 @@ impl<P> Line<P> {
         Ok(members)
     }
 
+    /// Where the member's cursor stands.
+    pub fn stand(&self, member: PeerId) -> Stand
+        requires { IsMember self.now member }
+        ensures stand { IsStand self.now result }
+        ensures member { result.member ≡ member }
+        ensures place { place_of self.now member ≡ Some result.place }
+        ensures inside { result.place ≤ length self.now.packets }
+    {
+        let (index, cursor) = self.cursors.find(member);
+        Stand {
+            member,
+            index,
+            place: cursor.wrapping_sub(self.start) as usize,
+        }
+    }
+
     /// The number of packets in front of the member's cursor.
     pub fn place(&self, member: PeerId) -> usize
         requires { IsMember self.now member }
         ensures place { place_of self.now member ≡ Some result }
         ensures inside { result ≤ length self.now.packets }
     {
-        self.cursors.get(member).wrapping_sub(self.start) as usize
+        self.stand(member).place
+    }
+
+    /// The next packet of the member that stands there; None exactly where its cursor is at the end.
+    pub fn next(&self, stand: Stand) -> Option<&P>
+        requires { IsStand self.now stand }
+        ensures { option_copied result ≡ slice_get (rest_of self.now stand.member) 0 }
+    {
+        if stand.place < self.packets.len() {
+            return Some(self.packets.at(stand.place));
+        }
+        None
     }
 
     /// Members stand at most at the end.
@@ -196,16 +225,17 @@ impl<P> Line<P> {
         Ok(())
     }
 
-    /// Moves the member's cursor behind its next packet.
-    pub fn step(&mut self, member: PeerId)
-        requires { 0 < length (rest_of self.old member) }
-        ensures { self.new ≡ past_next self.old member }
+    /// Moves the cursor of the member that stands there behind its next packet. Nothing is searched.
+    pub fn step(&mut self, stand: Stand)
+        requires stand { IsStand self.old stand }
+        requires next { 0 < length (rest_of self.old stand.member) }
+        ensures line { self.new ≡ past_next self.old stand.member }
+        ensures needed { 0 < stand.place → passed self.old ≡ 0 → passed self.new ≡ 0 }
     {
         let _members = self.cursors.len();
-        let cursor = self.cursors.go_on(member);
-        let place = cursor.wrapping_sub(self.start) as usize;
-        lower(&mut self.waiting, place);
-        raise(&mut self.waiting, place + 1);
+        self.cursors.go_on(stand.index);
+        lower(&mut self.waiting, stand.place);
+        raise(&mut self.waiting, stand.place + 1);
     }
 
     /// Lets a member go.

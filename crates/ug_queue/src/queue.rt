@@ -4,9 +4,11 @@ ghost use Rattle.std.specs.Map.{keys_of};
 ghost use Rattle.std.specs.List.Sorted.{IsStrictlySortedBy};
 ghost use Rattle.std.specs.Ordering.{nat_cmp};
 ghost use Rattle.ug_queue.specs.Rests.{IsInside};
+ghost use Rattle.ug_queue.specs.Stands.{IsStand};
 ghost use Rattle.ug_queue.specs.Queues.{empty_queue, with_packet, with_member, without_member, past_next, shed, place_of, rest_of, IsMember, passed, standing, seat_all, AreNew, with_members, AreNewcomers, without_members, AreMembers};
 
 use crate::line::Line;
+use crate::stand::Stand;
 use std::alloc::Global;
 use std::marker::Model;
 use ug_types::{NoMemory, PeerId, PeerList, Twin};
@@ -117,16 +119,22 @@ impl<P> Queue<P> {
         let _count = self.line.member_count();
     }
 
-    /// The next packet of the member; None exactly where its cursor is at the end.
-    pub fn next(&self, member: PeerId) -> Option<&P>
+    /// Where the member's cursor stands: one search finds it, and what is done there searches no more.
+    pub fn stand(&self, member: PeerId) -> Stand
         requires { IsMember self.now member }
-        ensures { option_copied result ≡ slice_get (rest_of self.now member) 0 }
+        ensures stand { IsStand self.now result }
+        ensures member { result.member ≡ member }
+        ensures place { place_of self.now member ≡ Some result.place }
     {
-        let place = self.line.place(member);
-        if place < self.line.len() {
-            return Some(self.line.packet(place));
-        }
-        None
+        self.line.stand(member)
+    }
+
+    /// The next packet of the member that stands there; None exactly where its cursor is at the end.
+    pub fn next(&self, stand: Stand) -> Option<&P>
+        requires { IsStand self.now stand }
+        ensures { option_copied result ≡ slice_get (rest_of self.now stand.member) 0 }
+    {
+        self.line.next(stand)
     }
 
     /// The number of packets from the member's cursor to the end. Where there is no packet, no cursor is looked up.
@@ -188,13 +196,17 @@ impl<P> Queue<P> {
 }
 
 impl<P: Drop> Queue<P> {
-    /// Moves the member's cursor behind its next packet.
-    pub fn advance(&mut self, member: PeerId)
-        requires { 0 < length (rest_of self.old member) }
-        ensures { self.new ≡ shed (past_next self.old member) }
+    /// Moves the cursor of the member that stands there behind its next packet. Only where it stood at the front are packets
+    /// looked for that have to go.
+    pub fn advance(&mut self, stand: Stand)
+        requires stand { IsStand self.old stand }
+        requires next { 0 < length (rest_of self.old stand.member) }
+        ensures { self.new ≡ shed (past_next self.old stand.member) }
     {
-        self.line.step(member);
-        shed_passed(&mut self.line);
+        self.line.step(stand);
+        if stand.place == 0 {
+            shed_passed(&mut self.line);
+        }
     }
 
     /// Lets a member go.
