@@ -101,12 +101,13 @@ impl Subgroup {
         ensures some { IfSome result (IsHanded self.old.point.key ends.now (rest_of self.old.queue member) buf.new) }
         ensures queue { IfSome result (λ _. self.new ≡ record self.old { queue = shed (past_next self.old.queue member) }) }
     {
-        let Some(packet) = self.queue.next(member) else {
+        let stand = self.queue.stand(member);
+        let Some(packet) = self.queue.next(stand) else {
             return None;
         };
         let made = packet.made();
         let len = packet.send(ends, buf);
-        self.queue.advance(member);
+        self.queue.advance(stand);
         Some(Handed { made, len })
     }
 
