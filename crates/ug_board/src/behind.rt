@@ -1,6 +1,6 @@
 //! The calls of a machine that stands behind a pointer: each says what the machine's own call says.
 
-ghost use Rattle.std.specs.Prelude.{◌≡◌, ◌+◌, ◌<◌, ◌≤◌, length, true, false, OnOk, IfOk};
+ghost use Rattle.std.specs.Prelude.{◌≡◌, ◌+◌, ◌<◌, ◌≤◌, length, true, OnOk, IfOk, IfSome};
 ghost use Rattle.ug_board.specs.Rules.{buffer_size, MayTake, LeavesHanded};
 
 use crate::machine::Machine;
@@ -58,10 +58,10 @@ pub(crate) fn due_behind<M: Machine>(machine: &Box<M>) -> u64
     machine.due()
 }
 
-/// Whether the job may raise that bound.
-pub(crate) fn may_raise_due_behind<M: Machine>(machine: &Box<M>, job: &M::Job) -> bool
+/// How much the job raises that bound at most, where that is known before it.
+pub(crate) fn due_rise_behind<M: Machine>(machine: &Box<M>, job: &M::Job) -> Option<u64>
     requires { M.rules.legal job.now (M.state machine.now.value) ≡ true }
-    ensures { result ≡ false → M.rules.due (M.rules.after job.now (M.state machine.now.value)) ≤ M.rules.due (M.state machine.now.value) }
+    ensures { IfSome result (λ rise. M.rules.due (M.rules.after job.now (M.state machine.now.value)) ≤ M.rules.due (M.state machine.now.value) + rise) }
 {
-    machine.may_raise_due(job)
+    machine.due_rise(job)
 }

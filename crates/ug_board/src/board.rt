@@ -1,12 +1,12 @@
 //! A machine beside the history of its steps.
 
-ghost use Rattle.std.specs.Prelude.{◌≡◌, ◌+◌, ◌<◌, ◌≤◌, ◌∷◌, [], ◌++◌, length, true, false, OnOk, OnErr, IfOk, IfErr};
+ghost use Rattle.std.specs.Prelude.{◌≡◌, ◌+◌, ◌<◌, ◌≤◌, ◌∷◌, [], ◌++◌, length, true, false, OnOk, OnErr, IfOk, IfErr, IfSome};
 ghost use Rattle.ug_board.specs.declared.steps.LaneStep.TheVariants.{Next, Lost};
 ghost use Rattle.ug_board.specs.declared.steps.LaneSaid.TheVariants.{Stop, Noted};
 ghost use Rattle.ug_board.specs.Rules.{buffer_size, lane_said, LeavesHanded};
 ghost use Rattle.ug_board.specs.History.{IsLegal, MayGoOn, fresh_board, state_of, job_entry, lane_entries, spent_said};
 
-use crate::behind::{due_behind, job_behind, lane_behind, may_lose_behind, may_raise_due_behind};
+use crate::behind::{due_behind, due_rise_behind, job_behind, lane_behind, may_lose_behind};
 use crate::entry::BoardEntry;
 use crate::history::{History, HistoryList};
 use crate::kept::Done;
@@ -88,11 +88,11 @@ impl<M: Machine> Board<M> {
         if self.history.len() == usize::MAX {
             return Err(NoMemory);
         }
-        let raises = may_raise_due_behind(&self.machine, &job);
+        let rise = due_rise_behind(&self.machine, &job);
         let said = job_behind(&mut self.machine, &job, steps)?;
         let kept = M::copy_said(&said)?;
         let done = enclose(self.alloc, job, kept)?;
-        let due = room_for_lanes(&self.machine, &self.history, raises);
+        let due = room_for_lanes(&self.machine, &self.history, rise);
         make_room(&mut self.history, due)?;
         self.history.add_job(pass, done);
         self.spent = false;
@@ -219,16 +219,17 @@ fn enclose<J: Drop, R: Drop>(alloc: Global, job: J, said: R) -> Result<Box<Done<
     }
 }
 
-/// Room that is enough for the entries that lanes can add before the next job: behind a job that did not raise what is due,
-/// the room that there is.
-fn room_for_lanes<M: Machine>(machine: &Box<M>, history: &HistoryList<M>, raises: bool) -> u64
-    requires { raises ≡ false → M.rules.due (M.state machine.now.value) ≤ history.now.spare }
+/// Room that is enough for the entries that lanes can add before the next job: behind a job that raised what is due by so much
+/// at most, as much more than there was.
+fn room_for_lanes<M: Machine>(machine: &Box<M>, history: &HistoryList<M>, rise: Option<u64>) -> u64
+    requires { IfSome rise (λ rise. M.rules.due (M.state machine.now.value) ≤ history.now.spare + rise) }
     ensures { M.rules.due (M.state machine.now.value) ≤ result }
 {
-    if raises {
-        return due_behind(machine);
+    let room = history.room() as u64;
+    match rise.and_then(|rise| room.checked_add(rise)) {
+        Some(room) => room,
+        None => due_behind(machine),
     }
-    history.room() as u64
 }
 
 /// Makes room for one entry and for those that are due after it. Running out of memory changes no entry.

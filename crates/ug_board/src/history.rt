@@ -1,6 +1,6 @@
 //! A history as it is stored.
 
-ghost use Rattle.std.specs.Prelude.{◌≡◌, ◌+◌, ◌<◌, ◌≤◌, ◌^◌, ◌∷◌, [], ◌++◌, length, slice_get, Some, OnOk, IsOk};
+ghost use Rattle.std.specs.Prelude.{◌≡◌, ◌+◌, ◌<◌, ◌≤◌, ◌^◌, ◌∷◌, [], ◌++◌, length, slice_get, Some, OnOk, OnErr, IsOk};
 ghost use Rattle.ug_board.specs.declared.steps.BoardStep.TheVariants.{Job as DoJob, Lane as LaneTakes};
 ghost use Rattle.ug_board.specs.declared.steps.BoardSaid.TheVariants.{Job as JobSaid, Lane as LaneGot};
 ghost use Rattle.ug_board.specs.declared.steps.LaneStep.TheVariants.{Next, Lost};
@@ -77,15 +77,12 @@ impl<J, R> History<J, R> {
         look(&self.packets, self.kept.at(i))
     }
 
-    /// Makes room for `n` further entries. Running out of memory leaves the entries as they were.
+    /// Makes room for `n` further entries, and from then on counts on no more of it. Running out of memory leaves it as it was.
     pub(crate) fn reserve(&mut self, n: usize) -> Result<(), NoMemory>
         ensures items { self.new.items ≡ self.old.items }
-        ensures room { OnOk result (n ≤ self.new.spare) }
-        ensures spare { self.old.spare ≤ self.new.spare }
+        ensures room { OnOk result (self.new.spare ≡ n) }
+        ensures spare { OnErr result (self.new.spare ≡ self.old.spare) }
     {
-        if n <= self.room {
-            return Ok(());
-        }
         self.kept.reserve(n)?;
         self.packets.reserve(n)?;
         self.room = n;

@@ -1,6 +1,6 @@
 //! What a board asks of its machine.
 
-ghost use Rattle.std.specs.Prelude.{◌≡◌, ℕ, ◌+◌, ◌<◌, ◌≤◌, length, true, false, OnOk, IfOk};
+ghost use Rattle.std.specs.Prelude.{◌≡◌, ℕ, ◌+◌, ◌<◌, ◌≤◌, length, true, OnOk, IfOk, IfSome};
 ghost use Rattle.ug_board.specs.Rules.{Rules, IsMachine, buffer_size, MayTake, LeavesHanded};
 
 use crate::steps::{LaneSaid, LaneStep};
@@ -71,10 +71,11 @@ pub trait Machine: Send + Drop {
     fn due(&self) -> u64
         ensures { result ≡ rules.due (state self.now) };
 
-    /// Whether the job may raise that bound. Where it answers false, a board need not ask for the bound behind the job.
-    fn may_raise_due(&self, job: &Self::Job) -> bool
+    /// How much the job raises that bound at most, or None where that isn't known before the job is done. Where it is known, a
+    /// board need not ask for the bound behind the job: it makes room for so many entries more than before.
+    fn due_rise(&self, job: &Self::Job) -> Option<u64>
         requires { rules.legal job.now (state self.now) ≡ true }
-        ensures { result ≡ false → rules.due (rules.after job.now (state self.now)) ≤ rules.due (state self.now) };
+        ensures { IfSome result (λ rise. rules.due (rules.after job.now (state self.now)) ≤ rules.due (state self.now) + rise) };
 
     /// An equal reply of its own.
     fn copy_said(said: &Self::Said) -> Result<Self::Said, NoMemory>

@@ -51,7 +51,7 @@ view-some rows members p x is = by (slice_get members p) refl (sym (member-get r
         one : (a b : machine.Member) → Some a ≡ Some b → a ≡ b
         one a b e = cc
 
-sits-is : (rows : Rows) (members : List Member) (p g : ℕ) (m : Member) → slice_get members p ≡ Some m → AreSeated rows members → sits g (member_of rows p m) ≡ stands p g rows
+pub sits-is : (rows : Rows) (members : List Member) (p g : ℕ) (m : Member) → slice_get members p ≡ Some m → AreSeated rows members → sits g (member_of rows p m) ≡ stands p g rows
 sits-is rows members p g m at seats = seat-sub rows p g m.sub ∙ ap (is_sub g) (sym (sub-is p members m at)) ∙ sym (seats p g)
 
 -- it has as soon as its queue has

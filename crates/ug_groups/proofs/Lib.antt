@@ -58,6 +58,7 @@ pub mod TakeCounted
 pub mod TakeTurned
 pub mod TakeDone
 pub mod TakeDues
+pub mod PacketDues
 pub mod KeyLists
 pub mod Reached
 pub mod ChangeKeys

@@ -90,3 +90,12 @@ mark_is w closed made rows members p session handed version s at had is count =
 pub asks-mark : (asks is : Bool) (old new : List Mark) (m : Mark) → asks ≡ true → new ≡ old ++ when is (m ∷ []) → new ≡ old ++ when (asks && is) (m ∷ [])
 asks-mark true is old new m e pushed = pushed
 asks-mark false is old new m e pushed = absurd cc
+
+-- where an event asks for nothing
+none-asks : (about : PeerState → Bool) (p : ℕ) (peers : List PeerState) (left : System) → marks_at (λ (x : PeerState). false && about x) p peers left ≡ []
+none-asks about p [] left = refl
+none-asks about p (x ∷ peers) left = none-asks about (p + 1) peers left
+
+pub mark_nobody : (asks : Bool) (about : PeerState → Bool) (p : ℕ) (peers : List PeerState) (left : System) → asks ≡ false → marks_at (λ (x : PeerState). asks && about x) p peers left ≡ []
+mark_nobody true about p peers left idle = absurd cc
+mark_nobody false about p peers left idle = none-asks about p peers left

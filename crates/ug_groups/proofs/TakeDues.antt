@@ -1,5 +1,5 @@
 -- An event that is about no peer leaves what is due to each: it begins no session, and formats no packet.
-use Rattle.std.proofs.Common.{◌≡◌, ℕ, ◌≤◌, Bool, false, List, None, refl, sym, ap, subst, ◌∙◌, arith}
+use Rattle.std.proofs.Common.{◌≡◌, ℕ, ◌+◌, ◌≤◌, Bool, false, List, None, refl, sym, ap, subst, ◌∙◌, arith}
 use Rattle.ug_events.specs.Events.{Happening, ComesUp, GoesDown, HasPaths, HasNone, HasPolicy, HasEntries, AsksAgain, SendsRequest, SendsList}
 use Rattle.ug_world.specs.declared.peer_state.PeerState.{PeerState}
 use Rattle.ug_world.specs.World.{World}
@@ -35,9 +35,13 @@ routes-due e w rows members made kept none =
     ∙ ap (λ (peers : List PeerState). due peers (members_from rows 0 members)) (peers-same e w none)
 
 -- the same of the system that a state is
-pub routes-due-of : (w : World) (closed : Bool) (made : ℕ) (rows : Rows) (members : List Member) (s : System) → system w closed made rows members ≡ s → IsKept w closed made rows members → closed ≡ false
+routes-due-of : (w : World) (closed : Bool) (made : ℕ) (rows : Rows) (members : List Member) (s : System) → system w closed made rows members ≡ s → IsKept w closed made rows members → closed ≡ false
     → (e : Happening) → named_by e ≡ None → group_rules.due (take_event e s) ≤ group_rules.due s
 routes-due-of w closed made rows members s view kept open_ e none =
     let is : system w false made rows members ≡ s = ap (λ (b : Bool). system w b made rows members) (sym open_) ∙ view in
     let same = routes-due e w rows members made (subst (λ (b : Bool). IsKept w b made rows members) open_ kept) none in
     subst (λ (t : System). group_rules.due (take_event e t) ≤ group_rules.due t) is (omega (arith, same))
+
+pub routes-rise : (w : World) (closed : Bool) (made : ℕ) (rows : Rows) (members : List Member) (s : System) → system w closed made rows members ≡ s → IsKept w closed made rows members → closed ≡ false
+    → (e : Happening) → named_by e ≡ None → group_rules.due (take_event e s) ≤ group_rules.due s + 0
+routes-rise w closed made rows members s view kept open_ e none = let no_more = routes-due-of w closed made rows members s view kept open_ e none in omega (arith, no_more)

@@ -104,8 +104,8 @@ impl Machine for Groups {
         self.state.due()
     }
 
-    fn may_raise_due(&self, job: &GroupJob) -> bool {
-        self.state.may_raise_due(job)
+    fn due_rise(&self, job: &GroupJob) -> Option<u64> {
+        self.state.due_rise(job)
     }
 
     fn copy_said(said: &GroupSaid) -> Result<GroupSaid, NoMemory> {

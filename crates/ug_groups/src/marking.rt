@@ -28,8 +28,24 @@ pub fn marks_of_all(alloc: Global, world: &World, members: &[Member]) -> Result<
     Ok(marks)
 }
 
-/// The mark of the live peer that asks for all routes by this event, or none.
+/// The mark of the live peer that asks for all routes by this event, or none. Peers are looked at only where the event asks for
+/// routes.
 pub fn marks_of_asker(
+    alloc: Global,
+    world: &World,
+    event: &Event,
+    members: &[Member],
+) -> Result<MarkList, NoMemory>
+    ensures { IfOk result (λ marks. (closed : Bool) (made : ℕ) (rows : Rows) → marks.items ≡ marks_at (λ s. is_request (event_of event.now) && is_about (event_of event.now) s) 0 world.now.peers (system world.now closed made rows members.now)) }
+{
+    if is_request(event) {
+        return marks_of_each_asker(alloc, world, event, members);
+    }
+    Ok(Sequence::new(alloc))
+}
+
+/// The same, of all peers that the event is about: there is one at most.
+fn marks_of_each_asker(
     alloc: Global,
     world: &World,
     event: &Event,
@@ -108,6 +124,22 @@ fn handed_in(member: &Member, session: u32) -> u64
         member.handed
     } else {
         0
+    }
+}
+
+/// Whether an event asks for all routes again.
+fn is_request(event: &Event) -> bool
+    ensures { result ≡ is_request (event_of event.now) }
+{
+    match event {
+        Event::Refresh { .. } | Event::Receive { .. } => true,
+        Event::Orf { message, .. } => message.now,
+        Event::Paths { .. }
+        | Event::Withdraw { .. }
+        | Event::List { .. }
+        | Event::Up { .. }
+        | Event::Down { .. }
+        | Event::Policy { .. } => false,
     }
 }
 

@@ -130,24 +130,39 @@ impl GroupState {
         due_of(&self.world, &self.subgroups, &self.members)
     }
 
-    /// Whether a job that may be done can raise what is due. An event about routes or a list begins no session and formats
-    /// no packet.
-    pub fn may_raise_due(&self, job: &GroupJob) -> bool
+    /// How much a job that may be done raises what is due at most, where that is known before it.
+    pub fn due_rise(&self, job: &GroupJob) -> Option<u64>
         requires { legal job.now self.now ≡ true }
-        ensures { result ≡ false → group_rules.due (after_job job.now self.now) ≤ group_rules.due self.now }
+        ensures { IfSome result (λ rise. group_rules.due (after_job job.now self.now) ≤ group_rules.due self.now + rise) }
     {
         match &job.work {
-            Work::Take(event) => self.may_raise_due_by(event),
-            Work::Format(_) | Work::Merge(_, _) | Work::Slow(_) | Work::Sync | Work::Close => true,
+            Work::Take(event) => self.rise_by_event(event),
+            Work::Format(sub) => Some(self.rise_by_packet(*sub)),
+            Work::Sync | Work::Close => Some(0),
+            Work::Merge(_, _) | Work::Slow(_) => None,
         }
     }
 
-    fn may_raise_due_by(&self, event: &Event) -> bool
+    /// An event about routes or a list begins no session and formats no packet: it raises nothing. Of an event about a peer
+    /// nothing is known before it.
+    fn rise_by_event(&self, event: &Event) -> Option<u64>
         requires { legal (machine.Take (event_of event.now)) self.now ≡ true }
-        ensures { result ≡ false → group_rules.due (after_job (machine.Take (event_of event.now)) self.now) ≤ group_rules.due self.now }
+        ensures { IfSome result (λ rise. group_rules.due (after_job (machine.Take (event_of event.now)) self.now) ≤ group_rules.due self.now + rise) }
     {
         prove!(!self.closed);
-        peer_of(event).is_some()
+        if peer_of(event).is_some() {
+            return None;
+        }
+        Some(0)
+    }
+
+    /// A packet is one more for each member of its subgroup.
+    fn rise_by_packet(&self, sub: u32) -> u64
+        requires { legal (machine.Format sub) self.now ≡ true }
+        ensures { group_rules.due (after_job (machine.Format sub) self.now) ≤ group_rules.due self.now + result }
+    {
+        self.subgroups.know_rows();
+        self.subgroups.member_count(sub) as u64
     }
 
     /// Whether nothing has to be done before the next event.

@@ -7,7 +7,7 @@ use Rattle.ug_speaker.specs.Speech.{is_request}
 use Rattle.ug_group_rules.specs.Machine.{marks_at}
 use Rattle.ug_groups.specs.Rows.{Rows}
 use Rattle.ug_groups.specs.Members.{system}
-use Rattle.ug_groups.proofs.marking.marks_of_asker.Given as goal
+use Rattle.ug_groups.proofs.marking.marks_of_each_asker.Given as goal
 
 -- the marks so far, and those of the peers that are left
 abbrev pub invariant-loop-id : goal.invariant-loop-id
