@@ -1,4 +1,4 @@
-pub mod Laden
+pub mod WithWaiting
 pub mod Steps
 pub mod Reports
 pub mod Streams

@@ -4,4 +4,4 @@ pub mod Checkers
 pub mod Written
 pub mod Rows
 pub mod Stored
-pub mod Laden
+pub mod Waiting

@@ -8,7 +8,7 @@ ghost use Rattle.ug_message.specs.Reading.{message_size};
 ghost use Rattle.ug_message.specs.Received.{IsUnfinished, Says, Awaited};
 ghost use Rattle.ug_update.specs.Readers.{new_reader, front, behind_message, HasRead};
 ghost use Rattle.ug_check.specs.Rows.{no_rows, reading_of};
-ghost use Rattle.ug_check.specs.Laden.{laden, AreWaiting, AreWaiting-prop};
+ghost use Rattle.ug_check.specs.Waiting.{with_waiting, AreWaiting, AreWaiting-prop};
 ghost use Rattle.ug_check.specs.Checkers.{HasChecked, IsSettled, IsPieceCause};
 
 use crate::stop::Stop;
@@ -41,7 +41,7 @@ impl Checker {
     /// A checker before any byte.
     pub fn new(alloc: Global, session: Capabilities) -> Checker
         ensures reader { result.reader ≡ new_reader session }
-        ensures table { laden result.table result.waiting.items ≡ no_rows }
+        ensures table { with_waiting result.table result.waiting.items ≡ no_rows }
         ensures messages { result.messages ≡ 0 }
         ensures eors { result.eors ≡ 0 }
     {
@@ -59,9 +59,9 @@ impl Checker {
     pub fn take_piece(&mut self, piece: &[u8]) -> Result<(), Stop>
         requires live { self.old.reader.stopped ≡ false }
         requires fits { self.old.reader.taken + length self.old.reader.left + length piece.now < 2 ^ 64 }
-        ensures ok { OnOk result ((stream : List ℕ) → HasChecked self.old.reader (laden self.old.table self.old.waiting.items) self.old.messages self.old.eors stream →
-            IsSettled self.new.reader (laden self.new.table self.new.waiting.items) self.new.messages self.new.eors (stream ++ piece.now)) }
-        ensures stopped { IfErr result (λ stop. (stream : List ℕ) → HasChecked self.old.reader (laden self.old.table self.old.waiting.items) self.old.messages self.old.eors stream →
+        ensures ok { OnOk result ((stream : List ℕ) → HasChecked self.old.reader (with_waiting self.old.table self.old.waiting.items) self.old.messages self.old.eors stream →
+            IsSettled self.new.reader (with_waiting self.new.table self.new.waiting.items) self.new.messages self.new.eors (stream ++ piece.now)) }
+        ensures stopped { IfErr result (λ stop. (stream : List ℕ) → HasChecked self.old.reader (with_waiting self.old.table self.old.waiting.items) self.old.messages self.old.eors stream →
             IsPieceCause stop self.old.reader.session (stream ++ piece.now)) }
         ensures live { OnOk result (self.new.reader.stopped ≡ false) }
         ensures size { OnOk result (self.new.reader.taken + length self.new.reader.left ≡ self.old.reader.taken + length self.old.reader.left + length piece.now) }
@@ -83,11 +83,11 @@ impl Checker {
     /// Takes the next message, where there is one, and answers whether there was.
     fn step(&mut self) -> Result<bool, Stop>
         requires { self.old.reader.stopped ≡ false }
-        ensures ok { OnOk result ((stream : List ℕ) → HasChecked self.old.reader (laden self.old.table self.old.waiting.items) self.old.messages self.old.eors stream →
-            HasChecked self.new.reader (laden self.new.table self.new.waiting.items) self.new.messages self.new.eors stream) }
+        ensures ok { OnOk result ((stream : List ℕ) → HasChecked self.old.reader (with_waiting self.old.table self.old.waiting.items) self.old.messages self.old.eors stream →
+            HasChecked self.new.reader (with_waiting self.new.table self.new.waiting.items) self.new.messages self.new.eors stream) }
         ensures more { IfOk result (λ more. more ≡ true → length self.new.reader.left < length self.old.reader.left) }
         ensures last { IfOk result (λ more. more ≡ false → IsUnfinished self.new.reader.session self.new.reader.left) }
-        ensures stopped { IfErr result (λ stop. (stream : List ℕ) → HasChecked self.old.reader (laden self.old.table self.old.waiting.items) self.old.messages self.old.eors stream →
+        ensures stopped { IfErr result (λ stop. (stream : List ℕ) → HasChecked self.old.reader (with_waiting self.old.table self.old.waiting.items) self.old.messages self.old.eors stream →
             IsPieceCause stop self.old.reader.session stream) }
         ensures live { OnOk result (self.new.reader.stopped ≡ false) }
         ensures size { OnOk result (self.new.reader.taken + length self.new.reader.left ≡ self.old.reader.taken + length self.old.reader.left) }
@@ -105,8 +105,8 @@ impl Checker {
 
     /// Brings the table up to date where announcements of many bytes wait, with those of a piece of this length.
     fn relieve(&mut self, len: usize) -> Result<(), Stop>
-        ensures ok { OnOk result ((stream : List ℕ) → IsSettled self.old.reader (laden self.old.table self.old.waiting.items) self.old.messages self.old.eors stream →
-            IsSettled self.new.reader (laden self.new.table self.new.waiting.items) self.new.messages self.new.eors stream) }
+        ensures ok { OnOk result ((stream : List ℕ) → IsSettled self.old.reader (with_waiting self.old.table self.old.waiting.items) self.old.messages self.old.eors stream →
+            IsSettled self.new.reader (with_waiting self.new.table self.new.waiting.items) self.new.messages self.new.eors stream) }
         ensures reader { self.new.reader ≡ self.old.reader }
         ensures cause { IfErr result (λ stop. stop ≡ Stop.NoMemory) }
     {
@@ -119,7 +119,7 @@ impl Checker {
 
     /// Brings the table up to date: no announcement waits then.
     pub fn finish(&mut self) -> Result<(), Stop>
-        ensures ok { OnOk result ((stream : List ℕ) → IsSettled self.old.reader (laden self.old.table self.old.waiting.items) self.old.messages self.old.eors stream →
+        ensures ok { OnOk result ((stream : List ℕ) → IsSettled self.old.reader (with_waiting self.old.table self.old.waiting.items) self.old.messages self.old.eors stream →
             IsSettled self.new.reader self.new.table self.new.messages self.new.eors stream) }
         ensures none { self.new.waiting.items ≡ [] }
         ensures reader { self.new.reader ≡ self.old.reader }
@@ -135,9 +135,9 @@ impl Checker {
         requires { self.old.messages < self.old.reader.taken }
         ensures reader { self.new.reader ≡ self.old.reader }
         ensures table { OnOk result ((key : route_keys.Key) →
-            (reading_of (laden self.new.table self.new.waiting.items)).table key ≡ (applied (reading_of (laden self.old.table self.old.waiting.items)) (message_of item.now)).table key) }
+            (reading_of (with_waiting self.new.table self.new.waiting.items)).table key ≡ (applied (reading_of (with_waiting self.old.table self.old.waiting.items)) (message_of item.now)).table key) }
         ensures stale { OnOk result ((key : route_keys.Key) →
-            (reading_of (laden self.new.table self.new.waiting.items)).stale key ≡ (applied (reading_of (laden self.old.table self.old.waiting.items)) (message_of item.now)).stale key) }
+            (reading_of (with_waiting self.new.table self.new.waiting.items)).stale key ≡ (applied (reading_of (with_waiting self.old.table self.old.waiting.items)) (message_of item.now)).stale key) }
         ensures messages { OnOk result (self.new.messages ≡ self.old.messages + 1) }
         ensures eors { OnOk result (self.new.eors ≡ self.old.eors + (if self.old.reader.ended then 1 else 0)) }
         ensures cause { IfErr result (λ stop. stop ≡ Stop.NoMemory) }

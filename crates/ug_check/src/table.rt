@@ -7,13 +7,13 @@ ghost use Rattle.ug_types.specs.Keys.{same_key};
 ghost use Rattle.ug_types.specs.Messages.{message_of, changes_of, Updates};
 ghost use Rattle.ug_message.specs.Tables.{applied, among};
 ghost use Rattle.ug_check.specs.Rows.{reading_of, row_at, no_rows, IsAfter};
-ghost use Rattle.ug_check.specs.Laden.{laden, with_change, AreV4, AreWaiting};
+ghost use Rattle.ug_check.specs.Waiting.{with_waiting, with_change, AreV4, AreWaiting};
 
 use crate::iter::RowIter;
 use crate::row::{Announced, Row};
 use crate::rows::{count_stale, put_v4, put_v6, remove_v4, remove_v6, stored_after, sweep};
 use crate::sharing::Sharing;
-use crate::waiting::{Change, add_each, announcement, in_key_order};
+use crate::waiting::{Change, add_each, announcement, are_v4, in_key_order};
 use std::alloc::Global;
 use std::collections::BTreeMap;
 use std::marker::Model;
@@ -32,7 +32,9 @@ const LONG: usize = 100;
 /// refresh began.
 ///
 /// The routes of an UPDATE share what is kept of them, and so do UPDATEs that have the same attributes, one after the
-/// other; a row is small. It tells how many refreshes had begun when its route was last announced, so that the begin of a refresh touches none, and its end each once. It counts too how many messages in a row only announced routes.
+/// other; a row is small. It tells how many refreshes had begun when its route was last announced, so that the begin of
+/// a refresh touches none, and its end each once. The table counts too how many messages in a row only announced
+/// routes, the first of each of IPv4.
 #[derive(Drop)]
 pub struct Table {
     alloc: Global,
@@ -94,34 +96,41 @@ impl Table {
     pub(crate) fn follow(&mut self, item: &Item, waiting: &mut Vec<Change>) -> Result<(), NoMemory>
         requires { AreWaiting self.old.refreshes waiting.old.items }
         ensures table { OnOk result ((key : route_keys.Key) →
-            (reading_of (laden self.new waiting.new.items)).table key ≡ (applied (reading_of (laden self.old waiting.old.items)) (message_of item.now)).table key) }
+            (reading_of (with_waiting self.new waiting.new.items)).table key ≡ (applied (reading_of (with_waiting self.old waiting.old.items)) (message_of item.now)).table key) }
         ensures stale { OnOk result ((key : route_keys.Key) →
-            (reading_of (laden self.new waiting.new.items)).stale key ≡ (applied (reading_of (laden self.old waiting.old.items)) (message_of item.now)).stale key) }
+            (reading_of (with_waiting self.new waiting.new.items)).stale key ≡ (applied (reading_of (with_waiting self.old waiting.old.items)) (message_of item.now)).stale key) }
         ensures waiting { AreWaiting self.new.refreshes waiting.new.items }
     {
-        match announcement(item) {
-            Some((keys, attrs)) if self.puts_off(keys, waiting.len()) => {
-                self.wait(keys, attrs, waiting)
+        let announced = announcement(item);
+        self.count_in_a_row(announced.is_some());
+        match announced {
+            // That all keys are of IPv4 is asked last: each is looked at.
+            Some((keys, attrs)) if self.are_to_wait(keys, waiting.len()) && are_v4(keys) => {
+                self.put_off(keys, attrs, waiting)
             }
-            Some(_) => {
-                self.take_in(waiting)?;
-                self.apply(item)
-            }
-            None => {
-                self.in_a_row = 0;
+            _ => {
                 self.take_in(waiting)?;
                 self.apply(item)
             }
         }
     }
 
+    /// Counts a message: the row of announcements is longer by one that only announces, and any other ends it. All else
+    /// stays as it is.
+    fn count_in_a_row(&mut self, announces: bool)
+        ensures same { self.new ≡ self.old }
+    {
+        self.in_a_row = if announces {
+            self.in_a_row.saturating_add(1)
+        } else {
+            0
+        };
+    }
+
     /// Whether announcements of these keys are to wait, where so many do: not where those are many for the rows. Where
     /// none waits, they do behind a long row of announcements, but not where their place is found soon: in a small table
     /// or above all rows.
-    fn puts_off(&mut self, keys: &[Key], count: usize) -> bool
-        ensures { self.new ≡ self.old }
-    {
-        self.in_a_row = self.in_a_row.saturating_add(1);
+    fn are_to_wait(&self, keys: &[Key], count: usize) -> bool {
         if count == 0 {
             return self.in_a_row > LONG && self.len() >= LARGE && !self.ends_before(keys);
         }
@@ -139,7 +148,9 @@ impl Table {
         }
     }
 
-    fn wait(
+    /// Puts off an announcement: these keys are added to those that wait, with the attributes, and the table stays as
+    /// it is. After running out of memory some of the keys are added.
+    fn put_off(
         &mut self,
         keys: &[Key],
         attrs: &Attrs,
@@ -147,9 +158,10 @@ impl Table {
     ) -> Result<(), NoMemory>
         requires family { AreV4 keys.now }
         requires waiting { AreWaiting self.old.refreshes waiting.old.items }
-        ensures row { OnOk result ((q : route_keys.Key) → row_at (laden self.new waiting.new.items).rows q ≡ (if among keys.now q then Some attrs.now else row_at (laden self.old waiting.old.items).rows q)) }
-        ensures stale { OnOk result ((q : route_keys.Key) → among (laden self.new waiting.new.items).stale q ≡ (if among keys.now q then false else among (laden self.old waiting.old.items).stale q)) }
+        ensures row { OnOk result ((q : route_keys.Key) → row_at (with_waiting self.new waiting.new.items).rows q ≡ (if among keys.now q then Some attrs.now else row_at (with_waiting self.old waiting.old.items).rows q)) }
+        ensures stale { OnOk result ((q : route_keys.Key) → among (with_waiting self.new waiting.new.items).stale q ≡ (if among keys.now q then false else among (with_waiting self.old waiting.old.items).stale q)) }
         ensures waiting { AreWaiting self.new.refreshes waiting.new.items }
+        ensures same { self.new ≡ self.old }
     {
         let shared = self.share(attrs)?;
         add_each(waiting, keys, &shared)
@@ -158,19 +170,24 @@ impl Table {
     /// Takes in the announcements that wait, and none does then. After running out of memory some may be lost.
     pub(crate) fn take_in(&mut self, waiting: &mut Vec<Change>) -> Result<(), NoMemory>
         requires { AreWaiting self.old.refreshes waiting.old.items }
-        ensures row { OnOk result ((q : route_keys.Key) → row_at self.new.rows q ≡ row_at (laden self.old waiting.old.items).rows q) }
-        ensures stale { OnOk result ((q : route_keys.Key) → among self.new.stale q ≡ among (laden self.old waiting.old.items).stale q) }
+        ensures row { OnOk result ((q : route_keys.Key) → row_at self.new.rows q ≡ row_at (with_waiting self.old waiting.old.items).rows q) }
+        ensures stale { OnOk result ((q : route_keys.Key) → among self.new.stale q ≡ among (with_waiting self.old waiting.old.items).stale q) }
         ensures none { waiting.new.items ≡ [] }
     {
+        if waiting.is_empty() {
+            return Ok(());
+        }
         let changes = replace(waiting, Vec::new(self.alloc));
         let sorted = in_key_order(changes)?;
         self.put_in_turn(sorted)
     }
 
+    /// Makes these announcements in the table, one after the other. It leaves the keys that they don't name as they were.
+    /// After running out of memory the first of them are made, and the others lost.
     fn put_in_turn(&mut self, changes: Vec<Change>) -> Result<(), NoMemory>
         requires { AreWaiting self.old.refreshes changes.items }
-        ensures row { OnOk result ((q : route_keys.Key) → row_at self.new.rows q ≡ row_at (laden self.old changes.items).rows q) }
-        ensures stale { OnOk result ((q : route_keys.Key) → among self.new.stale q ≡ among (laden self.old changes.items).stale q) }
+        ensures row { OnOk result ((q : route_keys.Key) → row_at self.new.rows q ≡ row_at (with_waiting self.old changes.items).rows q) }
+        ensures stale { OnOk result ((q : route_keys.Key) → among self.new.stale q ≡ among (with_waiting self.old changes.items).stale q) }
     {
         let mut rest = changes.into_iter();
         while let Some(change) = rest.next() {
@@ -179,6 +196,7 @@ impl Table {
         Ok(())
     }
 
+    /// Makes an announcement in the table: its key gets its row, and isn't stale. It leaves all other keys as they were.
     fn put_change(&mut self, change: Change) -> Result<(), NoMemory>
         requires { change.row.shared.value.seen ≡ self.old.refreshes }
         ensures row { OnOk result ((q : route_keys.Key) → row_at self.new.rows q ≡ row_at (with_change change self.old).rows q) }

@@ -8,7 +8,7 @@ ghost use Rattle.ug_types.specs.Keys.{same_key};
 ghost use Rattle.ug_types.specs.Messages.{message_of, Updates};
 ghost use Rattle.ug_message.specs.Tables.{among};
 ghost use Rattle.ug_check.specs.Rows.{Rows, row_at};
-ghost use Rattle.ug_check.specs.Laden.{laden, of_key, AreV4, AreWaiting};
+ghost use Rattle.ug_check.specs.Waiting.{with_waiting, of_key, AreV4, AreWaiting};
 
 use crate::row::{Announced, Row};
 use std::rc::Rc;
@@ -22,16 +22,15 @@ pub struct Change {
     pub row: Row,
 }
 
-/// The keys and the attributes of a message that only announces routes, all of them of IPv4.
+/// The keys and the attributes of a message that only announces routes, the first of them of IPv4.
 pub fn announcement(item: &Item) -> Option<(&[Key], &Attrs)>
     ensures says { IfSome result (λ it. message_of item.now ≡ Updates (record { withdrawn = []; attrs = Some it.1.now; announced = it.0.now })) }
-    ensures family { IfSome result (λ it. AreV4 it.0.now) }
 {
     let Item::Update(update) = item else {
         return None;
     };
     let keys = update.announced.as_slice();
-    if update.withdrawn.len() != 0 || !are_v4(keys) {
+    if update.withdrawn.len() != 0 || !begins_v4(keys) {
         return None;
     }
     match &update.attrs {
@@ -40,7 +39,16 @@ pub fn announcement(item: &Item) -> Option<(&[Key], &Attrs)>
     }
 }
 
-fn are_v4(keys: &[Key]) -> bool
+/// Whether the first of these keys is of IPv4.
+fn begins_v4(keys: &[Key]) -> bool {
+    match keys.first() {
+        Some(key) => key.prefix.family == Family::V4,
+        None => false,
+    }
+}
+
+/// Whether all of these keys are of IPv4. It looks at each.
+pub fn are_v4(keys: &[Key]) -> bool
     ensures { IsTrue result → AreV4 keys.now }
 {
     for key in keys {
@@ -59,8 +67,8 @@ pub fn add_each(
     shared: &Rc<Announced>,
 ) -> Result<(), NoMemory>
     requires { AreV4 keys.now }
-    ensures row { OnOk result ((t : Rows) (q : route_keys.Key) → row_at (laden t waiting.new.items).rows q ≡ (if among keys.now q then Some shared.now.value.attrs else row_at (laden t waiting.old.items).rows q)) }
-    ensures stale { OnOk result ((t : Rows) (q : route_keys.Key) → among (laden t waiting.new.items).stale q ≡ (if among keys.now q then false else among (laden t waiting.old.items).stale q)) }
+    ensures row { OnOk result ((t : Rows) (q : route_keys.Key) → row_at (with_waiting t waiting.new.items).rows q ≡ (if among keys.now q then Some shared.now.value.attrs else row_at (with_waiting t waiting.old.items).rows q)) }
+    ensures stale { OnOk result ((t : Rows) (q : route_keys.Key) → among (with_waiting t waiting.new.items).stale q ≡ (if among keys.now q then false else among (with_waiting t waiting.old.items).stale q)) }
     ensures waiting { (n : ℕ) → shared.now.value.seen ≡ n → AreWaiting n waiting.old.items → AreWaiting n waiting.new.items }
 {
     for key in keys {
@@ -71,8 +79,8 @@ pub fn add_each(
 
 fn add(waiting: &mut Vec<Change>, key: &Key, shared: &Rc<Announced>) -> Result<(), NoMemory>
     requires { key.now.prefix.family ≡ V4 }
-    ensures row { OnOk result ((t : Rows) (q : route_keys.Key) → row_at (laden t waiting.new.items).rows q ≡ (if same_key q key.now then Some shared.now.value.attrs else row_at (laden t waiting.old.items).rows q)) }
-    ensures stale { OnOk result ((t : Rows) (q : route_keys.Key) → among (laden t waiting.new.items).stale q ≡ (if same_key q key.now then false else among (laden t waiting.old.items).stale q)) }
+    ensures row { OnOk result ((t : Rows) (q : route_keys.Key) → row_at (with_waiting t waiting.new.items).rows q ≡ (if same_key q key.now then Some shared.now.value.attrs else row_at (with_waiting t waiting.old.items).rows q)) }
+    ensures stale { OnOk result ((t : Rows) (q : route_keys.Key) → among (with_waiting t waiting.new.items).stale q ≡ (if same_key q key.now then false else among (with_waiting t waiting.old.items).stale q)) }
     ensures waiting { (n : ℕ) → shared.now.value.seen ≡ n → AreWaiting n waiting.old.items → AreWaiting n waiting.new.items }
 {
     let row = Row {

@@ -1,12 +1,12 @@
 use Rattle.std.proofs.Common.{◌≡◌, ◌+◌, ◌-◌, ◌≤◌, length, false}
 use Rattle.std.specs.Vec.{vec_len}
 use Rattle.ug_check.specs.Checkers.{IsBehind}
-use Rattle.ug_check.specs.Laden.{laden}
+use Rattle.ug_check.specs.Waiting.{with_waiting}
 use Rattle.ug_check.proofs.stream.read_stream.Given as goal
 
 abbrev pub invariant-loop-count : goal.invariant-loop-count
 invariant-loop-count g l = record {
-  behind : IsBehind l.total (g.E.Source.left l.fn.source) (g.E.Source.left l.source) l.checker.reader (laden l.checker.table l.checker.waiting.items) l.checker.messages l.checker.eors;
+  behind : IsBehind l.total (g.E.Source.left l.fn.source) (g.E.Source.left l.source) l.checker.reader (with_waiting l.checker.table l.checker.waiting.items) l.checker.messages l.checker.eors;
   live : l.checker.reader.stopped ≡ false;
   size : l.checker.reader.taken + length l.checker.reader.left ≡ l.total;
   session : l.checker.reader.session ≡ l.fn.session;

@@ -1,5 +1,5 @@
 use Rattle.std.proofs.Common.{drop}
-use Rattle.ug_check.specs.Laden.{AreV4}
+use Rattle.ug_check.specs.Waiting.{AreV4}
 use Rattle.ug_check.proofs.waiting.are_v4.Given as goal
 
 -- those that are left decide

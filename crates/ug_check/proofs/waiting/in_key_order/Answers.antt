@@ -2,8 +2,8 @@ use Rattle.std.proofs.Common.{rules}
 use Rattle.std.proofs.lemmas.List.Elements.{All-from_recursion, recursion_from_All}
 use Rattle.std.proofs.lemmas.List.Sorted.{answers_always, All-permutation}
 use Rattle.ug_check.specs.declared.waiting.Change.{Change}
-use Rattle.ug_check.specs.Laden.{IsWaiting}
-use Rattle.ug_check.proofs.Laden.{kept_by_key}
+use Rattle.ug_check.specs.Waiting.{IsWaiting}
+use Rattle.ug_check.proofs.WithWaiting.{kept_by_key}
 use Rattle.ug_check.proofs.waiting.in_key_order.Goals as goal
 
 pub returns-clause-same : goal.returns-clause-same

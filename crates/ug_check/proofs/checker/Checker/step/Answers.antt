@@ -5,7 +5,7 @@ use Rattle.ug_message.specs.Received.{IsUnfinished}
 use Rattle.ug_update.specs.Readers.{ReaderState, behind_message}
 use Rattle.ug_message.proofs.Fronts.{awaited_unfinished}
 use Rattle.ug_check.specs.Checkers.{HasChecked}
-use Rattle.ug_check.specs.Laden.{laden}
+use Rattle.ug_check.specs.Waiting.{with_waiting}
 use Rattle.ug_check.proofs.Steps.{HasChecked-more, if_none, if_some}
 use Rattle.ug_check.proofs.checker.Checker.step.Goals as goal
 
@@ -24,9 +24,9 @@ returns-in-Ok-clause-ok c = λ stream h.
     let says = if_some _ next _ is c.in-Ok-Some.ensures.some in
     let behind = if_some _ next _ is c.in-Ok-Some.ensures.behind in
     let counted = c.in-Ok.ensures.eors ∙ ap (λ (n : ReaderState). c.args.self.now.eors + (if n.ended then 1 else 0)) behind in
-    subst (λ (n : ReaderState). HasChecked n (laden new.table new.waiting.items) new.messages new.eors stream) (sym (c.take_item.ensures.reader ∙ behind))
-    (subst (λ (n : ℕ). HasChecked (behind_message r) (laden new.table new.waiting.items) n new.eors stream) (sym c.in-Ok.ensures.messages)
-    (HasChecked-more r (laden c.args.self.now.table c.args.self.now.waiting.items) (laden new.table new.waiting.items) c.args.self.now.messages c.args.self.now.eors new.eors (message_of c.in-Ok-Some.item) stream
+    subst (λ (n : ReaderState). HasChecked n (with_waiting new.table new.waiting.items) new.messages new.eors stream) (sym (c.take_item.ensures.reader ∙ behind))
+    (subst (λ (n : ℕ). HasChecked (behind_message r) (with_waiting new.table new.waiting.items) n new.eors stream) (sym c.in-Ok.ensures.messages)
+    (HasChecked-more r (with_waiting c.args.self.now.table c.args.self.now.waiting.items) (with_waiting new.table new.waiting.items) c.args.self.now.messages c.args.self.now.eors new.eors (message_of c.in-Ok-Some.item) stream
     says c.in-Ok.ensures.table c.in-Ok.ensures.stale counted h))
 
 pub returns-clause-stopped : goal.returns-clause-stopped

@@ -4,7 +4,7 @@ use Rattle.ug_types.specs.declared.key.Key.{Key}
 use Rattle.ug_types.specs.Keys.{same_key}
 use Rattle.ug_message.specs.Tables.{among}
 use Rattle.ug_check.proofs.Found.{on_ok}
-use Rattle.ug_check.proofs.Laden.{among_others}
+use Rattle.ug_check.proofs.WithWaiting.{among_others}
 use Rattle.ug_check.proofs.table.Table.put_change.Goals as goal
 
 pub returns-clause-stale : goal.returns-clause-stale

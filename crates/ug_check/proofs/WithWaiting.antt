@@ -15,7 +15,7 @@ use Rattle.ug_short_key.specs.Keys.{key_order, keys_total}
 use Rattle.ug_message.specs.Tables.{among}
 use Rattle.ug_check.specs.declared.waiting.Change.{Change}
 use Rattle.ug_check.specs.Rows.{Rows, row_at}
-use Rattle.ug_check.specs.Laden.{laden, with_change, of_key}
+use Rattle.ug_check.specs.Waiting.{with_waiting, with_change, of_key}
 use Rattle.ug_check.proofs.Keys.{tied, same_is, key_turned}
 
 -- ---- one more announcement
@@ -38,24 +38,24 @@ among_others k q (x ∷ keys) =
     other_step x q (same_key x k) (same_key q k) (same_key q x) (among keys q) (filter (λ (y : Key). not (same_key y k)) keys) refl
     (λ e. ap (λ (z : Key). same_key q z) (same_is x k e)) (λ e. ap (λ (z : Key). same_key z x) (same_is q k e) ∙ key_turned k x) (among_others k q keys)
 
-pub laden_push : (t : Rows) (cs : List Change) (c : Change) → laden t (cs ++ c ∷ []) ≡ with_change c (laden t cs)
-laden_push t [] c = refl
-laden_push t (d ∷ cs) c = laden_push (with_change d t) cs c
+pub with_waiting_push : (t : Rows) (cs : List Change) (c : Change) → with_waiting t (cs ++ c ∷ []) ≡ with_change c (with_waiting t cs)
+with_waiting_push t [] c = refl
+with_waiting_push t (d ∷ cs) c = with_waiting_push (with_change d t) cs c
 
 pub row_pushed : (t : Rows) (cs : List Change) (c : Change) (q : Key)
-    → row_at (laden t (cs ++ c ∷ [])).rows q ≡ (if same_key q c.key then Some c.row.shared.value.attrs else row_at (laden t cs).rows q)
-row_pushed t cs c q = ap (λ (r : Rows). row_at r.rows q) (laden_push t cs c)
+    → row_at (with_waiting t (cs ++ c ∷ [])).rows q ≡ (if same_key q c.key then Some c.row.shared.value.attrs else row_at (with_waiting t cs).rows q)
+row_pushed t cs c q = ap (λ (r : Rows). row_at r.rows q) (with_waiting_push t cs c)
 
-pub stale_pushed : (t : Rows) (cs : List Change) (c : Change) (q : Key) → among (laden t (cs ++ c ∷ [])).stale q ≡ (if same_key q c.key then false else among (laden t cs).stale q)
-stale_pushed t cs c q = ap (λ (r : Rows). among r.stale q) (laden_push t cs c) ∙ among_others c.key q (laden t cs).stale
+pub stale_pushed : (t : Rows) (cs : List Change) (c : Change) (q : Key) → among (with_waiting t (cs ++ c ∷ [])).stale q ≡ (if same_key q c.key then false else among (with_waiting t cs).stale q)
+stale_pushed t cs c q = ap (λ (r : Rows). among r.stale q) (with_waiting_push t cs c) ∙ among_others c.key q (with_waiting t cs).stale
 
 -- ---- tables that are alike at a key
 
-pub rows_alike : (cs : List Change) (s t : Rows) (q : Key) → row_at s.rows q ≡ row_at t.rows q → row_at (laden s cs).rows q ≡ row_at (laden t cs).rows q
+pub rows_alike : (cs : List Change) (s t : Rows) (q : Key) → row_at s.rows q ≡ row_at t.rows q → row_at (with_waiting s cs).rows q ≡ row_at (with_waiting t cs).rows q
 rows_alike [] s t q h = h
 rows_alike (c ∷ cs) s t q h = rows_alike cs (with_change c s) (with_change c t) q (ap (λ (o : Option Attributes). cond (same_key q c.key) (Some c.row.shared.value.attrs) o) h)
 
-pub stale_alike : (cs : List Change) (s t : Rows) (q : Key) → among s.stale q ≡ among t.stale q → among (laden s cs).stale q ≡ among (laden t cs).stale q
+pub stale_alike : (cs : List Change) (s t : Rows) (q : Key) → among s.stale q ≡ among t.stale q → among (with_waiting s cs).stale q ≡ among (with_waiting t cs).stale q
 stale_alike [] s t q h = h
 stale_alike (c ∷ cs) s t q h =
     stale_alike cs (with_change c s) (with_change c t) q
@@ -63,31 +63,31 @@ stale_alike (c ∷ cs) s t q h =
 
 -- ---- only the announcements of a key matter to it
 
-row_step : (q : Key) (b : Bool) (c : Change) (t : Rows) (cs rest : List Change) → same_key q c.key ≡ b → ((s : Rows) → row_at (laden s cs).rows q ≡ row_at (laden s rest).rows q)
-    → row_at (laden (with_change c t) cs).rows q ≡ row_at (laden t (cond b (c ∷ rest) rest)).rows q
+row_step : (q : Key) (b : Bool) (c : Change) (t : Rows) (cs rest : List Change) → same_key q c.key ≡ b → ((s : Rows) → row_at (with_waiting s cs).rows q ≡ row_at (with_waiting s rest).rows q)
+    → row_at (with_waiting (with_change c t) cs).rows q ≡ row_at (with_waiting t (cond b (c ∷ rest) rest)).rows q
 row_step q true c t cs rest is ih = ih (with_change c t)
 row_step q false c t cs rest is ih =
     ih (with_change c t) ∙ rows_alike rest (with_change c t) t q (ap (λ (b : Bool). cond b (Some c.row.shared.value.attrs) (row_at t.rows q)) is)
 
-row_by_key : (q : Key) (cs : List Change) (t : Rows) → row_at (laden t cs).rows q ≡ row_at (laden t (of_key q cs)).rows q
+row_by_key : (q : Key) (cs : List Change) (t : Rows) → row_at (with_waiting t cs).rows q ≡ row_at (with_waiting t (of_key q cs)).rows q
 row_by_key q [] t = refl
 row_by_key q (c ∷ cs) t = row_step q (same_key q c.key) c t cs (of_key q cs) refl (λ s. row_by_key q cs s)
 
-stale_step : (q : Key) (b : Bool) (c : Change) (t : Rows) (cs rest : List Change) → same_key q c.key ≡ b → ((s : Rows) → among (laden s cs).stale q ≡ among (laden s rest).stale q)
-    → among (laden (with_change c t) cs).stale q ≡ among (laden t (cond b (c ∷ rest) rest)).stale q
+stale_step : (q : Key) (b : Bool) (c : Change) (t : Rows) (cs rest : List Change) → same_key q c.key ≡ b → ((s : Rows) → among (with_waiting s cs).stale q ≡ among (with_waiting s rest).stale q)
+    → among (with_waiting (with_change c t) cs).stale q ≡ among (with_waiting t (cond b (c ∷ rest) rest)).stale q
 stale_step q true c t cs rest is ih = ih (with_change c t)
 stale_step q false c t cs rest is ih =
     ih (with_change c t) ∙ stale_alike rest (with_change c t) t q (among_others c.key q t.stale ∙ ap (λ (b : Bool). if b then false else among t.stale q) is)
 
-stale_by_key : (q : Key) (cs : List Change) (t : Rows) → among (laden t cs).stale q ≡ among (laden t (of_key q cs)).stale q
+stale_by_key : (q : Key) (cs : List Change) (t : Rows) → among (with_waiting t cs).stale q ≡ among (with_waiting t (of_key q cs)).stale q
 stale_by_key q [] t = refl
 stale_by_key q (c ∷ cs) t = stale_step q (same_key q c.key) c t cs (of_key q cs) refl (λ s. stale_by_key q cs s)
 
-pub row_in_order : (q : Key) (cs ds : List Change) (t : Rows) → of_key q ds ≡ of_key q cs → row_at (laden t ds).rows q ≡ row_at (laden t cs).rows q
-row_in_order q cs ds t same = row_by_key q ds t ∙ ap (λ (l : List Change). row_at (laden t l).rows q) same ∙ sym (row_by_key q cs t)
+pub row_in_order : (q : Key) (cs ds : List Change) (t : Rows) → of_key q ds ≡ of_key q cs → row_at (with_waiting t ds).rows q ≡ row_at (with_waiting t cs).rows q
+row_in_order q cs ds t same = row_by_key q ds t ∙ ap (λ (l : List Change). row_at (with_waiting t l).rows q) same ∙ sym (row_by_key q cs t)
 
-pub stale_in_order : (q : Key) (cs ds : List Change) (t : Rows) → of_key q ds ≡ of_key q cs → among (laden t ds).stale q ≡ among (laden t cs).stale q
-stale_in_order q cs ds t same = stale_by_key q ds t ∙ ap (λ (l : List Change). among (laden t l).stale q) same ∙ sym (stale_by_key q cs t)
+pub stale_in_order : (q : Key) (cs ds : List Change) (t : Rows) → of_key q ds ≡ of_key q cs → among (with_waiting t ds).stale q ≡ among (with_waiting t cs).stale q
+stale_in_order q cs ds t same = stale_by_key q ds t ∙ ap (λ (l : List Change). among (with_waiting t l).stale q) same ∙ sym (stale_by_key q cs t)
 
 -- ---- a sort that keeps the order of what ties
 

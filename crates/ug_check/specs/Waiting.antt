@@ -13,9 +13,9 @@ abbrev pub with_change : Change → Rows → Rows
 with_change c t = record { rows = (c.key, c.row.shared.value.attrs) ∷ t.rows; stale = filter (λ k. not (same_key k c.key)) t.stale; refreshes = t.refreshes }
 
 -- the table once it has these announcements, the first of them first
-abbrev pub laden : Rows → List Change → Rows
-laden t [] = t
-laden t (c ∷ cs) = laden (with_change c t) cs
+abbrev pub with_waiting : Rows → List Change → Rows
+with_waiting t [] = t
+with_waiting t (c ∷ cs) = with_waiting (with_change c t) cs
 
 -- of IPv4, and announced when so many refreshes had begun
 abbrev pub IsWaiting : ℕ → Change → Type 0
