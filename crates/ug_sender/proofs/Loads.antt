@@ -1,20 +1,16 @@
 -- What a laden lane has taken: turn after turn, until it is sent.
-use Rattle.std.proofs.Common.{◌≡◌, ℕ, ◌+◌, ◌<◌, ◌≤◌, Bool, List, [], ◌∷◌, ◌++◌, length, take, drop, Option, None, refl, sym, ◌∙◌, ap, subst, arith, inl, inr, append_assoc, length-append, length-drop}
+use Rattle.std.proofs.Common.{◌≡◌, ℕ, ◌+◌, ◌<◌, ◌≤◌, List, [], ◌∷◌, ◌++◌, length, take, drop, Option, None, refl, sym, ◌∙◌, ap, subst, arith, inl, inr, append_assoc, length-append, length-drop}
 use Rattle.std.specs.Prelude.{◌⊎◌, IsSome}
 use Rattle.std.proofs.Math.Seq.{take-append_seam}
 use Rattle.std.proofs.lemmas.List.{append-nil, length-take-le, take-append-drop}
-use Rattle.ug_edge.specs.Told.{SendsPiece}
 use Rattle.ug_board.specs.Deeds.{Deed, Hands, begins}
 use Rattle.ug_sender.specs.declared.turn.Ending.{Ending}
 use Rattle.ug_sender.specs.declared.turn.Ending.TheVariants.{Begun, Idle, Stop, More}
 use Rattle.ug_sender.specs.declared.turn.Taken.{Taken}
 use Rattle.ug_sender.specs.declared.sending.Went.{Went}
-use Rattle.ug_sender.specs.Courses.{Course, KeepsWire}
 use Rattle.ug_sender.specs.Loads.{TellsLoad, TellsSend}
 use Rattle.ug_sender.specs.Rounds.{Packet, IsBelow, TellsTurn, begun_by, bytes_in, bytes_of, ending_deeds, hands, TellsWent}
 use Rattle.ug_sender.proofs.Outcomes.{Losses, length-hands, loses, map-both, went-losses}
-use Rattle.ug_sender.proofs.Pieces.{sends-nothing}
-use Rattle.ug_sender.proofs.Rounds.{Keeps, keeps, packets-kept}
 use Rattle.ug_sender.proofs.Taking.{begins-hands, take-past}
 
 -- a lane with nothing in its buffer
@@ -73,16 +69,6 @@ module _ (latest : Option ℕ) (taken : Taken) (buf : List ℕ) (old new : List 
       let grown = turn-length in
       let back : length new ≡ length old = ap length same in
       omega (arith, one-ending taken.ending some)
-
-  -- Where no byte is to be sent and no session to be begun, the wire holds what was handed out.
-  pub nothing-kept :
-      (cs : List Course) (told : Option (List (List ℕ))) (begun faults : ℕ) (unnoted : Bool)
-      → KeepsWire cs old told begun faults latest unnoted → taken.filled ≡ 0 → begun_by taken.ending ≡ None
-      → Keeps new told begun faults latest unnoted
-  nothing-kept cs told begun faults unnoted kept unfilled none =
-      subst (λ d. Keeps d told begun faults latest unnoted) (sym (turn-hands none))
-      (packets-kept turn.packets latest old told told begun faults unnoted (keeps cs old told begun faults latest unnoted kept)
-      (subst (λ m. SendsPiece told told m) turn.bytes (sends-nothing told taken.filled buf unfilled)))
 
 -- what fills a buffer, where more was written behind it
 both-bytes :

@@ -4,7 +4,7 @@ ghost use Rattle.std.specs.Prelude.{◌≡◌, ◌+◌, ◌<◌, ◌≤◌, ◌�
 ghost use Rattle.ug_board.specs.Rules.{buffer_size};
 ghost use Rattle.ug_turnstile.specs.Passes.{IsSamePass, StartsWith};
 ghost use Rattle.ug_sender.specs.declared.turn.Ending.TheVariants.{Idle, Stop, More};
-ghost use Rattle.ug_sender.specs.Lanes.{IdlesAt, IsAtRest, IsOfPeer, IsOver, IsSamePost, KeepsLane, pass_deeds};
+ghost use Rattle.ug_sender.specs.Lanes.{IdlesAt, IsAtRest, IsOfPeer, IsOver, IsSamePost, pass_deeds};
 ghost use Rattle.ug_sender.specs.Loads.{TellsLoad, TellsSend};
 ghost use Rattle.ug_sender.specs.Rounds.{TellsTurn, begun_by};
 
@@ -82,13 +82,6 @@ impl<W: Wire, M: Machine> Laden<W, M> {
             filled: 0,
             ending: Ending::Idle,
         }
-    }
-
-    /// Whether nothing is to be sent and no session to be begun: the wire holds what the pass was handed.
-    pub fn is_empty(&self) -> bool
-        ensures { result ≡ true → KeepsLane M.rules self.now.pass self.now.peer (W.sessions self.now.wire) (W.begun self.now.wire) (W.faults self.now.wire) self.now.latest self.now.unnoted }
-    {
-        self.filled == 0 && !self.ending.is_begun()
     }
 
     /// Takes in one turn what there is for the peer, behind what stands in the buffer already. Nothing is sent. Where a
