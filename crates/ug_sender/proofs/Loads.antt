@@ -3,12 +3,14 @@ use Rattle.std.proofs.Common.{◌≡◌, ℕ, ◌+◌, ◌<◌, ◌≤◌, List,
 use Rattle.std.specs.Prelude.{◌⊎◌, IsSome}
 use Rattle.std.proofs.Math.Seq.{take-append_seam}
 use Rattle.std.proofs.lemmas.List.{append-nil, length-take-le, take-append-drop}
+use Rattle.ug_board.specs.Rules.{Rules}
 use Rattle.ug_board.specs.Deeds.{Deed, Hands, begins}
 use Rattle.ug_sender.specs.declared.turn.Ending.{Ending}
 use Rattle.ug_sender.specs.declared.turn.Ending.TheVariants.{Begun, Idle, Stop, More}
 use Rattle.ug_sender.specs.declared.turn.Taken.{Taken}
 use Rattle.ug_sender.specs.declared.sending.Went.{Went}
-use Rattle.ug_sender.specs.Loads.{TellsLoad, TellsSend}
+use Rattle.ug_sender.specs.Lanes.{pass_deeds}
+use Rattle.ug_sender.specs.Loads.{LadenView, TellsLoad, TellsSend, waiting_after}
 use Rattle.ug_sender.specs.Rounds.{Packet, IsBelow, TellsTurn, begun_by, bytes_in, bytes_of, ending_deeds, hands, TellsWent}
 use Rattle.ug_sender.proofs.Outcomes.{Losses, length-hands, loses, map-both, went-losses}
 use Rattle.ug_sender.proofs.Taking.{begins-hands, take-past}
@@ -19,10 +21,6 @@ pub nothing-loaded :
     → TellsTurn latest (record { packets = 0; filled = 0; ending = Idle }) buf ds ds
 nothing-loaded latest buf ds =
     record { packets = []; count = refl; filled = omega arith; bytes = refl; grown = sym (append-nil ds); further = tt }
-
--- a load by which nothing came
-pub nothing-told : (ds : List (Deed (List ℕ))) → TellsLoad ds ds
-nothing-told ds = ([], Idle, sym (append-nil ds))
 
 no-ending : (ending : Ending) → begun_by ending ≡ None → ending_deeds ending ≡ []
 no-ending (Begun n) none = cc
@@ -35,6 +33,12 @@ one-ending (Begun n) some = refl
 one-ending Idle some = cc
 one-ending Stop some = cc
 one-ending More some = cc
+
+begun-waits : (waiting : Option ℕ) (ending : Ending) → waiting ≡ None → begun_by ending ≡ waiting_after waiting ending
+begun-waits waiting (Begun n) none = refl
+begun-waits waiting Idle none = sym none
+begun-waits waiting Stop none = sym none
+begun-waits waiting More none = sym none
 
 hands-both : (a b : List Packet) → hands (a ++ b) ≡ hands a ++ hands b
 hands-both [] b = refl
@@ -53,6 +57,9 @@ module _ (latest : Option ℕ) (taken : Taken) (buf : List ℕ) (old new : List 
       turn.grown
       ∙ ap (λ d. old ++ d) (ap (λ d. hands turn.packets ++ d) (no-ending taken.ending none) ∙ append-nil (hands turn.packets))
 
+  turn-bytes : length (bytes_in latest turn.packets) ≡ taken.filled
+  turn-bytes = sym (ap length turn.bytes) ∙ length-take-le taken.filled buf turn.filled
+
   turn-length : length new ≡ length old + (length (hands turn.packets) + length (ending_deeds taken.ending))
   turn-length =
       ap length turn.grown
@@ -69,6 +76,29 @@ module _ (latest : Option ℕ) (taken : Taken) (buf : List ℕ) (old new : List 
       let grown = turn-length in
       let back : length new ≡ length old = ap length same in
       omega (arith, one-ending taken.ending some)
+
+module _ {W Opening State Job Said : Type 0} (rules : Rules Opening State Job Said) where
+  -- a load that took nothing
+  pub nothing-told : (laden : LadenView W Opening Job Said) → TellsLoad rules laden laden
+  nothing-told laden =
+      record { packets = []; ending = Idle; grown = sym (append-nil (pass_deeds rules laden.lane.pass)); filled = omega arith; waiting = refl }
+
+  -- a load that took a turn
+  pub load-told :
+      (was old new : LadenView W Opening Job Said) (taken : Taken) (buf : List ℕ)
+      → was ≡ old → TellsTurn was.lane.latest taken buf (pass_deeds rules was.lane.pass) (pass_deeds rules new.lane.pass)
+      → was.waiting ≡ None → new.filled ≡ was.filled + taken.filled → new.waiting ≡ begun_by taken.ending
+      → TellsLoad rules old new
+  load-told was old new taken buf same turn none filled waiting =
+      subst (λ l. TellsLoad rules l new) same (
+      record {
+        packets = turn.packets;
+        ending = taken.ending;
+        grown = turn.grown;
+        filled = filled ∙ ap (λ n. was.filled + n) (sym (turn-bytes was.lane.latest taken buf _ _ turn));
+        waiting = waiting ∙ begun-waits was.waiting taken.ending none;
+      }
+      )
 
 -- what fills a buffer, where more was written behind it
 both-bytes :

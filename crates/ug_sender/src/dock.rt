@@ -35,21 +35,21 @@ impl<O> Roster<O> for Brand {
 /// A lane of a crew, and its place there.
 #[derive(Drop)]
 struct Moored<N: Roster<M::Opening>, W: Wire, M: Machine> {
-    lane: Laden<W, M>,
+    laden: Laden<W, M>,
     place: usize,
     roster: PhantomData<N>,
-    ghost here: { lane.pass.turnstile ≡ N.turnstile },
-    ghost post: { post_of lane ≡ N.post place },
+    ghost here: { laden.lane.pass.turnstile ≡ N.turnstile },
+    ghost post: { post_of laden.lane ≡ N.post place },
 }
 
 impl<N: Roster<M::Opening>, W: Wire, M: Machine> Moored<N, W, M> {
     /// The lane at that place.
-    fn of(lane: Laden<W, M>, place: usize) -> Self
-        requires here { lane.pass.turnstile ≡ N.turnstile }
-        requires post { post_of lane ≡ N.post place }
+    fn of(laden: Laden<W, M>, place: usize) -> Self
+        requires here { laden.lane.pass.turnstile ≡ N.turnstile }
+        requires post { post_of laden.lane ≡ N.post place }
     {
         Moored {
-            lane,
+            laden,
             place,
             roster: PhantomData,
         }
@@ -59,7 +59,7 @@ impl<N: Roster<M::Opening>, W: Wire, M: Machine> Moored<N, W, M> {
     fn load<R: Wait>(&mut self, rt: &R, turnstile: &Turnstile<Board<M>>) -> Load
         requires here { N.turnstile ≡ turnstile.now.id }
     {
-        self.lane.load(rt, turnstile)
+        self.laden.load(rt, turnstile)
     }
 
     /// The lane, once all that was taken for it is sent, and its place.
@@ -68,8 +68,8 @@ impl<N: Roster<M::Opening>, W: Wire, M: Machine> Moored<N, W, M> {
         ensures here { result.0.pass.turnstile ≡ N.turnstile }
         ensures post { post_of result.0 ≡ N.post result.1 }
     {
-        let Moored { lane, place, .. } = self;
-        (lane.send(rt, turnstile), place)
+        let Moored { laden, place, .. } = self;
+        (laden.send(rt, turnstile), place)
     }
 
     /// Sends what was taken for the lane, and what there is for it beyond that, and answers whether there is nothing more to send.

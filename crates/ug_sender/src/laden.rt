@@ -5,7 +5,7 @@ ghost use Rattle.ug_board.specs.Rules.{buffer_size};
 ghost use Rattle.ug_turnstile.specs.Passes.{IsSamePass, StartsWith};
 ghost use Rattle.ug_sender.specs.declared.turn.Ending.TheVariants.{Idle, Stop, More};
 ghost use Rattle.ug_sender.specs.Lanes.{IdlesAt, IsAtRest, IsOfPeer, IsOver, IsSamePost, pass_deeds};
-ghost use Rattle.ug_sender.specs.Loads.{TellsLoad, TellsSend};
+ghost use Rattle.ug_sender.specs.Loads.{MayLoad, TellsLoad, TellsSend, half_of_buffer, unladen};
 ghost use Rattle.ug_sender.specs.Rounds.{TellsTurn, begun_by};
 
 use crate::lane::{Lane, open_after, with_calls};
@@ -22,7 +22,8 @@ use ug_types::PeerId;
 const HALF_OF_BUFFER: usize = 65536;
 
 /// A lane that took packets which its wire has not got yet: they stand at the front of its buffer, and behind them the
-/// session that began, if one did. Contracts see what they see of a lane.
+/// session that began, if one did. Contracts see what they see of a lane, how many bytes fill its buffer, and the session that
+/// is to be begun.
 #[derive(Drop)]
 pub struct Laden<W: Wire, M: Machine> {
     wire: W,
@@ -49,12 +50,12 @@ pub struct Load {
 impl<W: Wire, M: Machine> Model for Laden<W, M> {
     ghost use Rattle.std.specs.Prelude.{◌≡◌};
     ghost use Rattle.std.specs.Vec.{vec_items, vec_len};
-    ghost use Rattle.ug_sender.specs.Lanes.{LaneView};
-    ghost use Rattle.ug_sender.specs.Loads.{KeepsLoad};
+    ghost use Rattle.ug_sender.specs.Loads.{KeepsLoad, LadenView};
+    ghost use Rattle.ug_sender.specs.Rounds.{begun_by};
 
-    ghost Value = { LaneView W M.Opening M.Job M.Said };
+    ghost Value = { LadenView W M.Opening M.Job M.Said };
 
-    ghost view = { λ l. record { wire = l.wire; made_for = W.made_for l.wire; pass = l.pass; peer = l.peer; latest = l.latest; unnoted = l.unnoted } };
+    ghost view = { λ l. record { lane = record { wire = l.wire; made_for = W.made_for l.wire; pass = l.pass; peer = l.peer; latest = l.latest; unnoted = l.unnoted }; filled = l.filled; waiting = begun_by l.ending } };
 
     ghost invariant = { λ l. KeepsLoad M.rules l.pass l.peer (W.sessions l.wire) (W.begun l.wire) (W.faults l.wire) l.latest l.unnoted (vec_items l.buf) l.filled l.ending × (vec_len l.buf ≡ 131072) };
 }
@@ -62,7 +63,7 @@ impl<W: Wire, M: Machine> Model for Laden<W, M> {
 impl<W: Wire, M: Machine> Laden<W, M> {
     /// A lane with nothing in its buffer.
     pub fn of(lane: Lane<W, M>) -> Self
-        ensures { result ≡ lane }
+        ensures { result ≡ unladen lane }
     {
         let Lane {
             wire,
@@ -85,19 +86,22 @@ impl<W: Wire, M: Machine> Laden<W, M> {
     }
 
     /// Takes in one turn what there is for the peer, behind what stands in the buffer already. Nothing is sent. Where a
-    /// session is to be begun first, or where there is no room for a longest message, it takes nothing.
+    /// session is to be begun first, or where there is no room for a longest message, it takes nothing. Else something comes, or
+    /// all that there was is taken.
     pub fn load<R: Wait>(&mut self, rt: &R, turnstile: &Turnstile<Board<M>>) -> Load
-        requires here { self.old.pass.turnstile ≡ turnstile.now.id }
-        ensures same { IsSamePost self.old self.new }
-        ensures seen { StartsWith self.new.pass.seen self.old.pass.seen }
-        ensures wire { self.new.wire ≡ self.old.wire }
-        ensures latest { self.new.latest ≡ self.old.latest }
-        ensures unnoted { self.new.unnoted ≡ self.old.unnoted }
-        ensures told { TellsLoad (pass_deeds M.rules self.old.pass) (pass_deeds M.rules self.new.pass) }
-        ensures still { result.has_come ≡ false → pass_deeds M.rules self.new.pass ≡ pass_deeds M.rules self.old.pass }
-        ensures come { result.has_come ≡ true → pass_deeds M.rules self.new.pass ≡ pass_deeds M.rules self.old.pass → ⊥ }
-        ensures rests { result.rests ≡ true → IsAtRest M.rules self.new.peer self.new.pass }
-        ensures goes_on { result.is_full ≡ false → result.rests ≡ false → result.has_come ≡ true }
+        requires here { self.old.lane.pass.turnstile ≡ turnstile.now.id }
+        ensures same { IsSamePost self.old.lane self.new.lane }
+        ensures seen { StartsWith self.new.lane.pass.seen self.old.lane.pass.seen }
+        ensures wire { self.new.lane.wire ≡ self.old.lane.wire }
+        ensures latest { self.new.lane.latest ≡ self.old.lane.latest }
+        ensures unnoted { self.new.lane.unnoted ≡ self.old.lane.unnoted }
+        ensures told { TellsLoad M.rules self.old self.new }
+        ensures still { result.has_come ≡ false → pass_deeds M.rules self.new.lane.pass ≡ pass_deeds M.rules self.old.lane.pass }
+        ensures come { result.has_come ≡ true → pass_deeds M.rules self.new.lane.pass ≡ pass_deeds M.rules self.old.lane.pass → ⊥ }
+        ensures rests { result.rests ≡ true → IsAtRest M.rules self.new.lane.peer self.new.lane.pass }
+        ensures goes_on { MayLoad self.old → result.rests ≡ false → result.has_come ≡ true }
+        ensures full { result.is_full ≡ true → IsSome self.new.waiting ⊎ (half_of_buffer ≤ self.new.filled) }
+        ensures unfull { result.is_full ≡ false → (self.new.waiting ≡ None) × (self.new.filled < half_of_buffer) }
     {
         if self.ending.is_begun() || self.buf.len() - self.filled < LONGEST_MESSAGE {
             return Load {
@@ -123,11 +127,11 @@ impl<W: Wire, M: Machine> Laden<W, M> {
     /// Sends what stands in the buffer with one call, and then begins the session behind it, if there is one. Where a call
     /// of the wire fails the loss of its session is asked of the board.
     pub fn send<R: Wait>(self, rt: &R, turnstile: &Turnstile<Board<M>>) -> Lane<W, M>
-        requires here { self.pass.turnstile ≡ turnstile.now.id }
-        ensures same { IsSamePost self result }
-        ensures seen { StartsWith result.pass.seen self.pass.seen }
-        ensures told { TellsSend (pass_deeds M.rules self.pass) (pass_deeds M.rules result.pass) }
-        ensures faults { W.faults self.wire ≤ W.faults result.wire }
+        requires here { self.lane.pass.turnstile ≡ turnstile.now.id }
+        ensures same { IsSamePost self.lane result }
+        ensures seen { StartsWith result.pass.seen self.lane.pass.seen }
+        ensures told { TellsSend (pass_deeds M.rules self.lane.pass) (pass_deeds M.rules result.pass) }
+        ensures faults { W.faults self.lane.wire ≤ W.faults result.wire }
     {
         let Laden {
             mut wire,
@@ -189,7 +193,9 @@ fn load_of(taken: Taken, filled: usize) -> Load
     ensures still { result.has_come ≡ false → (taken.packets ≡ 0) × (begun_by taken.ending ≡ None) }
     ensures come { result.has_come ≡ true → (0 < taken.packets) ⊎ IsSome (begun_by taken.ending) }
     ensures rests { result.rests ≡ true → (taken.ending ≡ Idle) ⊎ (taken.ending ≡ Stop) }
-    ensures goes_on { result.is_full ≡ false → result.rests ≡ false → taken.ending ≡ More }
+    ensures goes_on { result.rests ≡ false → (result.has_come ≡ true) ⊎ (taken.ending ≡ More) }
+    ensures full { result.is_full ≡ true → IsSome (begun_by taken.ending) ⊎ (half_of_buffer ≤ filled) }
+    ensures unfull { result.is_full ≡ false → (begun_by taken.ending ≡ None) × (filled < half_of_buffer) }
 {
     let has_come = taken.packets > 0;
     let is_full = filled >= HALF_OF_BUFFER;

@@ -1,10 +1,10 @@
-use Rattle.std.proofs.Common.{◌≡◌, ◌+◌, length, take, sym, ◌∙◌, ap, arith}
+use Rattle.std.proofs.Common.{◌≡◌, ◌+◌, length, take, refl, sym, ◌∙◌, ap, arith}
 use Rattle.ug_sender.specs.Lanes.{pass_deeds}
-use Rattle.ug_sender.proofs.Loads.{nothing-told, turn-adds, load-joined}
+use Rattle.ug_sender.proofs.Loads.{nothing-told, load-told, turn-adds, load-joined}
 use Rattle.ug_sender.proofs.laden.Laden.load.Goals as goal
 
 pub returns-then-is_begun-clause-told : goal.returns-then-is_begun-clause-told
-returns-then-is_begun-clause-told g c = nothing-told _
+returns-then-is_begun-clause-told g c = nothing-told g.M.Machine.rules _
 
 pub invariant_of-self : goal.invariant_of-self
 invariant_of-self g c =
@@ -26,7 +26,11 @@ invariant_of-self g c =
       c.self.invariant.1,
     )
 
+pub returns-clause-told : goal.returns-clause-told
+returns-clause-told g c =
+    load-told g.M.Machine.rules _ _ _ c.take_behind-taken.result _ c.self.view_is c.take_behind-taken.ensures.told (c.is_begun.ensures.no c.if-is_begun.false) refl refl
+
 pub returns-clause-come : goal.returns-clause-come
 returns-clause-come g c has same =
     turn-adds _ c.take_behind-taken.result _ _ _ c.take_behind-taken.ensures.told (c.load_of.ensures.come has)
-    (same ∙ sym (ap (λ l. pass_deeds g.M.Machine.rules l.pass) c.self.view_is))
+    (same ∙ sym (ap (λ l. pass_deeds g.M.Machine.rules l.lane.pass) c.self.view_is))

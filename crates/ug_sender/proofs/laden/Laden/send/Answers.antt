@@ -41,5 +41,5 @@ invariant_of-result g c =
 
 pub returns-clause-told : goal.returns-clause-told
 returns-clause-told g c =
-    subst (λ d. TellsSend d (pass_deeds g.M.Machine.rules c.begin_taken-begun.new.pass)) (ap (λ l. pass_deeds g.M.Machine.rules l.pass) c.self.view_is)
+    subst (λ d. TellsSend d (pass_deeds g.M.Machine.rules c.begin_taken-begun.new.pass)) (ap (λ l. pass_deeds g.M.Machine.rules l.lane.pass) c.self.view_is)
     (both-losses c.send_taken-sent.result c.begin_taken-begun.result _ _ _ _ _ c.send_taken-sent.ensures.told c.begin_taken-begun.ensures.told)
