@@ -1,5 +1,5 @@
 -- Which losses a lane tells as not noted: those that were passed over.
-use Rattle.std.proofs.Common.{◌≡◌, ℕ, Bool, true, false, List, [], ◌∷◌, ◌++◌, Option, Some, None, refl, sym, ◌∙◌, ap, inl, inr, append_assoc}
+use Rattle.std.proofs.Common.{◌≡◌, ℕ, Bool, true, false, List, [], ◌∷◌, ◌++◌, Option, Some, None, refl, sym, ◌∙◌, ap, subst, inl, inr, append_assoc}
 use Rattle.std.specs.Prelude.{◌||◌, ◌⊎◌}
 use Rattle.std.proofs.lemmas.List.{append-nil}
 use Rattle.ug_board.specs.Entry.{Entry}
@@ -13,6 +13,7 @@ use Rattle.ug_sender.specs.declared.sending.Went.{Went}
 use Rattle.ug_sender.specs.declared.sending.Went.TheVariants.{Well, Ill}
 use Rattle.ug_sender.specs.Courses.{is_unnoted, fate_of}
 use Rattle.ug_sender.specs.Lanes.{BeginsAmong, IsPassedOver, MissesLoss, pass_deeds}
+use Rattle.ug_sender.specs.Loads.{LadenView, MissesLossOf}
 use Rattle.ug_sender.specs.Rounds.{hands, begun_by, ending_deeds, fate_after, PassesOver, TellsTurn, TellsWent}
 use Rattle.ug_sender.specs.Tellings.{TellsLoss}
 use Rattle.ug_sender.proofs.Turns.{starts_with_more}
@@ -23,6 +24,11 @@ starts-same {E} entries = ([], sym (append-nil entries))
 
 same-pass : {E R : Type 0} (a b c : Held E R) → IsSamePass a b → IsSamePass b c → IsSamePass a c
 same-pass {E} {R} a b c ab bc = (bc.0 ∙ ab.0, bc.1 ∙ ab.1, bc.2 ∙ ab.2)
+
+one-of-three : (a b c : Bool) → ((a || b) || c) ≡ true → (a ≡ true) ⊎ ((b ≡ true) ⊎ (c ≡ true))
+one-of-three true b c is = inl refl
+one-of-three false true c is = inr (inl refl)
+one-of-three false false c is = inr (inr is)
 
 loss-none : (noted : Bool) (session : ℕ) (old new : List (Deed (List ℕ))) → noted ≡ false → TellsLoss noted session old new → new ≡ old
 loss-none true session old new none told = cc
@@ -138,3 +144,34 @@ module _ {Opening State Job Said : Type 0} (rules : Rules Opening State Job Said
       (ended-missed begun taken.ending (u || is_unnoted (fate_after sent)) u' peer latest (hands turn.packets) (pass_deeds rules p1) p0 p3 is turn.grown starts
       (same-pass p0 p2 p3 same same3) (starts_with_more p0.seen p2.seen p3.seen seen seen3) passed2 has)
       (λ some. taken-missed sent u (u || is_unnoted (fate_after sent)) peer latest p0 p2 p3 refl same seen seen3 passed1 some)
+
+  -- a call whose session's loss was not noted
+  passed-one :
+      (went : Went) (peer : ℕ) (session : Option ℕ) (pass : Held (Entry Job Said) Opening)
+      → is_unnoted (fate_after went) ≡ true → PassesOver rules went peer session pass
+      → (n : ℕ) × (session ≡ Some n) × IsPassedOver rules peer n pass
+  passed-one Well peer session pass is passed = cc
+  passed-one (Ill true) peer session pass is passed = cc
+  passed-one (Ill false) peer None pass is passed = absurd passed
+  passed-one (Ill false) peer (Some n) pass is passed = (n, refl, passed)
+
+  -- the two calls that send a load
+  pub load-missed :
+      {W : Type 0} (was laden : LadenView W Opening Job Said) (sent begun : Went) (u' : Bool) (p1 p2 : Held (Entry Job Said) Opening)
+      → was ≡ laden → u' ≡ ((was.lane.unnoted || is_unnoted (fate_after sent)) || is_unnoted (fate_after begun))
+      → IsSamePass was.lane.pass p1 → IsSamePass p1 p2 → StartsWith p1.seen was.lane.pass.seen → StartsWith p2.seen p1.seen
+      → PassesOver rules sent was.lane.peer was.lane.latest p1 → PassesOver rules begun was.lane.peer was.waiting p2
+      → u' ≡ true → (laden.lane.unnoted ≡ true) ⊎ MissesLossOf rules laden p2
+  load-missed {W} was laden sent begun u' p1 p2 same is same1 same2 seen1 seen2 passed1 passed2 has =
+      let peer = was.lane.peer in
+      let p0 = was.lane.pass in
+      subst (λ l. (l.lane.unnoted ≡ true) ⊎ MissesLossOf rules l p2) same
+      (elim (one-of-three was.lane.unnoted (is_unnoted (fate_after sent)) (is_unnoted (fate_after begun)) (sym is ∙ has)) [
+        | inl before ↦ inl before
+        | inr (inl first) ↦
+            let one = passed-one sent peer was.lane.latest p1 first passed1 in
+            inr (one.0, inl one.1, (p1, same1, seen1, seen2, one.2))
+        | inr (inr second) ↦
+            let one = passed-one begun peer was.waiting p2 second passed2 in
+            inr (one.0, inr one.1, (p2, same-pass p0 p1 p2 same1 same2, starts_with_more p0.seen p1.seen p2.seen seen1 seen2, starts-same p2.seen, one.2))
+      ])

@@ -93,6 +93,15 @@ round-unharmed ending Well Well f0 f1 f2 first second other = second ∙ first
 round-unharmed ending Well (Ill noted) f0 f1 f2 first second other = absurd (other refl)
 round-unharmed ending (Ill noted) begun f0 f1 f2 first second other = absurd (other refl)
 
+-- Whether a loss was not taken changes only where a call failed.
+pub unnoted-rose :
+    (sent begun : Went) (u u' : Bool) (f0 f1 f2 : ℕ) → u' ≡ ((u || is_unnoted (fate_after sent)) || is_unnoted (fate_after begun))
+    → CountsFault sent f0 f1 → CountsFault begun f1 f2 → (u' ≡ u) ⊎ Rose f0 f2
+unnoted-rose Well Well u u' f0 f1 f2 is first second = inl (is ∙ (or-false (u || false) ∙ or-false u))
+unnoted-rose Well (Ill noted) u u' f0 f1 f2 is first second = inr (subst (λ f. Rose f f2) first second.0)
+unnoted-rose (Ill noted) Well u u' f0 f1 f2 is first second = inr (subst (λ f. Rose f0 f) (sym second) first.0)
+unnoted-rose (Ill noted) (Ill other) u u' f0 f1 f2 is first second = inr (rose-then f0 f1 f2 first.0 second.1)
+
 counts-up : (went : Went) (f f' : ℕ) → CountsFault went f f' → f ≤ f'
 counts-up Well f f' count = omega arith
 counts-up (Ill noted) f f' count = count.1

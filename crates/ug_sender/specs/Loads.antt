@@ -1,5 +1,5 @@
 -- A lane that took packets which its wire has not got yet: how contracts see it, what it keeps, and what it takes.
-use Rattle.std.specs.Prelude.{◌≡◌, ℕ, ◌+◌, ◌≤◌, Bool, false, List, ◌++◌, length, Option, Some, None, map}
+use Rattle.std.specs.Prelude.{◌≡◌, ℕ, ◌+◌, ◌≤◌, ◌⊎◌, Bool, false, List, ◌++◌, length, Option, Some, None, map}
 use Rattle.ug_board.specs.Entry.{Entry}
 use Rattle.ug_board.specs.Rules.{Rules, buffer_size}
 use Rattle.ug_board.specs.Deeds.{Deed, Loses}
@@ -7,7 +7,7 @@ use Rattle.ug_turnstile.specs.Passes.{Held}
 use Rattle.ug_sender.specs.declared.turn.Ending.{Ending}
 use Rattle.ug_sender.specs.declared.turn.Ending.TheVariants.{Begun, Idle, Stop, More}
 use Rattle.ug_sender.specs.Courses.{Course, KeepsWire}
-use Rattle.ug_sender.specs.Lanes.{LaneView, IsOfPeer, pass_deeds}
+use Rattle.ug_sender.specs.Lanes.{LaneView, IsOfPeer, WasPassedOver, pass_deeds}
 use Rattle.ug_sender.specs.Rounds.{Packet, TellsTurn, bytes_in, ending_deeds, hands}
 
 -- A laden lane: what contracts see of the lane, how many bytes of what it took fill its buffer, and the session that is to be
@@ -52,6 +52,12 @@ module _ {Opening State Job Said : Type 0} (rules : Rules Opening State Job Said
     pub grown : pass_deeds rules new.lane.pass ≡ pass_deeds rules old.lane.pass ++ (hands packets ++ ending_deeds ending)
     pub filled : new.filled ≡ old.filled + length (bytes_in old.lane.latest packets)
     pub waiting : new.waiting ≡ waiting_after old.waiting ending
+
+  -- Between a moment of a pass and a later one a loss of a load was passed over: of the session that was open, or of the one
+  -- that was to be begun.
+  abbrev pub MissesLossOf : {W : Type 0} → LadenView W Opening Job Said → Held (Entry Job Said) Opening → Type 0
+  MissesLossOf laden pass =
+      (session : ℕ) × ((laden.lane.latest ≡ Some session) ⊎ (laden.waiting ≡ Some session)) × WasPassedOver rules laden.lane.peer session laden.lane.pass pass
 
   -- What a laden lane keeps: the entries of its pass are its own steps; its wire holds what the pass was handed before; and
   -- what the pass was handed since is its load: packets, of which what the open session gets stands at the front of the

@@ -1,11 +1,12 @@
 //! A lane that took packets which its wire has not got yet.
 
 ghost use Rattle.std.specs.Prelude.{◌≡◌, ◌+◌, ◌<◌, ◌≤◌, ◌⊎◌, length, take, drop, true, false, None, IsSome};
+ghost use Rattle.ug_edge.specs.Told.{Rose};
 ghost use Rattle.ug_board.specs.Rules.{buffer_size};
 ghost use Rattle.ug_turnstile.specs.Passes.{IsSamePass, StartsWith};
 ghost use Rattle.ug_sender.specs.declared.turn.Ending.TheVariants.{Idle, Stop, More};
 ghost use Rattle.ug_sender.specs.Lanes.{IdlesAt, IsAtRest, IsOfPeer, IsOver, IsSamePost, pass_deeds};
-ghost use Rattle.ug_sender.specs.Loads.{MayLoad, TellsLoad, TellsSend, half_of_buffer, unladen};
+ghost use Rattle.ug_sender.specs.Loads.{MayLoad, MissesLossOf, TellsLoad, TellsSend, half_of_buffer, unladen};
 ghost use Rattle.ug_sender.specs.Rounds.{TellsTurn, begun_by};
 
 use crate::lane::{Lane, open_after, with_calls};
@@ -132,6 +133,9 @@ impl<W: Wire, M: Machine> Laden<W, M> {
         ensures seen { StartsWith result.pass.seen self.lane.pass.seen }
         ensures told { TellsSend (pass_deeds M.rules self.lane.pass) (pass_deeds M.rules result.pass) }
         ensures faults { W.faults self.lane.wire ≤ W.faults result.wire }
+        ensures unnoted { result.unnoted ≡ true → (self.lane.unnoted ≡ true) ⊎ MissesLossOf M.rules self result.pass }
+        ensures unnoted_before { self.lane.unnoted ≡ true → result.unnoted ≡ true }
+        ensures harmed { (result.unnoted ≡ self.lane.unnoted) ⊎ Rose (W.faults self.lane.wire) (W.faults result.wire) }
     {
         let Laden {
             mut wire,

@@ -1,4 +1,6 @@
-use Rattle.std.proofs.Common.{sym, ◌∙◌, ap, subst}
+use Rattle.std.proofs.Common.{◌≡◌, sym, ◌∙◌, ap, subst}
+use Rattle.std.specs.Prelude.{◌⊎◌}
+use Rattle.ug_edge.specs.Told.{Rose}
 use Rattle.ug_sender.specs.declared.turn.Taken.{Taken}
 use Rattle.ug_sender.specs.Lanes.{pass_deeds}
 use Rattle.ug_sender.specs.Loads.{TellsSend}
@@ -6,7 +8,8 @@ use Rattle.ug_sender.specs.Rounds.{TellsTurn}
 use Rattle.ug_sender.proofs.Loads.{both-losses}
 use Rattle.ug_sender.proofs.Wires.{begun-counted}
 use Rattle.ug_sender.proofs.Rounds.{round-kept, courses_of, kept_of}
-use Rattle.ug_sender.proofs.Outcomes.{filled-none, below-as}
+use Rattle.ug_sender.proofs.Outcomes.{filled-none, below-as, unnoted-rose}
+use Rattle.ug_sender.proofs.Missing.{load-missed}
 use Rattle.ug_sender.proofs.laden.Laden.send.Goals as goal
 
 pub send_taken-sent-requires-clause-latest : goal.send_taken-sent-requires-clause-latest
@@ -43,3 +46,15 @@ pub returns-clause-told : goal.returns-clause-told
 returns-clause-told g c =
     subst (λ d. TellsSend d (pass_deeds g.M.Machine.rules c.begin_taken-begun.new.pass)) (ap (λ l. pass_deeds g.M.Machine.rules l.lane.pass) c.self.view_is)
     (both-losses c.send_taken-sent.result c.begin_taken-begun.result _ _ _ _ _ c.send_taken-sent.ensures.told c.begin_taken-begun.ensures.told)
+
+pub returns-clause-unnoted : goal.returns-clause-unnoted
+returns-clause-unnoted g c has =
+    load-missed g.M.Machine.rules _ _ c.send_taken-sent.result c.begin_taken-begun.result _ c.send_taken-sent.new.pass c.begin_taken-begun.new.pass
+    c.self.view_is c.with_calls.ensures c.send_taken-sent.ensures.same c.begin_taken-begun.ensures.same
+    c.send_taken-sent.ensures.seen c.begin_taken-begun.ensures.seen
+    c.send_taken-sent.ensures.passed c.begin_taken-begun.ensures.passed has
+
+pub returns-clause-harmed : goal.returns-clause-harmed
+returns-clause-harmed g c =
+    subst (λ l. (c.with_calls.result ≡ l.lane.unnoted) ⊎ Rose (g.W.Wire.faults l.lane.wire) (g.W.Wire.faults c.begin_taken-begun.new.wire)) c.self.view_is
+    (unnoted-rose c.send_taken-sent.result c.begin_taken-begun.result c.self.inside.unnoted _ _ _ _ c.with_calls.ensures c.send_taken-sent.ensures.faults c.begin_taken-begun.ensures.faults)
