@@ -1,12 +1,12 @@
 -- Posts: where the lanes of a run stand, whatever they have sent.
-use Rattle.std.specs.Prelude.{◌≡◌, ℕ, List, [], ◌∷◌, All, Option, Some, None, map, get_or, slice_get}
+use Rattle.std.specs.Prelude.{◌≡◌, ℕ, Bool, true, false, List, [], ◌∷◌, All, Option, Some, None, IfSome, is_some, map, get_or, slice_get}
 use Rattle.atomic_table.specs.Seated.{TableId}
 use Rattle.ug_edge.specs.Told.{WireName}
 use Rattle.ug_board.specs.Entry.{Entry}
 use Rattle.ug_board.specs.Rules.{Rules}
 use Rattle.ug_board.specs.Deeds.{Deed}
 use Rattle.ug_turnstile.specs.Passes.{Held}
-use Rattle.ug_sender.specs.Lanes.{LaneView, IsSamePost, IsAtRest, pass_deeds}
+use Rattle.ug_sender.specs.Lanes.{LaneView, IsSamePost, IsAtRest, IsOver, pass_deeds}
 
 -- A post: the turnstile and the number of a lane's pass, the root of the history, the peer that the lane sends to, and for
 -- whom its wire was made.
@@ -84,3 +84,20 @@ module _ {Opening State Job Said : Type 0} (rules : Rules Opening State Job Said
   abbrev pub here_deeds : Option (Held (Entry Job Said) Opening) → List (Deed (List ℕ))
   here_deeds None = []
   here_deeds (Some pass) = pass_deeds rules pass
+
+  -- What is told of a crew whose lanes that work here were pumped until there was nothing to send for now, and of whether one
+  -- of them did anything: the posts are as they were, the same lanes work here, each of them rests, and they were handed
+  -- something just where one did.
+  pub record PumpsHere (has_done : Bool) (old new : List (WorkerView Opening Job Said)) : Type 0 where
+    pub posts : posts_of new ≡ posts_of old
+    pub places : map (λ worker. is_some worker.here) new ≡ map (λ worker. is_some worker.here) old
+    pub rest : AllRest new
+    pub still : has_done ≡ false → map (λ worker. here_deeds worker.here) new ≡ map (λ worker. here_deeds worker.here) old
+    pub done : has_done ≡ true → map (λ worker. here_deeds worker.here) new ≡ map (λ worker. here_deeds worker.here) old → ⊥
+
+  -- What is told of a crew whose lanes that work here were pumped until there was nothing more to send: the posts are as they
+  -- were, the same lanes work here, and each of them is at its end.
+  pub record PumpsToEnd (old new : List (WorkerView Opening Job Said)) : Type 0 where
+    pub posts : posts_of new ≡ posts_of old
+    pub places : map (λ worker. is_some worker.here) new ≡ map (λ worker. is_some worker.here) old
+    pub over : All (λ worker. IfSome worker.here (λ pass. IsOver rules worker.post.peer pass)) new

@@ -1,9 +1,8 @@
 //! The workers of a run.
 
-ghost use Rattle.std.specs.Prelude.{◌≡◌, ◌≤◌, [], length, map, true, false, is_some, All, IfSome, IfOk, IfErr};
+ghost use Rattle.std.specs.Prelude.{◌≡◌, ◌≤◌, [], length, map, IfOk, IfErr};
 ghost use Rattle.std.specs.Vec.{vec_len, vec_capacity};
-ghost use Rattle.ug_sender.specs.Lanes.{IsOver};
-ghost use Rattle.ug_sender.specs.Posts.{AreHere, AllRest, IsRosterOf, posts, posts_of, worker_here, here_deeds};
+ghost use Rattle.ug_sender.specs.Posts.{AreHere, IsRosterOf, PumpsHere, PumpsToEnd, posts, posts_of, worker_here};
 
 use crate::dock::{Dock, Docks, Roster};
 use crate::lane::Lane;
@@ -89,11 +88,7 @@ impl<W: Wire, M: Machine> Crew<W, M> {
     /// anything. Lanes in threads are left alone.
     pub fn pump_here<R: Wait>(&mut self, rt: &R, turnstile: &Turnstile<Board<M>>) -> bool
         requires here { AreHere turnstile.now.id (posts_of self.old) }
-        ensures posts { posts_of self.new ≡ posts_of self.old }
-        ensures places { map (λ worker. is_some worker.here) self.new ≡ map (λ worker. is_some worker.here) self.old }
-        ensures rest { AllRest M.rules self.new }
-        ensures still { result ≡ false → map (λ worker. here_deeds M.rules worker.here) self.new ≡ map (λ worker. here_deeds M.rules worker.here) self.old }
-        ensures done { result ≡ true → map (λ worker. here_deeds M.rules worker.here) self.new ≡ map (λ worker. here_deeds M.rules worker.here) self.old → ⊥ }
+        ensures { PumpsHere M.rules result self.old self.new }
     {
         let mut has_done = false;
         for place in 0..self.workers.len() {
@@ -107,9 +102,7 @@ impl<W: Wire, M: Machine> Crew<W, M> {
     /// Pumps each lane that works here, in order, until there is nothing more to send.
     pub fn pump_to_end<R: Wait>(&mut self, rt: &R, turnstile: &Turnstile<Board<M>>)
         requires here { AreHere turnstile.now.id (posts_of self.old) }
-        ensures posts { posts_of self.new ≡ posts_of self.old }
-        ensures places { map (λ worker. is_some worker.here) self.new ≡ map (λ worker. is_some worker.here) self.old }
-        ensures over { All (λ worker. IfSome worker.here (λ pass. IsOver M.rules worker.post.peer pass)) self.new }
+        ensures { PumpsToEnd M.rules self.old self.new }
     {
         for place in 0..self.workers.len() {
             self.workers[place].pump_to_end(rt, turnstile);

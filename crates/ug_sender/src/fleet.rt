@@ -1,8 +1,7 @@
 //! The lanes of a run at work beside a builder.
 
-ghost use Rattle.std.specs.Prelude.{◌≡◌, length, map, true, false, is_some, All, IfSome};
-ghost use Rattle.ug_sender.specs.Lanes.{IsOver};
-ghost use Rattle.ug_sender.specs.Posts.{AreHere, AllRest, posts_of, here_deeds};
+ghost use Rattle.std.specs.Prelude.{◌≡◌};
+ghost use Rattle.ug_sender.specs.Posts.{AreHere, PumpsHere, PumpsToEnd, posts_of};
 
 use crate::crew::Crew;
 use crate::dock::{Docks, Intake, Roster};
@@ -71,11 +70,7 @@ impl<'d, N: Roster<M::Opening>, W: Wire, M: Machine> Fleet<'d, N, W, M> {
     /// anything. Lanes that have threads are left alone.
     pub fn pump_here<R: Wait>(&mut self, rt: &R, turnstile: &Turnstile<Board<M>>) -> bool
         requires here { AreHere turnstile.now.id (posts_of self.old) }
-        ensures posts { posts_of self.new ≡ posts_of self.old }
-        ensures places { map (λ worker. is_some worker.here) self.new ≡ map (λ worker. is_some worker.here) self.old }
-        ensures rest { AllRest M.rules self.new }
-        ensures still { result ≡ false → map (λ worker. here_deeds M.rules worker.here) self.new ≡ map (λ worker. here_deeds M.rules worker.here) self.old }
-        ensures done { result ≡ true → map (λ worker. here_deeds M.rules worker.here) self.new ≡ map (λ worker. here_deeds M.rules worker.here) self.old → ⊥ }
+        ensures { PumpsHere M.rules result self.old self.new }
     {
         self.crew.pump_here(rt, turnstile)
     }
@@ -83,9 +78,7 @@ impl<'d, N: Roster<M::Opening>, W: Wire, M: Machine> Fleet<'d, N, W, M> {
     /// Pumps each lane that works here, in order, until there is nothing more to send.
     pub fn pump_to_end<R: Wait>(&mut self, rt: &R, turnstile: &Turnstile<Board<M>>)
         requires here { AreHere turnstile.now.id (posts_of self.old) }
-        ensures posts { posts_of self.new ≡ posts_of self.old }
-        ensures places { map (λ worker. is_some worker.here) self.new ≡ map (λ worker. is_some worker.here) self.old }
-        ensures over { All (λ worker. IfSome worker.here (λ pass. IsOver M.rules worker.post.peer pass)) self.new }
+        ensures { PumpsToEnd M.rules self.old self.new }
     {
         self.crew.pump_to_end(rt, turnstile);
     }

@@ -48,15 +48,18 @@ loop-place-preserved g c =
       ],
     )
 
-pub returns-clause-rest : goal.returns-clause-rest
-returns-clause-rest g c =
+pub returns : goal.returns
+returns g c =
     let workers = c.loop-place.self-inside.workers.items in
     let many : length workers ≡ length c.args.self.now = as_many workers c.args.self.now c.loop-place.invariant.0 in
     let end : c.len-place-end.result ≡ length c.args.self.now = c.loop-place.invariant.2 in
-    holds_all (Rests g.M.Machine.rules) workers c.loop-place.place c.loop-place.invariant.4 (omega (arith, c.loop-place-test.false))
-
-pub returns-clause-done : goal.returns-clause-done
-returns-clause-done g c has same =
-    let more = c.loop-place.invariant.7 has in
-    let as_before = total_same g.M.Machine.rules c.loop-place.self-inside.workers.items c.args.self.now same in
-    omega arith
+    record {
+      posts = c.loop-place.invariant.0;
+      places = c.loop-place.invariant.1;
+      rest = holds_all (Rests g.M.Machine.rules) workers c.loop-place.place c.loop-place.invariant.4 (omega (arith, c.loop-place-test.false));
+      still = c.loop-place.invariant.5;
+      done = λ has same.
+          let more = c.loop-place.invariant.7 has in
+          let as_before = total_same g.M.Machine.rules workers c.args.self.now same in
+          omega arith;
+    }

@@ -28,9 +28,13 @@ loop-place-preserved g c =
       holds_more (IsOverHere g.M.Machine.rules) workers place new c.loop-place.invariant.4 c.pump_to_end.ensures.over,
     )
 
-pub returns-clause-over : goal.returns-clause-over
-returns-clause-over g c =
+pub returns : goal.returns
+returns g c =
     let workers = c.loop-place.self-inside.workers.items in
     let many : length workers ≡ length c.args.self.now = as_many workers c.args.self.now c.loop-place.invariant.0 in
     let end : c.len-place-end.result ≡ length c.args.self.now = c.loop-place.invariant.2 in
-    holds_all (IsOverHere g.M.Machine.rules) workers c.loop-place.place c.loop-place.invariant.4 (omega (arith, c.loop-place-test.false))
+    record {
+      posts = c.loop-place.invariant.0;
+      places = c.loop-place.invariant.1;
+      over = holds_all (IsOverHere g.M.Machine.rules) workers c.loop-place.place c.loop-place.invariant.4 (omega (arith, c.loop-place-test.false));
+    }
