@@ -9,3 +9,4 @@ pub mod Marks
 pub mod Contents
 pub mod Kept
 pub mod Crew
+pub mod Beside

@@ -7,6 +7,7 @@ ghost use Rattle.ug_events.specs.Views.{event_of};
 ghost use Rattle.ug_speaker.specs.Owes.{AreEvents};
 ghost use Rattle.ug_sender.specs.Posts.{AreHere, IsRosterOf, post_of, posts, posts_of};
 ghost use Rattle.ug_event_loop.specs.Reading.{first_of, IsRead};
+ghost use Rattle.ug_event_loop.specs.Beside.{ReadsBeside};
 
 use crate::reading::Reading;
 use std::marker::Brand;
@@ -107,18 +108,7 @@ fn beside<
     requires crew { AreHere turnstile.now.id (posts_of crew) }
     requires form { AreEvents (map event_of lent.reading.now.first.items) }
     ensures posts { posts result.0.items ≡ posts_of crew }
-    ensures reading { result.1.reading.ghost_name ≡ lent.entry.reading.ghost_name }
-    ensures source { result.1.source.ghost_name ≡ lent.entry.source.ghost_name }
-    ensures report { result.1.report.ghost_name ≡ lent.entry.report.ghost_name }
-    ensures steps { result.1.steps.ghost_name ≡ lent.entry.steps.ghost_name }
-    ensures ended { IsRead S.Machine.rules S.speech (first_of lent.entry.reading.now.first.items) lent.entry.reading.now.builder result.1.reading.now.builder
-        (record { left = E.left lent.entry.source.now; reads_failed = E.faults lent.entry.source.now; held = K.held lent.entry.report.now; writes_failed = K.faults lent.entry.report.now; steps = lent.entry.steps.now })
-        (record { left = E.left result.1.source.now; reads_failed = E.faults result.1.source.now; held = K.held result.1.report.now; writes_failed = K.faults result.1.report.now; steps = result.1.steps.now })
-        result.1.reading.now.end }
-    ensures files { E.files result.1.source.now ≡ E.files lent.entry.source.now }
-    ensures picks { E.picks result.1.source.now ≡ E.picks lent.entry.source.now }
-    ensures made { E.made result.1.source.now ≡ E.made lent.entry.source.now }
-    ensures wire_faults { E.wire_faults result.1.source.now ≡ E.wire_faults lent.entry.source.now }
+    ensures read { ReadsBeside S.Machine.rules S.speech E.left E.faults E.files E.picks E.made E.wire_faults K.held K.faults lent.entry result.1 }
 {
     let docks: Docks<N, W, S> = Docks::new(lent.reading.alloc, starting(&crew, apart));
     let (crew, lent) = beside_docks(rt, turnstile, &docks, crew, lent);
@@ -152,18 +142,7 @@ fn beside_docks<
     requires crew { AreHere turnstile.now.id (posts_of crew) }
     requires form { AreEvents (map event_of lent.reading.now.first.items) }
     ensures posts { posts_of result.0 ≡ posts_of crew }
-    ensures reading { result.1.reading.ghost_name ≡ lent.entry.reading.ghost_name }
-    ensures source { result.1.source.ghost_name ≡ lent.entry.source.ghost_name }
-    ensures report { result.1.report.ghost_name ≡ lent.entry.report.ghost_name }
-    ensures steps { result.1.steps.ghost_name ≡ lent.entry.steps.ghost_name }
-    ensures ended { IsRead S.Machine.rules S.speech (first_of lent.entry.reading.now.first.items) lent.entry.reading.now.builder result.1.reading.now.builder
-        (record { left = E.left lent.entry.source.now; reads_failed = E.faults lent.entry.source.now; held = K.held lent.entry.report.now; writes_failed = K.faults lent.entry.report.now; steps = lent.entry.steps.now })
-        (record { left = E.left result.1.source.now; reads_failed = E.faults result.1.source.now; held = K.held result.1.report.now; writes_failed = K.faults result.1.report.now; steps = result.1.steps.now })
-        result.1.reading.now.end }
-    ensures files { E.files result.1.source.now ≡ E.files lent.entry.source.now }
-    ensures picks { E.picks result.1.source.now ≡ E.picks lent.entry.source.now }
-    ensures made { E.made result.1.source.now ≡ E.made lent.entry.source.now }
-    ensures wire_faults { E.wire_faults result.1.source.now ≡ E.wire_faults lent.entry.source.now }
+    ensures read { ReadsBeside S.Machine.rules S.speech E.left E.faults E.files E.picks E.made E.wire_faults K.held K.faults lent.entry result.1 }
 {
     let (workers, room) = crew.into_parts();
     thread::scope(
@@ -180,20 +159,11 @@ fn beside_docks<
             requires none { room.items ≡ [] }
             requires room { vec_len workers ≤ vec_capacity room }
             ensures posts { posts_of result.0 ≡ posts_of workers.items }
-            ensures reading { result.1.reading.ghost_name ≡ lent.entry.reading.ghost_name }
-            ensures source { result.1.source.ghost_name ≡ lent.entry.source.ghost_name }
-            ensures report { result.1.report.ghost_name ≡ lent.entry.report.ghost_name }
-            ensures steps { result.1.steps.ghost_name ≡ lent.entry.steps.ghost_name }
-            ensures ended { IsRead S.Machine.rules S.speech (first_of lent.entry.reading.now.first.items) lent.entry.reading.now.builder result.1.reading.now.builder
-                (record { left = E.left lent.entry.source.now; reads_failed = E.faults lent.entry.source.now; held = K.held lent.entry.report.now; writes_failed = K.faults lent.entry.report.now; steps = lent.entry.steps.now })
-                (record { left = E.left result.1.source.now; reads_failed = E.faults result.1.source.now; held = K.held result.1.report.now; writes_failed = K.faults result.1.report.now; steps = result.1.steps.now })
-                result.1.reading.now.end }
-            ensures files { E.files result.1.source.now ≡ E.files lent.entry.source.now }
-            ensures picks { E.picks result.1.source.now ≡ E.picks lent.entry.source.now }
-            ensures made { E.made result.1.source.now ≡ E.made lent.entry.source.now }
-            ensures wire_faults { E.wire_faults result.1.source.now ≡ E.wire_faults lent.entry.source.now }
+            ensures read { ReadsBeside S.Machine.rules S.speech E.left E.faults E.files E.picks E.made E.wire_faults K.held K.faults lent.entry result.1 }
         {
             let mut workers = workers;
+            // Taken as a whole, so that clauses see it as one value.
+            let lent = lent;
             for place in 0..docks.len() {
                 let worker = match take_out(&mut workers, place).into_here() {
                     Ok(lane) => {
