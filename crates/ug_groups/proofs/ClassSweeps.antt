@@ -9,7 +9,7 @@ use Rattle.ug_outbound.specs.declared.key.GroupKey.{GroupKey}
 use Rattle.ug_group_rules.specs.Machine.{Subgroup}
 use Rattle.ug_queue.specs.Spread.{value_of, flat}
 use Rattle.ug_groups.specs.declared.entry.Entry.{Entry}
-use Rattle.ug_groups.specs.Rows.{Row, row_at, with_sub, of_key}
+use Rattle.ug_groups.specs.Rows.{row_at, with_sub, of_key}
 use Rattle.ug_groups.specs.Entries.{Entries, row_in, rows_in}
 use Rattle.ug_groups.specs.Scans.{first_of}
 use Rattle.ug_groups.specs.Sweeps.{IsClassOf, AreOthers}

@@ -2,7 +2,7 @@
 use Rattle.std.proofs.Common.{◌≡◌, ℕ, ◌+◌, ◌<◌, List, [], ◌∷◌, ◌++◌, length, get_or, Some, refl, sym, subst, ◌∙◌, arith}
 use Rattle.std.specs.Prelude.{IsSome}
 use Rattle.std.specs.List.{AllByRecursion}
-use Rattle.ug_queue.specs.Queues.{Queued, place_of, IsMember, AreNew}
+use Rattle.ug_queue.specs.Queues.{Queued, place_of, IsMember}
 use Rattle.ug_queue.proofs.Members.{new_behind}
 use Rattle.ug_group_rules.specs.Packets.{Packet}
 use Rattle.ug_groups.specs.Subgroups.{StandTogether, AreFront}

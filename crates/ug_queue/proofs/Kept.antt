@@ -1,6 +1,6 @@
 -- What a line keeps when a member comes, goes or moves, a packet is added, or the first one goes.
 use Rattle.std.proofs.Common.{◌≡◌, ℕ, zero, suc, ◌+◌, ◌-◌, ◌<◌, ◌≤◌, ◌==◌, ◌%◌, ◌^◌, inl, inr, true, false, List, [], ◌∷◌, ◌++◌, length, drop, set, get_or, slice_get, Option, Some, None, refl, sym, ap, ◌∙◌, subst, arith, length-append, length-drop, length-set}
-use Rattle.std.specs.Prelude.{IsSome, IfSome, IfNone}
+use Rattle.std.specs.Prelude.{IfSome, IfNone}
 use Rattle.std.specs.Map.{lookup, remove_entry, keys_of}
 use Rattle.std.specs.List.Sorted.{IsStrictlySortedBy}
 use Rattle.std.specs.Ordering.{nat_cmp, match_ordering}
@@ -94,10 +94,6 @@ module _ (n : ℕ) (w : List ℕ) (s : ℕ) (es : List (ℕ × ℕ)) (l : IsLine
   pub begun_at_most : (v : List ℕ) (i : ℕ) → get_or v i 0 ≡ get_or w i 0 → get_or v i 0 ≤ length es
   begun_at_most v i same = omega (arith, same, l.counted i, standing_at_most here i, length-mapped (place_from s) es)
 
-  -- a place more at hand, and the members as they were
-  pub begun : (v : List ℕ) → ((i : ℕ) → get_or v i 0 ≡ get_or w i 0) → length v ≡ n + 1 → IsLine n v s es
-  begun v same long = record { counted = λ i. same i ∙ l.counted i; long = λ _. long; fresh = λ z. absurd (omega (arith, z, long)); sorted = l.sorted; small = l.small }
-
   pub joined : (v u : List ℕ) (fs : List (ℕ × ℕ)) (m : ℕ) → lookup (is_member m) here ≡ None → n < 2 ^ 64 → ((i : ℕ) → get_or v i 0 ≡ get_or w i 0) → length v ≡ n + 1
       → u ≡ set v n (get_or v n 0 + 1) → fs ≡ insert_entry nat_cmp es m ((s + n) % 2 ^ 64) → IsStrictlySortedBy nat_cmp (keys_of fs) → Keeps n u s fs (insert_entry nat_cmp here m n)
   joined v u fs m at ln same vlong ue fe sorted =
@@ -125,10 +121,6 @@ module _ {P : Type 0} where
   pub popped : (o : Option P) (xs ys : List P) → IfNone o ((xs ≡ []) × (ys ≡ [])) → IfSome o (λ x. xs ≡ x ∷ ys) → ys ≡ drop 1 xs
   popped None xs ys none some = none.1 ∙ sym (ap (drop 1) none.0)
   popped (Some x) xs ys none some = sym (ap (drop 1) some)
-
-pub no_none : (o : Option ℕ) → IsSome o → o ≡ None → ⊥
-no_none None h e = cc
-no_none (Some c) h e = cc
 
 pub false_true : false ≡ true → ⊥
 false_true e = cc

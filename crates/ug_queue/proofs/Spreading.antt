@@ -23,11 +23,6 @@ strict k j le differs = grind (arith, le, differs)
 cases_le : (i j : ℕ) → i ≤ j → (i ≡ j) ⊎ (i < j)
 cases_le i j le = elim (cases_lt i j) [ inl less ↦ inr less | inr over ↦ inl (omega (arith, le, over)) ]
 
-slice_get_none : {A : Type 0} (xs : List A) (i : ℕ) → slice_get xs i ≡ None → length xs ≤ i
-slice_get_none [] i e = omega arith
-slice_get_none (x ∷ xs) zero e = absurd cc
-slice_get_none (x ∷ xs) (suc i) e = let rest = slice_get_none xs i e in omega (arith, rest)
-
 module _ {T : Type 0} where
   pub spread-length : (g n : ℕ) (rows : List (ℕ × T)) → length (spread_from g n rows) ≡ n
   spread-length g zero rows = refl

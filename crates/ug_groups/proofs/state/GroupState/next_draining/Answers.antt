@@ -3,7 +3,7 @@ use Rattle.ug_groups.specs.Members.{system}
 use Rattle.ug_groups.specs.Kept.{IsKept}
 use Rattle.std.proofs.lemmas.Option.{IfSome_then}
 use Rattle.ug_group_rules.specs.Machine.{legal}
-use Rattle.ug_groups.proofs.WorkDue.{work-prepares, work-legal, no-work-illegal, closed-illegal, none_then}
+use Rattle.ug_groups.proofs.WorkDue.{work-prepares, work-legal, no-work-illegal, none_then}
 use Rattle.ug_groups.proofs.state.GroupState.next_draining.Goals as goal
 
 pub returns-clause-prepares : goal.returns-clause-prepares
