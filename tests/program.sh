@@ -262,26 +262,34 @@ ends "run over routes with the same communities" 0 "accepted 20001 refused 0"
 said=$(ulimit -v 12000; "$program" check there/p1.1 2> errors | tail -n 1)
 [ "$said" = "messages 26 eors 1 rows 20000 rest 0" ] && note "check of routes that share their attributes" ok || note "check of routes that share their attributes" "$said"
 
-# How many threads there are while EVENTS is a pipe into which nothing more is written.
+# How many threads there are before the session begins and after it, while EVENTS is a pipe into which nothing more is written. The
+# report tells the refused line once it is read.
 threads() {
     rm -rf there/*
     mkfifo slowly
     "$program" run "$examples/configurations/c1.toml" slowly there --workers "$1" > report 2> errors &
     exec 7> slowly
+    printf 'unknown\n' >&7
+    for ((looks = 0; looks < 500; looks++)); do
+        [ -s report ] && break
+        sleep 0.02
+    done
+    said=$(ls /proc/$!/task | wc -l)
     printf 'up p1\n' >&7
     for ((looks = 0; looks < 500; looks++)); do
         [ -s there/p1.1 ] && break
         sleep 0.02
     done
-    said=$(ls /proc/$!/task | wc -l)
+    said+=" $(ls /proc/$!/task | wc -l)"
     exec 7>&-
     wait $!
     rm slowly
 }
 threads 1
-[ "$said" = 2 ] && note "a thread beside that of the events for each peer" ok || note "a thread beside that of the events for each peer" "$said threads"
+[ "$said" = "1 2" ] && note "a thread beside that of the events for each peer with a session" ok ||
+    note "a thread beside that of the events for each peer with a session" "$said threads"
 threads 0
-[ "$said" = 1 ] && note "one thread without workers" ok || note "one thread without workers" "$said threads"
+[ "$said" = "1 1" ] && note "one thread without workers" ok || note "one thread without workers" "$said threads"
 
 # More than one thread is seen while a selfrun works, which takes half a second.
 "$program" selfrun 1 > report 2> errors &

@@ -29,4 +29,3 @@ pub mod Syncs
 pub mod Requests
 pub mod Keeps
 pub mod Marked
-pub mod Mooring

@@ -17,7 +17,7 @@ use std::thread;
 use std::thread::Threads;
 use ug_board::Board;
 use ug_edge::{Sink, Source, Wire};
-use ug_sender::{Crew, Dock, Docks, Fleet, Lane, Roster, Worker, labour, put_in, take_out};
+use ug_sender::{Crew, Docks, Fleet, Lane, Roster, Starter, StarterBy, labour};
 use ug_speaker::Speaker;
 use ug_turnstile::Turnstile;
 use ug_types::{Sequence, Steps};
@@ -33,8 +33,9 @@ struct Lent<'t, 'a, 'b, 'c, S: Speaker, E, K, L: Ledger> {
 }
 
 /// Reads the file beside the crew, each lane in a thread of its own where they are to work apart, and hands all lanes
-/// back once they have stopped. A lane whose thread is refused works here. Nothing is said of when it returns; it takes
-/// no memory but what reading, docks and the threads take, and where there is none for docks all lanes work here.
+/// back once they have stopped. The thread of a lane is started with the first session of its peer; where that is refused the builder
+/// sends for the lane itself. Nothing is said of when it returns; it takes no memory but what reading, docks and the threads take, and
+/// where there is none for docks all lanes work here.
 pub fn read_beside<R: Threads + Wait + Sync, W: Wire, S: Speaker, E: Source, K: Sink, L: Ledger>(
     rt: &R,
     turnstile: &Turnstile<Board<S>>,
@@ -115,7 +116,7 @@ fn beside<
     (crew.gather(rt, turnstile, docks), lent)
 }
 
-/// Starts a thread for each lane that has a dock, reads the file beside them, and waits until all are done.
+/// Puts each lane that has a dock into it, reads the file beside their threads, and waits until all are done.
 fn beside_docks<
     't,
     'a,
@@ -144,61 +145,90 @@ fn beside_docks<
     ensures posts { posts_of result.0 ≡ posts_of crew }
     ensures read { ReadsBeside S.Machine.rules S.speech E.left E.faults E.files E.picks E.made E.wire_faults K.held K.faults lent.entry result.1 }
 {
-    let (workers, room) = crew.into_parts();
+    let crew = crew.moor(rt, docks);
     thread::scope(
         thread::scope_env(),
         rt,
         |scope| -> (Crew<W, S>, Lent<S, E, K, L>)
             requires sends { IsSend N.row × IsSend W.row × IsSend S.row × IsSend S.Job.row × IsSend S.Said.row × IsSync N.row × IsSync R.row }
             requires at { N.turnstile ≡ turnstile.now.id }
-            requires roster { IsRosterOf N.post (posts_of workers.items) }
-            requires docks { docks.now ≤ vec_len workers }
             requires here { lent.reading.now.builder.pass.turnstile ≡ turnstile.now.id }
-            requires crew { AreHere turnstile.now.id (posts_of workers.items) }
+            requires crew { AreHere turnstile.now.id (posts_of crew) }
             requires form { AreEvents (map event_of lent.reading.now.first.items) }
-            requires none { room.items ≡ [] }
-            requires room { vec_len workers ≤ vec_capacity room }
-            ensures posts { posts_of result.0 ≡ posts_of workers.items }
+            ensures posts { posts_of result.0 ≡ posts_of crew }
             ensures read { ReadsBeside S.Machine.rules S.speech E.left E.faults E.files E.picks E.made E.wire_faults K.held K.faults lent.entry result.1 }
         {
-            let mut workers = workers;
-            // Taken as a whole, so that clauses see it as one value.
+            let start = |place: usize| -> bool
+                requires sends { IsSend N.row × IsSend W.row × IsSend S.row × IsSend S.Job.row × IsSend S.Said.row × IsSync N.row × IsSync R.row }
+                requires at { N.turnstile ≡ turnstile.now.id }
+            {
+                if place >= docks.len() {
+                    return false;
+                }
+                let dock = docks.at(place);
+                scope
+                    .spawn(
+                        move ||
+                            requires at { N.turnstile ≡ turnstile.now.id }
+                        { labour(rt, turnstile, dock) },
+                    )
+                    .is_ok()
+            };
+            // Taken as wholes, so that clauses see each as one value.
+            let crew = crew;
             let lent = lent;
-            for place in 0..docks.len() {
-                let worker = match take_out(&mut workers, place).into_here() {
-                    Ok(lane) => {
-                        let dock = docks.at(place);
-                        let has_thread = scope
-                            .spawn(
-                                move ||
-                                    requires at { N.turnstile ≡ turnstile.now.id }
-                                { labour(rt, turnstile, dock) },
-                            )
-                            .is_ok();
-                        manned(rt, dock, lane, place, has_thread)
-                    }
-                    Err(worker) => worker,
-                };
-                put_in(&mut workers, place, worker);
-            }
-            let mut fleet = Fleet::of(Crew::of(workers, room), docks, turnstile);
-            let Lent {
-                reading,
-                source,
-                report,
-                steps,
-            } = lent;
-            reading.attend(rt, turnstile, &mut fleet, source, report, steps);
-            fleet.pump_to_end(rt, turnstile);
-            (
-                fleet.into_crew(),
-                Lent {
-                    reading,
-                    source,
-                    report,
-                    steps,
-                },
-            )
+            attend_beside(rt, turnstile, docks, crew, StarterBy { start }, lent)
+        },
+    )
+}
+
+/// Reads the file beside the crew and the lanes in docks, whose threads the starter starts, and lets those go for ever then.
+fn attend_beside<
+    't,
+    'a,
+    'b,
+    'c,
+    N: Roster<S::Opening>,
+    R: Wait,
+    W: Wire,
+    S: Speaker,
+    T: Starter,
+    E: Source,
+    K: Sink,
+    L: Ledger,
+>(
+    rt: &R,
+    turnstile: &Turnstile<Board<S>>,
+    docks: &Docks<N, W, S>,
+    crew: Crew<W, S>,
+    starter: T,
+    lent: Lent<'t, 'a, 'b, 'c, S, E, K, L>,
+) -> (Crew<W, S>, Lent<'t, 'a, 'b, 'c, S, E, K, L>)
+    requires at { N.turnstile ≡ turnstile.now.id }
+    requires starter { T.can_start starter }
+    requires here { lent.reading.now.builder.pass.turnstile ≡ turnstile.now.id }
+    requires crew { AreHere turnstile.now.id (posts_of crew) }
+    requires form { AreEvents (map event_of lent.reading.now.first.items) }
+    ensures posts { posts_of result.0 ≡ posts_of crew }
+    ensures read { ReadsBeside S.Machine.rules S.speech E.left E.faults E.files E.picks E.made E.wire_faults K.held K.faults lent.entry result.1 }
+{
+    let mut fleet = Fleet::of(crew, docks, turnstile, starter);
+    let Lent {
+        reading,
+        source,
+        report,
+        steps,
+    } = lent;
+    reading.attend(rt, turnstile, &mut fleet, source, report, steps);
+    fleet.dismiss();
+    fleet.pump_to_end(rt, turnstile);
+    (
+        fleet.into_crew(),
+        Lent {
+            reading,
+            source,
+            report,
+            steps,
         },
     )
 }
@@ -210,24 +240,4 @@ fn starting<W: Wire, S: Speaker>(crew: &Crew<W, S>, apart: bool) -> usize
     ensures none { apart ≡ false → result ≡ 0 }
 {
     if apart { crew.len() } else { 0 }
-}
-
-/// A lane in its dock where it has a thread, and else here.
-fn manned<N: Roster<S::Opening>, R: Wait, W: Wire, S: Speaker>(
-    rt: &R,
-    dock: &Dock<N, W, S>,
-    lane: Lane<W, S>,
-    place: usize,
-    has_thread: bool,
-) -> Worker<W, S>
-    requires here { lane.pass.turnstile ≡ N.turnstile }
-    requires post { post_of lane ≡ N.post place }
-    ensures post { result.post ≡ post_of lane }
-    ensures here { is_some result.here ≡ not has_thread }
-{
-    if has_thread {
-        Worker::moor(rt, dock, lane, place)
-    } else {
-        Worker::here(lane)
-    }
 }

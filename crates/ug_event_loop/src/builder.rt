@@ -33,7 +33,7 @@ use ug_edge::{Sink, Wire};
 use ug_events::{Event, Line, LineReader, LineRefusal};
 use ug_pieces::write_all;
 use ug_report::{write_marks, write_refusal};
-use ug_sender::{Fleet, Roster};
+use ug_sender::{Fleet, Roster, Starter};
 use ug_speaker::Speaker;
 use ug_turnstile::{Pass, Turnstile};
 use ug_types::{NameList, NoMemory, Steps};
@@ -129,11 +129,11 @@ impl<S: Speaker> Builder<S> {
     }
 
     /// Marks how much each live peer was told, once everything is told.
-    fn sync<R: Wait, N: Roster<S::Opening>, W: Wire, L: Ledger>(
+    fn sync<R: Wait, N: Roster<S::Opening>, W: Wire, T: Starter, L: Ledger>(
         &mut self,
         rt: &R,
         turnstile: &Turnstile<Board<S>>,
-        crew: &mut Fleet<'_, N, W, S>,
+        crew: &mut Fleet<'_, N, W, S, T>,
         steps: &mut Steps<L>,
     ) -> Result<Came<S::Said>, NoMemory>
         requires here { self.old.pass.turnstile ≡ turnstile.now.id }
@@ -159,11 +159,11 @@ impl<S: Speaker> Builder<S> {
     }
 
     /// What a line comes to.
-    fn come<R: Wait, N: Roster<S::Opening>, W: Wire, L: Ledger>(
+    fn come<R: Wait, N: Roster<S::Opening>, W: Wire, T: Starter, L: Ledger>(
         &mut self,
         rt: &R,
         turnstile: &Turnstile<Board<S>>,
-        crew: &mut Fleet<'_, N, W, S>,
+        crew: &mut Fleet<'_, N, W, S, T>,
         steps: &mut Steps<L>,
         line: &[u8],
     ) -> Result<Came<S::Said>, NoMemory>
@@ -232,11 +232,11 @@ impl<S: Speaker> Builder<S> {
 
     /// Takes a line, and tells the report what it came to. Where it was an event that was accepted, it answers whether what is
     /// new is due to the lanes.
-    fn take_told<R: Wait, N: Roster<S::Opening>, W: Wire, L: Ledger, K: Sink>(
+    fn take_told<R: Wait, N: Roster<S::Opening>, W: Wire, T: Starter, L: Ledger, K: Sink>(
         &mut self,
         rt: &R,
         turnstile: &Turnstile<Board<S>>,
-        crew: &mut Fleet<'_, N, W, S>,
+        crew: &mut Fleet<'_, N, W, S, T>,
         steps: &mut Steps<L>,
         line: &[u8],
         report: &mut K,
@@ -273,11 +273,11 @@ impl<S: Speaker> Builder<S> {
 
     /// Takes a line, and tells the report what it came to. After an event that was accepted it settles, and after each so many
     /// of them the lanes that work here are pumped, until nothing is sent for now.
-    pub(crate) fn take<R: Wait, N: Roster<S::Opening>, W: Wire, L: Ledger, K: Sink>(
+    pub(crate) fn take<R: Wait, N: Roster<S::Opening>, W: Wire, T: Starter, L: Ledger, K: Sink>(
         &mut self,
         rt: &R,
         turnstile: &Turnstile<Board<S>>,
-        crew: &mut Fleet<'_, N, W, S>,
+        crew: &mut Fleet<'_, N, W, S, T>,
         steps: &mut Steps<L>,
         line: &[u8],
         report: &mut K,
@@ -307,11 +307,11 @@ impl<S: Speaker> Builder<S> {
     /// Settles after an event, and lets the lanes take what there is for them where that is due. Where that was so much that there
     /// may be more, and it was taken for lanes in docks, it settles again.
     #[tactic(auto, using(crate::proofs::Turning::goes_further))]
-    fn pass_on<R: Wait, N: Roster<S::Opening>, W: Wire, L: Ledger>(
+    fn pass_on<R: Wait, N: Roster<S::Opening>, W: Wire, T: Starter, L: Ledger>(
         &mut self,
         rt: &R,
         turnstile: &Turnstile<Board<S>>,
-        crew: &mut Fleet<'_, N, W, S>,
+        crew: &mut Fleet<'_, N, W, S, T>,
         steps: &mut Steps<L>,
         is_due: bool,
     ) -> Result<(), NoMemory>
@@ -338,11 +338,11 @@ impl<S: Speaker> Builder<S> {
 
     /// Lets the lanes take what these jobs made for them, where that is due, and answers whether there may be more: where so much was
     /// taken for lanes in docks that a queue was full.
-    fn pass_to_lanes<R: Wait, N: Roster<S::Opening>, W: Wire>(
+    fn pass_to_lanes<R: Wait, N: Roster<S::Opening>, W: Wire, T: Starter>(
         &mut self,
         rt: &R,
         turnstile: &Turnstile<Board<S>>,
-        crew: &mut Fleet<'_, N, W, S>,
+        crew: &mut Fleet<'_, N, W, S, T>,
         settled: Settled,
         is_due: bool,
     ) -> bool
@@ -359,18 +359,13 @@ impl<S: Speaker> Builder<S> {
         is_due && has_come && settled.may_be_cut()
     }
 
-    /// Rings for the threads of lanes, where something was taken for these since they were rung for.
-    pub(crate) fn ring(&self, turnstile: &Turnstile<Board<S>>) {
-        self.pace.ring(turnstile.news());
-    }
-
     /// Takes an event before all lines, of which no report speaks. Behind it it settles, and the lanes that work here are
     /// pumped.
-    pub(crate) fn admit<R: Wait, N: Roster<S::Opening>, W: Wire, L: Ledger>(
+    pub(crate) fn admit<R: Wait, N: Roster<S::Opening>, W: Wire, T: Starter, L: Ledger>(
         &mut self,
         rt: &R,
         turnstile: &Turnstile<Board<S>>,
-        crew: &mut Fleet<'_, N, W, S>,
+        crew: &mut Fleet<'_, N, W, S, T>,
         steps: &mut Steps<L>,
         event: Event,
     ) -> Result<(), NoMemory>
@@ -421,11 +416,11 @@ impl<S: Speaker> Builder<S> {
     }
 
     /// Ends the work on the board, once everything is told.
-    pub(crate) fn conclude<R: Wait, N: Roster<S::Opening>, W: Wire, L: Ledger>(
+    pub(crate) fn conclude<R: Wait, N: Roster<S::Opening>, W: Wire, T: Starter, L: Ledger>(
         &mut self,
         rt: &R,
         turnstile: &Turnstile<Board<S>>,
-        crew: &mut Fleet<'_, N, W, S>,
+        crew: &mut Fleet<'_, N, W, S, T>,
         steps: &mut Steps<L>,
     ) -> Result<(), NoMemory>
         requires here { self.old.pass.turnstile ≡ turnstile.now.id }
@@ -443,7 +438,6 @@ impl<S: Speaker> Builder<S> {
             let rings = turnstile.back().rings();
             let concluded = conclude_in_turn(rt, turnstile, &mut self.pass, steps)?;
             if concluded {
-                turnstile.news().ring();
                 return Ok(());
             }
             wait_for(rt, turnstile, crew, &mut self.pace, rings);
@@ -467,7 +461,6 @@ impl<S: Speaker> Builder<S> {
         ensures steps_least { RisesBy steps.old steps.new (least_at S.Machine.rules self.old.pass.root self.old.pass.seen) (least_at S.Machine.rules self.old.pass.root self.new.pass.seen) }
     {
         break_off_in_turn(rt, turnstile, &mut self.pass, steps);
-        turnstile.news().ring();
     }
 }
 
@@ -484,10 +477,10 @@ fn is_begin(event: &Event) -> bool {
 }
 
 /// Pumps the lanes that work here, where that is due.
-fn pump_where<R: Wait, N: Roster<S::Opening>, W: Wire, S: Speaker>(
+fn pump_where<R: Wait, N: Roster<S::Opening>, W: Wire, T: Starter, S: Speaker>(
     rt: &R,
     turnstile: &Turnstile<Board<S>>,
-    crew: &mut Fleet<'_, N, W, S>,
+    crew: &mut Fleet<'_, N, W, S, T>,
     is_due: bool,
 )
     requires crew { AreHere turnstile.now.id (posts_of crew.old) }
@@ -500,12 +493,12 @@ fn pump_where<R: Wait, N: Roster<S::Opening>, W: Wire, S: Speaker>(
     }
 }
 
-/// Pumps the lanes that work here, and takes what there is for those in docks; where neither did anything it rings for threads of
-/// lanes for which something was taken before, and waits until one rang more often than that.
-fn wait_for<R: Wait, N: Roster<S::Opening>, W: Wire, S: Speaker>(
+/// Pumps the lanes that work here, and takes what there is for those in docks; where neither did anything it waits until a thread
+/// rang more often than that.
+fn wait_for<R: Wait, N: Roster<S::Opening>, W: Wire, T: Starter, S: Speaker>(
     rt: &R,
     turnstile: &Turnstile<Board<S>>,
-    crew: &mut Fleet<'_, N, W, S>,
+    crew: &mut Fleet<'_, N, W, S, T>,
     pace: &mut Pace,
     rings: u64,
 )
@@ -514,9 +507,8 @@ fn wait_for<R: Wait, N: Roster<S::Opening>, W: Wire, S: Speaker>(
     ensures rest { AllRest S.Machine.rules crew.new }
 {
     let has_done = crew.pump_here(rt, turnstile);
-    let has_come = pace.load(rt, turnstile, crew).has_come;
-    if !has_done && !has_come {
-        pace.ring(turnstile.news());
-        turnstile.back().wait(rt, rings);
+    let intake = pace.load(rt, crew);
+    if !has_done && !intake.has_come {
+        pace.pause(rt, turnstile, crew, intake, rings);
     }
 }

@@ -20,7 +20,7 @@ use std::sync::ledger::Ledger;
 use ug_board::Board;
 use ug_edge::{Failed, Sink, Source, Wire};
 use ug_pieces::{Halt, LineHalt, LineStop, halt_of_pieces, halt_of_stop};
-use ug_sender::{Fleet, Roster};
+use ug_sender::{Fleet, Roster, Starter};
 use ug_speaker::Speaker;
 use ug_turnstile::Turnstile;
 use ug_types::Steps;
@@ -36,13 +36,22 @@ const MOST_LINES: usize = 2_000_000;
 const KEPT: usize = 4097;
 
 /// Reads a file to its end, of so many bytes at most, and takes the lines that a newline ends. Before it reads, which may take long
-/// where more has yet to be written, lanes are told of what is new.
-fn read_ended<R: Wait, N: Roster<S::Opening>, W: Wire, S: Speaker, L: Ledger, E: Source, K: Sink>(
+/// where more has yet to be written, lanes are left to their threads.
+fn read_ended<
+    R: Wait,
+    N: Roster<S::Opening>,
+    W: Wire,
+    T: Starter,
+    S: Speaker,
+    L: Ledger,
+    E: Source,
+    K: Sink,
+>(
     rt: &R,
     alloc: Global,
     turnstile: &Turnstile<Board<S>>,
     builder: &mut Builder<S>,
-    crew: &mut Fleet<'_, N, W, S>,
+    crew: &mut Fleet<'_, N, W, S, T>,
     steps: &mut Steps<L>,
     limit: usize,
     source: &mut E,
@@ -80,7 +89,7 @@ fn read_ended<R: Wait, N: Roster<S::Opening>, W: Wire, S: Speaker, L: Ledger, E:
     };
     let mut total: usize = 0;
     loop {
-        builder.ring(turnstile);
+        crew.leave(rt);
         let count = match source.read(buffer.as_mut_slice()) {
             Ok(count) => count,
             Err(Failed) => return Err(Halt::Read),
@@ -106,6 +115,7 @@ pub(crate) fn read_events<
     R: Wait,
     N: Roster<S::Opening>,
     W: Wire,
+    T: Starter,
     S: Speaker,
     L: Ledger,
     E: Source,
@@ -115,7 +125,7 @@ pub(crate) fn read_events<
     alloc: Global,
     turnstile: &Turnstile<Board<S>>,
     builder: &mut Builder<S>,
-    crew: &mut Fleet<'_, N, W, S>,
+    crew: &mut Fleet<'_, N, W, S, T>,
     steps: &mut Steps<L>,
     source: &mut E,
     report: &mut K,

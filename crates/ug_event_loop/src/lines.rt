@@ -16,18 +16,18 @@ use std::sync::ledger::Ledger;
 use ug_board::Board;
 use ug_edge::{Sink, Wire};
 use ug_pieces::{LineStop, keep_front};
-use ug_sender::{Fleet, Roster};
+use ug_sender::{Fleet, Roster, Starter};
 use ug_speaker::Speaker;
 use ug_text::cut_at;
 use ug_turnstile::Turnstile;
 use ug_types::{NoMemory, Steps};
 
 /// Takes the line that these bytes end.
-fn take_ended<R: Wait, N: Roster<S::Opening>, W: Wire, S: Speaker, L: Ledger, K: Sink>(
+fn take_ended<R: Wait, N: Roster<S::Opening>, W: Wire, T: Starter, S: Speaker, L: Ledger, K: Sink>(
     rt: &R,
     turnstile: &Turnstile<Board<S>>,
     builder: &mut Builder<S>,
-    crew: &mut Fleet<'_, N, W, S>,
+    crew: &mut Fleet<'_, N, W, S, T>,
     steps: &mut Steps<L>,
     report: &mut K,
     begun: &mut Begun,
@@ -74,11 +74,19 @@ fn take_ended<R: Wait, N: Roster<S::Opening>, W: Wire, S: Speaker, L: Ledger, K:
 }
 
 /// Takes the lines that a piece ends, and keeps what it begins.
-pub(crate) fn take_piece<R: Wait, N: Roster<S::Opening>, W: Wire, S: Speaker, L: Ledger, K: Sink>(
+pub(crate) fn take_piece<
+    R: Wait,
+    N: Roster<S::Opening>,
+    W: Wire,
+    T: Starter,
+    S: Speaker,
+    L: Ledger,
+    K: Sink,
+>(
     rt: &R,
     turnstile: &Turnstile<Board<S>>,
     builder: &mut Builder<S>,
-    crew: &mut Fleet<'_, N, W, S>,
+    crew: &mut Fleet<'_, N, W, S, T>,
     steps: &mut Steps<L>,
     report: &mut K,
     begun: &mut Begun,
@@ -113,11 +121,19 @@ pub(crate) fn take_piece<R: Wait, N: Roster<S::Opening>, W: Wire, S: Speaker, L:
 }
 
 /// Takes the bytes behind the last newline as a line, where there are any.
-pub(crate) fn take_last<R: Wait, N: Roster<S::Opening>, W: Wire, S: Speaker, L: Ledger, K: Sink>(
+pub(crate) fn take_last<
+    R: Wait,
+    N: Roster<S::Opening>,
+    W: Wire,
+    T: Starter,
+    S: Speaker,
+    L: Ledger,
+    K: Sink,
+>(
     rt: &R,
     turnstile: &Turnstile<Board<S>>,
     builder: &mut Builder<S>,
-    crew: &mut Fleet<'_, N, W, S>,
+    crew: &mut Fleet<'_, N, W, S, T>,
     steps: &mut Steps<L>,
     report: &mut K,
     begun: &Begun,

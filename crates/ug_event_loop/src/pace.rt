@@ -1,17 +1,15 @@
 //! How a builder keeps pace with lanes that have threads.
 //!
-//! To wake a thread costs as much as to take an event. So the builder takes packets for such lanes itself, and rings for their
-//! threads where one has much to send or a session to begin, and where there are no more events for now.
+//! To wake a thread costs as much as to take an event. So the builder takes packets for such lanes itself, in passes over all of
+//! them. Their threads are woken where they have much to send or a session to begin, and where there are no more events for now.
 
 use crate::settled::Settled;
 use std::hint::spin_loop;
 use std::sync::Wait;
-use std::sync::atomic::AtomicBool;
-use std::sync::atomic::Ordering::SeqCst;
 use std::time::Duration;
 use ug_board::Board;
 use ug_edge::Wire;
-use ug_sender::{Fleet, Intake, Roster};
+use ug_sender::{Fleet, Intake, Roster, Starter};
 use ug_speaker::Speaker;
 use ug_turnstile::{Bell, Turnstile};
 
@@ -29,10 +27,10 @@ const MOST_PASSED: usize = 4096;
 /// How far the builder is ahead of lanes that have threads. No contract speaks of it: it is for speed alone.
 #[derive(Drop)]
 pub(crate) struct Pace {
-    /// Whether something was taken for lanes since their threads were rung for.
-    is_unsent: AtomicBool,
-    /// Whether they were rung for since one had much to send.
-    is_rung: bool,
+    /// How often something was taken for lanes, modulo 2^64.
+    passes: usize,
+    /// Whether it waited a moment since something was last taken for them.
+    has_paused: bool,
     /// How many jobs were done since no lane was behind.
     ahead: usize,
     /// How many lanes were behind still when they were waited for.
@@ -46,8 +44,8 @@ impl Pace {
     /// The pace at the start.
     pub(crate) fn new() -> Pace {
         Pace {
-            is_unsent: AtomicBool::new(false),
-            is_rung: false,
+            passes: 0,
+            has_paused: false,
             ahead: 0,
             late: 0,
             passed: 0,
@@ -60,43 +58,51 @@ impl Pace {
         self.ahead > 0
     }
 
-    /// Rings for threads, where something was taken for their lanes since they were rung for.
-    pub(crate) fn ring(&self, news: &Bell) {
-        if self.is_unsent.load(SeqCst) {
-            self.is_unsent.store(false, SeqCst);
-            news.ring();
+    /// Takes what there is for lanes in docks, and wakes the threads of those that have much to send.
+    pub(crate) fn load<R: Wait, N: Roster<S::Opening>, W: Wire, T: Starter, S: Speaker>(
+        &mut self,
+        rt: &R,
+        crew: &Fleet<'_, N, W, S, T>,
+    ) -> Intake {
+        let intake = crew.load(rt, self.passes);
+        self.passes = self.passes.wrapping_add(1);
+        if intake.has_come {
+            self.has_paused = false;
         }
+        intake
     }
 
-    /// Takes what there is for lanes in docks, and rings for their threads, once, where one of them has much to send.
-    pub(crate) fn load<R: Wait, N: Roster<S::Opening>, W: Wire, S: Speaker>(
+    /// Waits until a thread rang more often than that. Where lanes are behind it waits for a moment at first, since then their threads
+    /// are at work. Else lanes are left to their threads.
+    pub(crate) fn pause<R: Wait, N: Roster<S::Opening>, W: Wire, T: Starter, S: Speaker>(
         &mut self,
         rt: &R,
         turnstile: &Turnstile<Board<S>>,
-        crew: &Fleet<'_, N, W, S>,
-    ) -> Intake {
-        let intake = crew.load(rt);
-        if intake.has_come {
-            self.is_unsent.store(true, SeqCst);
+        crew: &Fleet<'_, N, W, S, T>,
+        intake: Intake,
+        rings: u64,
+    ) {
+        if intake.behind > 0 && !self.has_paused {
+            self.has_paused = true;
+            wait_for_ring(rt, turnstile.back(), rings);
+        } else {
+            self.has_paused = false;
+            crew.leave(rt);
+            turnstile.back().wait(rt, rings);
         }
-        if intake.is_full && !self.is_rung {
-            self.ring(turnstile.news());
-        }
-        self.is_rung = intake.is_full;
-        intake
     }
 
     /// Takes what there is for lanes in docks behind such jobs, and answers whether anything came. Where lanes are far behind it
     /// waits for them, for a moment at most: lanes that fall behind would be taken for slow ones, which costs a copy of their table
     /// each time. A lane that never goes on, since nobody reads what it writes, is waited for now and then alone.
-    pub(crate) fn keep<R: Wait, N: Roster<S::Opening>, W: Wire, S: Speaker>(
+    pub(crate) fn keep<R: Wait, N: Roster<S::Opening>, W: Wire, T: Starter, S: Speaker>(
         &mut self,
         rt: &R,
         turnstile: &Turnstile<Board<S>>,
-        crew: &Fleet<'_, N, W, S>,
+        crew: &Fleet<'_, N, W, S, T>,
         settled: Settled,
     ) -> bool {
-        let intake = self.load(rt, turnstile, crew);
+        let intake = self.load(rt, crew);
         if intake.behind == 0 {
             self.ahead = 0;
             return intake.has_come;
@@ -110,11 +116,11 @@ impl Pace {
 
     /// Waits, for a moment at most, until no more lanes are behind than the last time, or none every so many times, and answers
     /// whether anything came for them.
-    fn wait<R: Wait, N: Roster<S::Opening>, W: Wire, S: Speaker>(
+    fn wait<R: Wait, N: Roster<S::Opening>, W: Wire, T: Starter, S: Speaker>(
         &mut self,
         rt: &R,
         turnstile: &Turnstile<Board<S>>,
-        crew: &Fleet<'_, N, W, S>,
+        crew: &Fleet<'_, N, W, S, T>,
     ) -> bool {
         self.passed = self.passed.saturating_add(1);
         let is_for_all = self.passed >= self.limit;
@@ -123,8 +129,8 @@ impl Pace {
         let mut behind = 0;
         for _ in 0..MOST_WAITS {
             let rings = turnstile.back().rings();
-            self.ring(turnstile.news());
-            let intake = self.load(rt, turnstile, crew);
+            crew.rouse(rt);
+            let intake = self.load(rt, crew);
             has_come = has_come || intake.has_come;
             behind = intake.behind;
             if behind <= most {

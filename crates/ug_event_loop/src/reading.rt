@@ -23,7 +23,7 @@ use ug_board::Board;
 use ug_edge::{Sink, Source, Wire};
 use ug_events::Event;
 use ug_pieces::LineHalt;
-use ug_sender::{Fleet, Roster};
+use ug_sender::{Fleet, Roster, Starter};
 use ug_speaker::Speaker;
 use ug_turnstile::Turnstile;
 use ug_types::{NoMemory, Steps};
@@ -54,11 +54,19 @@ pub struct Reading<S: Speaker> {
 
 impl<S: Speaker> Reading<S> {
     /// Takes the first events and the lines of the file beside the crew, and then ends the work on the board.
-    pub fn attend<R: Wait, N: Roster<S::Opening>, W: Wire, E: Source, K: Sink, L: Ledger>(
+    pub fn attend<
+        R: Wait,
+        N: Roster<S::Opening>,
+        W: Wire,
+        T: Starter,
+        E: Source,
+        K: Sink,
+        L: Ledger,
+    >(
         &mut self,
         rt: &R,
         turnstile: &Turnstile<Board<S>>,
-        crew: &mut Fleet<'_, N, W, S>,
+        crew: &mut Fleet<'_, N, W, S, T>,
         source: &mut E,
         report: &mut K,
         steps: &mut Steps<L>,
@@ -106,13 +114,22 @@ impl<S: Speaker> Reading<S> {
 }
 
 /// Takes the first events, then the lines of the file, and then ends the work on the board.
-fn run<R: Wait, N: Roster<S::Opening>, W: Wire, S: Speaker, L: Ledger, E: Source, K: Sink>(
+fn run<
+    R: Wait,
+    N: Roster<S::Opening>,
+    W: Wire,
+    T: Starter,
+    S: Speaker,
+    L: Ledger,
+    E: Source,
+    K: Sink,
+>(
     rt: &R,
     alloc: Global,
     turnstile: &Turnstile<Board<S>>,
     builder: &mut Builder<S>,
     first: Vec<Event>,
-    crew: &mut Fleet<'_, N, W, S>,
+    crew: &mut Fleet<'_, N, W, S, T>,
     steps: &mut Steps<L>,
     source: &mut E,
     report: &mut K,
@@ -147,13 +164,22 @@ fn run<R: Wait, N: Roster<S::Opening>, W: Wire, S: Speaker, L: Ledger, E: Source
 }
 
 /// Takes the first events, and then the lines of the file.
-fn take_all<R: Wait, N: Roster<S::Opening>, W: Wire, S: Speaker, L: Ledger, E: Source, K: Sink>(
+fn take_all<
+    R: Wait,
+    N: Roster<S::Opening>,
+    W: Wire,
+    T: Starter,
+    S: Speaker,
+    L: Ledger,
+    E: Source,
+    K: Sink,
+>(
     rt: &R,
     alloc: Global,
     turnstile: &Turnstile<Board<S>>,
     builder: &mut Builder<S>,
     first: Vec<Event>,
-    crew: &mut Fleet<'_, N, W, S>,
+    crew: &mut Fleet<'_, N, W, S, T>,
     steps: &mut Steps<L>,
     source: &mut E,
     report: &mut K,
@@ -193,12 +219,12 @@ fn take_all<R: Wait, N: Roster<S::Opening>, W: Wire, S: Speaker, L: Ledger, E: S
 }
 
 /// Takes the first events, one after the other.
-fn admit_all<R: Wait, N: Roster<S::Opening>, W: Wire, S: Speaker, L: Ledger>(
+fn admit_all<R: Wait, N: Roster<S::Opening>, W: Wire, T: Starter, S: Speaker, L: Ledger>(
     rt: &R,
     turnstile: &Turnstile<Board<S>>,
     builder: &mut Builder<S>,
     first: Vec<Event>,
-    crew: &mut Fleet<'_, N, W, S>,
+    crew: &mut Fleet<'_, N, W, S, T>,
     steps: &mut Steps<L>,
 ) -> Result<(), NoMemory>
     requires here { builder.old.pass.turnstile ≡ turnstile.now.id }

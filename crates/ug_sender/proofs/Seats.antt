@@ -1,7 +1,8 @@
 -- An item out of its place in a list, and back.
 use Rattle.std.proofs.Common.{◌≡◌, ℕ, zero, suc, ◌<◌, List, [], ◌∷◌, ◌++◌, length, map, get_or, Some, refl, sym, ◌∙◌, ap, subst, append_assoc}
 use Rattle.std.specs.Prelude.{insert, remove, slice_get}
-use Rattle.std.proofs.lemmas.Option.{get_or_from_slice_get, slice_get_within}
+use Rattle.std.specs.Option.{option_map}
+use Rattle.std.proofs.lemmas.Option.{get_or_from_slice_get, slice_get-map, slice_get_within}
 use Rattle.atomic_table.specs.Seated.{TableId}
 use Rattle.std.proofs.lemmas.List.{get_or-map, length-map, map-append}
 use Rattle.ug_sender.specs.Lanes.{LaneView}
@@ -52,3 +53,11 @@ none_by_length (x ∷ xs) is = absurd cc
 -- these posts are those at their places
 pub roster-at : {Opening : Type 0} → (all : List (Post Opening)) → IsRosterOf (λ place. post_at all place) all
 roster-at all place at is = get_or_from_slice_get all place at no_post is
+
+-- where the workers have these posts, the one at a place has the post that is told of it
+pub post-in : {Opening Job Said : Type 0} → (post : ℕ → Post Opening) (all : List (Post Opening)) (workers : List (WorkerView Opening Job Said)) (place : ℕ) (worker : WorkerView Opening Job Said)
+    → IsRosterOf post all → posts_of workers ≡ all → slice_get workers place ≡ Some worker → post place ≡ worker.post
+post-in {Opening} {Job} {Said} post all workers place worker roster same at =
+    roster place worker.post
+    (ap (λ (ps : List (Post Opening)). slice_get ps place) (sym same)
+    ∙ (slice_get-map (λ (w : WorkerView Opening Job Said). w.post) workers place ∙ ap (option_map (λ (w : WorkerView Opening Job Said). w.post)) at))

@@ -1,9 +1,11 @@
 -- A lane that took packets which its wire has not got yet: how contracts see it, what it keeps, and what it takes.
-use Rattle.std.specs.Prelude.{◌≡◌, ℕ, ◌+◌, ◌≤◌, ◌⊎◌, Bool, false, List, ◌++◌, length, Option, Some, None, map}
+use Rattle.std.specs.Prelude.{◌≡◌, ℕ, ◌+◌, ◌<◌, ◌≤◌, ◌⊎◌, Bool, false, List, ◌++◌, length, Option, Some, None, IsSome, map}
 use Rattle.ug_board.specs.Entry.{Entry}
 use Rattle.ug_board.specs.Rules.{Rules, buffer_size}
 use Rattle.ug_board.specs.Deeds.{Deed, Loses}
 use Rattle.ug_turnstile.specs.Passes.{Held}
+use Rattle.ug_sender.specs.declared.laden.Fill.{Fill}
+use Rattle.ug_sender.specs.declared.laden.Fill.TheVariants.{Little, Much, Full}
 use Rattle.ug_sender.specs.declared.turn.Ending.{Ending}
 use Rattle.ug_sender.specs.declared.turn.Ending.TheVariants.{Begun, Idle, Stop, More}
 use Rattle.ug_sender.specs.Courses.{Course, KeepsWire}
@@ -21,12 +23,22 @@ pub record LadenView (W Opening Job Said : Type 0) : Type 0 where
 abbrev pub unladen : {W Opening Job Said : Type 0} → LaneView W Opening Job Said → LadenView W Opening Job Said
 unladen lane = record { lane = lane; filled = 0; waiting = None }
 
--- how many bytes the buffer of a lane holds, and half of them
+-- how many bytes the buffer of a lane holds, a quarter of them, and half of them
 abbrev pub lane_buffer_size : ℕ
 lane_buffer_size = 131072
 
+abbrev pub quarter_of_buffer : ℕ
+quarter_of_buffer = 32768
+
 abbrev pub half_of_buffer : ℕ
 half_of_buffer = 65536
+
+-- What is told of how much a lane has to send, by the session that is to be begun, if there is one, and by how many bytes fill
+-- its buffer.
+abbrev pub TellsFill : Fill → Option ℕ → ℕ → Type 0
+TellsFill Little waiting filled = (waiting ≡ None) × (filled < quarter_of_buffer)
+TellsFill Much waiting filled = (waiting ≡ None) × (quarter_of_buffer ≤ filled) × (filled < half_of_buffer)
+TellsFill Full waiting filled = IsSome waiting ⊎ (half_of_buffer ≤ filled)
 
 -- More may be loaded: no session is to be begun first, and there is room for a longest message.
 abbrev pub MayLoad : {W Opening Job Said : Type 0} → LadenView W Opening Job Said → Type 0

@@ -6,6 +6,7 @@ ghost use Rattle.ug_sender.specs.Posts.{AreHere, IsRosterOf, PumpsHere, PumpsToE
 
 use crate::dock::{Dock, Docks, Roster};
 use crate::lane::Lane;
+use crate::places::{put_in, take_out};
 use crate::worker::Worker;
 use std::alloc::Global;
 use std::marker::Model;
@@ -58,23 +59,19 @@ impl<W: Wire, M: Machine> Crew<W, M> {
         })
     }
 
-    /// A crew of these workers, with room for their lanes.
-    pub fn of(workers: Vec<Worker<W, M>>, room: Vec<Lane<W, M>>) -> Crew<W, M>
-        requires none { room.items ≡ [] }
-        requires room { vec_len workers ≤ vec_capacity room }
-        ensures { result ≡ workers.items }
+    /// Puts each lane that has a dock into it.
+    pub fn moor<R: Wait, N: Roster<M::Opening>>(self, rt: &R, docks: &Docks<N, W, M>) -> Self
+        requires here { AreHere N.turnstile (posts_of self) }
+        requires roster { IsRosterOf N.post (posts_of self) }
+        requires docks { docks.now ≤ length self }
+        ensures { posts_of result ≡ posts_of self }
     {
+        let Crew { mut workers, room } = self;
+        for place in 0..docks.len() {
+            let worker = moored(rt, docks.at(place), take_out(&mut workers, place), place);
+            put_in(&mut workers, place, worker);
+        }
         Crew { workers, room }
-    }
-
-    /// The workers, and room for their lanes.
-    pub fn into_parts(self) -> (Vec<Worker<W, M>>, Vec<Lane<W, M>>)
-        ensures workers { result.0.items ≡ self }
-        ensures none { result.1.items ≡ [] }
-        ensures room { vec_len result.0 ≤ vec_capacity result.1 }
-    {
-        let Crew { workers, room } = self;
-        (workers, room)
     }
 
     /// The number of workers.
@@ -138,6 +135,23 @@ fn enlist<W: Wire, M: Machine>(
         workers.push_reserved(Worker::here(lane));
     }
     workers
+}
+
+/// The worker with its lane in that dock, which is that of its place.
+fn moored<R: Wait, N: Roster<M::Opening>, W: Wire, M: Machine>(
+    rt: &R,
+    dock: &Dock<N, W, M>,
+    worker: Worker<W, M>,
+    place: usize,
+) -> Worker<W, M>
+    requires here { worker.post.turnstile ≡ N.turnstile }
+    requires post { worker.post ≡ N.post place }
+    ensures { result.post ≡ worker.post }
+{
+    match worker.into_here() {
+        Ok(lane) => Worker::moor(rt, dock, lane, place),
+        Err(worker) => worker,
+    }
 }
 
 /// The lanes of the workers, for which there is room.

@@ -5,22 +5,24 @@ ghost use Rattle.ug_sender.specs.Posts.{AreHere, PumpsHere, PumpsToEnd, posts_of
 
 use crate::crew::Crew;
 use crate::dock::{Docks, Intake, Roster};
+use crate::starter::Starter;
 use std::marker::Model;
 use std::sync::Wait;
 use ug_board::{Board, Machine};
 use ug_edge::Wire;
 use ug_turnstile::Turnstile;
 
-/// The lanes of a run at work: those that work here, and the docks of those that have threads. Contracts see of it what they see
-/// of the crew.
+/// The lanes of a run at work: those that work here, the docks of those that have threads, and what starts these. Contracts see
+/// of it what they see of the crew.
 #[derive(Drop)]
-pub struct Fleet<'d, N: Roster<M::Opening>, W: Wire, M: Machine> {
+pub struct Fleet<'d, N: Roster<M::Opening>, W: Wire, M: Machine, T: Starter> {
     crew: Crew<W, M>,
     docks: &'d Docks<N, W, M>,
     turnstile: &'d Turnstile<Board<M>>,
+    starter: T,
 }
 
-impl<'d, N: Roster<M::Opening>, W: Wire, M: Machine> Model for Fleet<'d, N, W, M> {
+impl<'d, N: Roster<M::Opening>, W: Wire, M: Machine, T: Starter> Model for Fleet<'d, N, W, M, T> {
     ghost use Rattle.std.specs.Prelude.{◌≡◌, List};
     ghost use Rattle.ug_sender.specs.Posts.{WorkerView};
 
@@ -28,23 +30,27 @@ impl<'d, N: Roster<M::Opening>, W: Wire, M: Machine> Model for Fleet<'d, N, W, M
 
     ghost view = { λ f. f.crew };
 
-    ghost invariant = { λ f. N.turnstile ≡ f.turnstile.now.id };
+    ghost invariant = { λ f. (N.turnstile ≡ f.turnstile.now.id) × T.can_start f.starter };
 }
 
-impl<'d, N: Roster<M::Opening>, W: Wire, M: Machine> Fleet<'d, N, W, M> {
-    /// The lanes of this crew, and these docks, all at this turnstile.
+impl<'d, N: Roster<M::Opening>, W: Wire, M: Machine, T: Starter> Fleet<'d, N, W, M, T> {
+    /// The lanes of this crew, and these docks, all at this turnstile, and what starts the thread of the lane at a place and answers
+    /// whether it did.
     pub fn of(
         crew: Crew<W, M>,
         docks: &'d Docks<N, W, M>,
         turnstile: &'d Turnstile<Board<M>>,
+        starter: T,
     ) -> Self
         requires here { N.turnstile ≡ turnstile.now.id }
+        requires starter { T.can_start starter }
         ensures { result ≡ crew }
     {
         Fleet {
             crew,
             docks,
             turnstile,
+            starter,
         }
     }
 
@@ -56,14 +62,27 @@ impl<'d, N: Roster<M::Opening>, W: Wire, M: Machine> Fleet<'d, N, W, M> {
         crew
     }
 
-    /// How many lanes have threads.
-    pub fn apart(&self) -> usize {
-        self.docks.len()
+    /// Takes what there is for each lane that lies in its dock, and tells what that was. It is the pass of that number. Threads of
+    /// lanes that have much to send are woken, those of others each in its turn.
+    pub fn load<R: Wait>(&self, rt: &R, pass: usize) -> Intake {
+        self.docks.load(rt, self.turnstile, &self.starter, pass)
     }
 
-    /// Takes what there is for each lane that lies in its dock, and tells what that was.
-    pub fn load<R: Wait>(&self, rt: &R) -> Intake {
-        self.docks.load(rt, self.turnstile)
+    /// Wakes the threads of lanes for which there may be something to do.
+    pub fn rouse<R: Wait>(&self, rt: &R) {
+        self.docks.rouse(rt, self.turnstile, &self.starter);
+    }
+
+    /// Leaves the lanes to their threads, and wakes those for which there may be something to do. It is for whoever takes nothing for
+    /// them for a while.
+    pub fn leave<R: Wait>(&self, rt: &R) {
+        self.docks.leave();
+        self.rouse(rt);
+    }
+
+    /// Leaves the lanes to their threads for ever.
+    pub fn dismiss(&self) {
+        self.docks.dismiss();
     }
 
     /// Pumps each lane that works here, in order, until there is nothing to send for now, and answers whether one of them did

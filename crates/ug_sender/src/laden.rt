@@ -6,7 +6,7 @@ ghost use Rattle.ug_board.specs.Rules.{buffer_size};
 ghost use Rattle.ug_turnstile.specs.Passes.{IsSamePass, StartsWith};
 ghost use Rattle.ug_sender.specs.declared.turn.Ending.TheVariants.{Idle, Stop, More};
 ghost use Rattle.ug_sender.specs.Lanes.{IdlesAt, IsAtRest, IsOfPeer, IsOver, IsSamePost, pass_deeds};
-ghost use Rattle.ug_sender.specs.Loads.{MayLoad, MissesLossOf, TellsLoad, TellsSend, half_of_buffer, unladen};
+ghost use Rattle.ug_sender.specs.Loads.{MayLoad, MissesLossOf, TellsFill, TellsLoad, TellsSend, unladen};
 ghost use Rattle.ug_sender.specs.Rounds.{TellsTurn, begun_by};
 
 use crate::lane::{Lane, open_after, with_calls};
@@ -19,7 +19,9 @@ use ug_edge::Wire;
 use ug_turnstile::{Pass, Turnstile};
 use ug_types::PeerId;
 
-/// Half of the bytes of a lane's buffer.
+/// A quarter of the bytes of a lane's buffer, and half of them.
+const QUARTER_OF_BUFFER: usize = 32768;
+
 const HALF_OF_BUFFER: usize = 65536;
 
 /// A lane that took packets which its wire has not got yet: they stand at the front of its buffer, and behind them the
@@ -37,13 +39,24 @@ pub struct Laden<W: Wire, M: Machine> {
     ending: Ending,
 }
 
+/// How much a lane has to send.
+#[derive(Clone, Copy, PartialEq, Eq)]
+pub enum Fill {
+    /// No session is to be begun, and less than a quarter of the buffer is filled.
+    Little,
+    /// No session is to be begun, and a quarter of the buffer is filled, but not half of it.
+    Much,
+    /// A session is to be begun, or half of the buffer is filled.
+    Full,
+}
+
 /// What a load came to.
 #[derive(Clone, Copy, PartialEq, Eq)]
 pub struct Load {
     /// Whether a packet or a session came.
     pub has_come: bool,
-    /// Whether it is to be sent soon: a session is to be begun, or half of the buffer is filled.
-    pub is_full: bool,
+    /// How much there is to send then.
+    pub fill: Fill,
     /// Whether all that there was is taken.
     pub rests: bool,
 }
@@ -101,13 +114,12 @@ impl<W: Wire, M: Machine> Laden<W, M> {
         ensures come { result.has_come ≡ true → pass_deeds M.rules self.new.lane.pass ≡ pass_deeds M.rules self.old.lane.pass → ⊥ }
         ensures rests { result.rests ≡ true → IsAtRest M.rules self.new.lane.peer self.new.lane.pass }
         ensures goes_on { MayLoad self.old → result.rests ≡ false → result.has_come ≡ true }
-        ensures full { result.is_full ≡ true → IsSome self.new.waiting ⊎ (half_of_buffer ≤ self.new.filled) }
-        ensures unfull { result.is_full ≡ false → (self.new.waiting ≡ None) × (self.new.filled < half_of_buffer) }
+        ensures fill { TellsFill result.fill self.new.waiting self.new.filled }
     {
         if self.ending.is_begun() || self.buf.len() - self.filled < LONGEST_MESSAGE {
             return Load {
                 has_come: false,
-                is_full: true,
+                fill: Fill::Full,
                 rests: false,
             };
         }
@@ -198,26 +210,38 @@ fn load_of(taken: Taken, filled: usize) -> Load
     ensures come { result.has_come ≡ true → (0 < taken.packets) ⊎ IsSome (begun_by taken.ending) }
     ensures rests { result.rests ≡ true → (taken.ending ≡ Idle) ⊎ (taken.ending ≡ Stop) }
     ensures goes_on { result.rests ≡ false → (result.has_come ≡ true) ⊎ (taken.ending ≡ More) }
-    ensures full { result.is_full ≡ true → IsSome (begun_by taken.ending) ⊎ (half_of_buffer ≤ filled) }
-    ensures unfull { result.is_full ≡ false → (begun_by taken.ending ≡ None) × (filled < half_of_buffer) }
+    ensures fill { TellsFill result.fill (begun_by taken.ending) filled }
 {
     let has_come = taken.packets > 0;
-    let is_full = filled >= HALF_OF_BUFFER;
+    let fill = fill_of(filled);
     match taken.ending {
         Ending::Begun { .. } => Load {
             has_come: true,
-            is_full: true,
+            fill: Fill::Full,
             rests: false,
         },
         Ending::Idle | Ending::Stop => Load {
             has_come,
-            is_full,
+            fill,
             rests: true,
         },
         Ending::More => Load {
             has_come,
-            is_full,
+            fill,
             rests: false,
         },
+    }
+}
+
+/// How much there is to send where so many bytes fill the buffer, and no session is to be begun.
+fn fill_of(filled: usize) -> Fill
+    ensures { TellsFill result None filled }
+{
+    if filled >= HALF_OF_BUFFER {
+        Fill::Full
+    } else if filled >= QUARTER_OF_BUFFER {
+        Fill::Much
+    } else {
+        Fill::Little
     }
 }

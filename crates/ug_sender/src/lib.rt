@@ -14,15 +14,16 @@ mod places;
 mod pumped;
 mod sending;
 mod serve;
+mod starter;
 mod turn;
 mod worker;
 
 pub use crew::Crew;
 pub use dock::{Dock, Docks, Intake, Roster};
 pub use fleet::Fleet;
-pub use laden::{Laden, Load};
+pub use laden::{Fill, Laden, Load};
 pub use lane::{Buffer, Lane, Returned};
-pub use places::{put_in, take_out};
 pub use pumped::{Pumped, Round};
 pub use serve::labour;
+pub use starter::{Starter, StarterBy};
 pub use worker::Worker;

@@ -9,7 +9,10 @@ use ug_board::Machine;
 use ug_edge::Wire;
 
 /// Takes out the worker at a place. There is then room for it.
-pub fn take_out<W: Wire, M: Machine>(workers: &mut Vec<Worker<W, M>>, place: usize) -> Worker<W, M>
+pub(crate) fn take_out<W: Wire, M: Machine>(
+    workers: &mut Vec<Worker<W, M>>,
+    place: usize,
+) -> Worker<W, M>
     requires within { place < vec_len workers.old }
     ensures worker { slice_get workers.old.items place ≡ Some result }
     ensures here { (id : _) → AreHere id (posts_of workers.old.items) → result.post.turnstile ≡ id }
@@ -21,7 +24,7 @@ pub fn take_out<W: Wire, M: Machine>(workers: &mut Vec<Worker<W, M>>, place: usi
 }
 
 /// Puts a worker of the post that was taken out into its place, for which there is room. The posts are then as before.
-pub fn put_in<W: Wire, M: Machine>(
+pub(crate) fn put_in<W: Wire, M: Machine>(
     workers: &mut Vec<Worker<W, M>>,
     place: usize,
     worker: Worker<W, M>,

@@ -76,8 +76,8 @@ pub(crate) fn pump_for_now<R: Wait, W: Wire, M: Machine>(
     unreachable!()
 }
 
-/// The work of a thread: it sends what was taken for the lane of this dock, and takes and sends what there is beyond that, until
-/// there is nothing more to send. Where there is nothing for now it rings for the builder, and waits until that rang.
+/// The work of a thread: it serves the lane of this dock until there is nothing more to send. Where there is nothing for now it rings
+/// for the builder, and waits until it is woken.
 pub fn labour<R: Wait, N: Roster<M::Opening>, W: Wire, M: Machine>(
     rt: &R,
     turnstile: &Turnstile<Board<M>>,
@@ -86,11 +86,10 @@ pub fn labour<R: Wait, N: Roster<M::Opening>, W: Wire, M: Machine>(
     requires here { N.turnstile ≡ turnstile.now.id }
 {
     for _ in rt.forever() {
-        let rings = turnstile.news().rings();
         if dock.serve(rt, turnstile) {
             return;
         }
         turnstile.back().ring();
-        turnstile.news().wait(rt, rings);
+        dock.wait(rt);
     }
 }

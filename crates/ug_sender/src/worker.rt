@@ -51,7 +51,7 @@ impl<W: Wire, M: Machine> Worker<W, M> {
     }
 
     /// A lane that has a thread of its own, and is put into its dock.
-    pub fn moor<R: Wait, N: Roster<M::Opening>>(
+    pub(crate) fn moor<R: Wait, N: Roster<M::Opening>>(
         rt: &R,
         dock: &Dock<N, W, M>,
         lane: Lane<W, M>,

@@ -29,12 +29,11 @@ type Board<S> = Table<
     Global,
 >;
 
-/// A state that threads take turns with, and two bells for those that wait for others to have had theirs. Contracts see
-/// which turnstile it is, and how many passes it has.
+/// A state that threads take turns with, and a bell for those that wait for others to have had theirs. Contracts see which
+/// turnstile it is, and how many passes it has.
 #[derive(Drop)]
 pub struct Turnstile<S: Logged> {
     table: Board<S>,
-    news: Bell,
     back: Bell,
 }
 
@@ -66,7 +65,6 @@ impl<S: Logged> Turnstile<S> {
         let passes = deal(&table.shared, base, n, passes);
         let turnstile = Turnstile {
             table,
-            news: Bell::new(),
             back: Bell::new(),
         };
         Ok((turnstile, passes))
@@ -111,11 +109,6 @@ impl<S: Logged> Turnstile<S> {
     {
         let Turn { state } = turn;
         self.put_home(pass, state);
-    }
-
-    /// The bell that is rung where there may be something to do for those that wait for work.
-    pub fn news(&self) -> &Bell {
-        &self.news
     }
 
     /// The bell that is rung where those that wait for work have done what there was.

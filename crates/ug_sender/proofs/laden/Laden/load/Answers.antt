@@ -1,10 +1,19 @@
-use Rattle.std.proofs.Common.{◌≡◌, ◌+◌, length, take, refl, sym, ◌∙◌, ap, arith}
+use Rattle.std.proofs.Common.{◌≡◌, ◌+◌, inl, inr, length, take, refl, sym, subst, ◌∙◌, ap, arith}
+use Rattle.std.specs.Prelude.{IsSome}
 use Rattle.ug_sender.specs.Lanes.{pass_deeds}
 use Rattle.ug_sender.proofs.Loads.{nothing-told, load-told, turn-adds, load-joined}
+use Rattle.ug_sender.proofs.laden.Laden.load.Goals.{then-is_begun-via-then-is_begun, then-is_begun-via-else-is_begun+then-len-self-lt-LONGEST_MESSAGE}
 use Rattle.ug_sender.proofs.laden.Laden.load.Goals as goal
 
 pub returns-then-is_begun-clause-told : goal.returns-then-is_begun-clause-told
 returns-then-is_begun-clause-told g c = nothing-told g.M.Machine.rules _
+
+pub returns-then-is_begun-clause-fill : goal.returns-then-is_begun-clause-fill
+returns-then-is_begun-clause-fill g c =
+    elim c.then-is_begun.branch [
+      | then-is_begun-via-then-is_begun w ↦ inl (subst (λ v. IsSome v.waiting) c.self.view_is (c.is_begun.ensures.yes w.if-is_begun.true))
+      | then-is_begun-via-else-is_begun+then-len-self-lt-LONGEST_MESSAGE w ↦ inr (let filled = ap (λ v. v.filled) c.self.view_is in let many = c.self.invariant.1 in omega (arith, filled, w.len.ensures, w.if-len-self-lt-LONGEST_MESSAGE.true, many))
+    ]
 
 pub invariant_of-self : goal.invariant_of-self
 invariant_of-self g c =
