@@ -16,7 +16,7 @@ use Rattle.ug_world.specs.Worlds.{past}
 use Rattle.ug_hearing.specs.declared.breach.Ending.{Ending}
 use Rattle.ug_hearing.specs.declared.breach.Breach.{Breach}
 use Rattle.ug_hearing.specs.Breaches as breaches
-use Rattle.ug_hearing.specs.Breaches.{IsOneOf, Unread, Stuck, Amiss, Short, Off, breach_cmp}
+use Rattle.ug_hearing.specs.Breaches.{IsOneOf, Unread, Stuck, Amiss, Short, Off}
 use Rattle.ug_audit_rules.specs.declared.entry.Entry.{Entry}
 use Rattle.ug_audit_rules.specs.Audited.{is_lost_in, marks_in, marks_to, open_table, IsHeardRight, IsFirstBreach}
 use Rattle.ug_audit_rules.proofs.InAList.{right-by, first-by}

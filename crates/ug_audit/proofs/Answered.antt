@@ -1,7 +1,7 @@
 -- What the files are said to be by an audit's answer.
-use Rattle.std.proofs.Common.{◌≡◌, ℕ, zero, suc, ◌+◌, ◌<◌, ◌≤◌, ◌⊎◌, inl, inr, Bool, true, false, List, [], ◌∷◌, ◌++◌, length, map, slice_get, Option, Some, None, Ok, refl, sym, ap, subst, ◌∙◌, arith, append_assoc}
+use Rattle.std.proofs.Common.{◌≡◌, ℕ, zero, suc, ◌+◌, ◌<◌, ◌≤◌, ◌⊎◌, inl, inr, true, List, [], ◌∷◌, ◌++◌, slice_get, Option, Some, None, Ok, refl, sym, ap, subst, ◌∙◌, arith, append_assoc}
 use Rattle.std.proofs.lemmas.Bool.{cases_lt}
-use Rattle.ug_edge.specs.Told.{AppendsAll, FileText, FileTold, Untold, Missing, Bytes, file_told, file_named, missing_or_bytes}
+use Rattle.ug_edge.specs.Told.{FileText, FileTold, Missing, file_told, file_named, missing_or_bytes}
 use Rattle.ug_world.specs.declared.peer_state.PeerState.{PeerState}
 use Rattle.ug_world.specs.World.{World}
 use Rattle.ug_config.specs.Worlds as configs
@@ -15,8 +15,8 @@ use Rattle.ug_report.specs.Statuses.{row_of}
 use Rattle.ug_audit_rules.specs.Lines.{said_in}
 use Rattle.ug_commands.specs.Words.{AuditCommand}
 use Rattle.ug_audit.specs.Files.{IsFile}
-use Rattle.ug_audit.specs.Sessions.{SessionOf, sessions_from, sessions_of_peers, sessions_of, file_name, file_of}
-use Rattle.ug_audit.specs.Auditing.{worlds_of, last_of, told_by, StandsFor, HasEvents, HasReport, IsHeard, IsCertified, IsBroken, AreRight, HasHeard, CameTo, IsRight, IsRefuted, IsUnread, IsTooLong, IsStarved, IsUnclear, IsAuditing}
+use Rattle.ug_audit.specs.Sessions.{SessionOf, sessions_from, sessions_of_peers, sessions_of, file_of}
+use Rattle.ug_audit.specs.Auditing.{worlds_of, last_of, told_by, HasReport, IsHeard, IsCertified, IsBroken, AreRight, IsRight, IsRefuted, IsTooLong, IsAuditing}
 use Rattle.ug_audit.specs.Auditing as audits
 use Rattle.ug_audit.specs.Right.{held_by, AreRight as AreRightFiles}
 

@@ -1,5 +1,5 @@
 -- How an audit that stopped ends.
-use Rattle.std.proofs.Common.{◌≡◌, ℕ, ◌⊎◌, inl, inr, List, [], ◌∷◌, Option, refl, sym, ap, subst, ◌∙◌}
+use Rattle.std.proofs.Common.{◌≡◌, ℕ, ◌⊎◌, inl, inr, List, [], ◌∷◌, Option, sym, subst, ◌∙◌}
 use Rattle.ug_edge.specs.Told.{FileTold, AppendsPiece}
 use Rattle.ug_pieces.specs.Reporting.{AppendsFront}
 use Rattle.ug_audit.specs.Texts.{unclear_text}

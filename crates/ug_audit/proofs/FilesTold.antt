@@ -1,8 +1,8 @@
 -- What is told of a file that was picked, and the names that were.
-use Rattle.std.proofs.Common.{◌≡◌, ℕ, ◌<◌, ◌≤◌, inl, inr, length, arith, length-append, List, [], ◌∷◌, ◌++◌, Option, Some, None, Result, Err, refl, sym, ap, subst, ◌∙◌, append_assoc}
+use Rattle.std.proofs.Common.{◌≡◌, ℕ, ◌<◌, ◌≤◌, inl, inr, length, arith, length-append, List, [], ◌∷◌, ◌++◌, Option, Some, None, Result, Err, sym, ap, subst, ◌∙◌, append_assoc}
 use Rattle.std.proofs.lemmas.List.{append-nil}
-use Rattle.ug_edge.specs.Told.{AppendsAll, TakesFront, IsEnded, HasPicked, FileText, Untold, Missing, Bytes, file_told, missing_or_bytes}
-use Rattle.ug_pieces.specs.Lines.{lines_of, ended_from}
+use Rattle.ug_edge.specs.Told.{AppendsAll, TakesFront, IsEnded, HasPicked, FileText, file_told, missing_or_bytes}
+use Rattle.ug_pieces.specs.Lines.{lines_of}
 use Rattle.ug_pieces.specs.Pieces.{HasRead}
 use Rattle.ug_audit_rules.specs.Told.{most_lines}
 use Rattle.ug_audit_rules.specs.Reading.{most_bytes}

@@ -1,18 +1,14 @@
 -- What is found of a session is what an auditor asks of it.
 use Rattle.std.proofs.Common.{◌≡◌, ℕ, zero, suc, ◌<◌, ◌≤◌, inl, inr, Bool, true, false, nat_le, List, [], ◌∷◌, ◌++◌, length, map, slice_get, codes, Option, Some, None, refl, sym, ap, subst, ◌∙◌, arith}
-use Rattle.std.specs.Global.{Vec}
 use Rattle.std.specs.Prelude.{◌&&◌, if◌then◌else◌}
 use Rattle.ug_types.specs.Bytes.{same_bytes}
 use Rattle.ug_types.specs.declared.mark.Mark.{Mark}
-use Rattle.ug_types.specs.Messages.{Message}
 use Rattle.ug_text.specs.Cutting.{pieces, ◌>>=◌}
 use Rattle.ug_pieces.specs.Lines.{lines_of}
-use Rattle.ug_message.specs.Tables.{Table}
 use Rattle.ug_world.specs.declared.peer_state.PeerState.{PeerState}
 use Rattle.ug_world.specs.World.{World}
 use Rattle.ug_world.specs.Private.{private_table}
 use Rattle.ug_world.specs.Worlds.{past}
-use Rattle.ug_hearing.specs.declared.breach.Ending.{Ending}
 use Rattle.ug_hearing.specs.declared.breach.Breach.{Breach}
 use Rattle.ug_hearing.specs.Breaches.{IsOneOf, IsReadAs}
 use Rattle.ug_audit_rules.specs.declared.entry.Entry.{Entry}
@@ -25,9 +21,8 @@ use Rattle.ug_hearing.specs.declared.session.Session.{Session}
 use Rattle.ug_hearing.specs.declared.judge.Judge.{Judge}
 use Rattle.ug_hearing.specs.Judged.{IsSession}
 use Rattle.ug_hearing.specs.Climbed.{AreOfJudged}
-use Rattle.ug_audit.specs.declared.verdict.Verdict.{Verdict}
 use Rattle.ug_audit.specs.declared.verdict.Verdict.TheVariants as verdicts
-use Rattle.ug_audit.specs.Verdicts.{most_bytes, Agrees, IsVerdictOn}
+use Rattle.ug_audit.specs.Verdicts.{most_bytes, IsVerdictOn}
 use Rattle.ug_audit.specs.Texts.{session_text}
 use Rattle.ug_audit.specs.declared.asked.Asked.{Asked}
 use Rattle.ug_audit.specs.Asked.{IsAsked, IsAimed, AreWithin, EndsWith}

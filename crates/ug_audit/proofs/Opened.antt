@@ -15,7 +15,7 @@ use Rattle.ug_world.specs.declared.peer_state.PeerState.{PeerState}
 use Rattle.ug_world.specs.World.{World}
 use Rattle.ug_world.specs.Names.{are_distinct}
 use Rattle.ug_world.specs.Kept.{peer_name}
-use Rattle.ug_world.specs.Parts.{IsGood, first_world, fresh, are_few, peer_names, is_local_good, names_of, is_map_good, is_policy_good, is_peer_good}
+use Rattle.ug_world.specs.Parts.{IsGood, fresh, are_few, peer_names, is_local_good, names_of, is_map_good, is_policy_good, is_peer_good}
 use Rattle.ug_world.specs.Verdicts.{verdict}
 use Rattle.ug_world.specs.After.{after}
 use Rattle.ug_world.specs.Worlds.{judged, world_after, last_world}

@@ -23,7 +23,7 @@ use Rattle.ug_audit.specs.declared.stop.Stop.{Stop}
 use Rattle.ug_audit.specs.declared.stop.Stop.TheVariants as own
 use Rattle.ug_audit.specs.Stopping.{IsTold, IsToldStop, IsPickStop}
 use Rattle.ug_audit.proofs.FilesTold.{rest_of, file_is, whole_is}
-use Rattle.ug_audit.specs.Files.{IsFile, IsWithin, IsPast, lines_where, lines_within}
+use Rattle.ug_audit.specs.Files.{IsFile, IsPast, lines_where, lines_within}
 
 -- The lines that were looked at are the first of those within the limits.
 record AreFirst (seen : List (List ℕ)) (bytes : List ℕ) : Type 0 where

@@ -1,17 +1,15 @@
 -- An audit goes from one file to the next.
 use Rattle.std.proofs.Common.{◌≡◌, ℕ, ◌<◌, ◌⊎◌, inl, inr, List, [], ◌∷◌, ◌++◌, length, map, Option, Ok, refl, sym, ap, subst, ◌∙◌, append_assoc}
-use Rattle.std.specs.String.{string_bytes}
 use Rattle.std.proofs.lemmas.List.{append-nil, map-append}
 use Rattle.ug_edge.specs.Told.{AppendsAll, FileTold}
 use Rattle.ug_world.specs.World.{World}
 use Rattle.ug_hearing.specs.declared.breach.Breach.{Breach}
 use Rattle.ug_hearing.specs.Breaches.{kind_number}
 use Rattle.ug_audit.specs.Verdicts as verdicts
-use Rattle.ug_audit.specs.Texts.{refuted_text}
 use Rattle.ug_commands.specs.Words.{AuditCommand}
-use Rattle.ug_audit.specs.Files.{IsFile, IsPast}
+use Rattle.ug_audit.specs.Files.{IsPast}
 use Rattle.ug_audit.specs.Sessions.{SessionOf, sessions_of, file_of}
-use Rattle.ug_audit.specs.Auditing.{last_of, StandsFor, HasEvents, HasReport, IsHeard, IsCertified, IsBroken, AreRight, HasHeard, files_before, files_to, CameTo, IsRight}
+use Rattle.ug_audit.specs.Auditing.{last_of, StandsFor, HasEvents, IsHeard, IsCertified, IsBroken, AreRight, files_before, files_to, CameTo, IsRight}
 use Rattle.ug_audit.specs.Auditing as audits
 use Rattle.ug_audit.specs.declared.stop.Stop.{Stop}
 use Rattle.ug_audit.specs.declared.stop.Stop.TheVariants as stops

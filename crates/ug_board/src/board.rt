@@ -179,13 +179,17 @@ impl<M: Machine> Board<M> {
         self.spent
     }
 
-    /// The history. It takes no memory.
-    pub fn into_history(self) -> HistoryList<M>
-        ensures history { result.items ≡ self.history }
+    /// The machine and the history. It takes no memory.
+    pub fn into_parts(self) -> (Box<M>, HistoryList<M>)
+        ensures history { result.1.items ≡ self.history }
         ensures legal { IsLegal M.rules self.opening self.history }
     {
-        let Board { history, .. } = self;
-        history
+        let Board {
+            machine,
+            history,
+            ..
+        } = self;
+        (machine, history)
     }
 }
 

@@ -17,7 +17,7 @@ use Rattle.ug_pack.specs.Ready.{key_order, IsSendable}
 use Rattle.ug_queue.proofs.Rests.{rests}
 use Rattle.ug_group_rules.specs.Packets.{Packet, Says, Withdrawn, Announced, EndOfRib, RefreshBegins, RefreshEnds, Out, same_out, wanted_rows}
 use Rattle.ug_group_rules.specs.Machine as machine
-use Rattle.ug_group_rules.specs.Machine.{System, Subgroup, Seat, owes, says_next, after_saying, formatted, given, reseated, with_seats, with_subgroup, subgroup_at, format_of}
+use Rattle.ug_group_rules.specs.Machine.{System, Subgroup, Seat, owes, says_next, after_saying, formatted, given, reseated, with_subgroup, subgroup_at, format_of}
 use Rattle.ug_group_rules.specs.Rules.{rest_due}
 use Rattle.ug_groups.specs.Standings.{IsFit}
 use Rattle.ug_groups.specs.Rows.{Row, Rows, row_at, any_at, HasRow, sub_of, with_row, formatted_row, is_full_row, may_format_row}

@@ -8,7 +8,7 @@ use Rattle.ug_board.specs.Deeds.{when}
 use Rattle.ug_world.specs.declared.peer_state.PeerState.{PeerState}
 use Rattle.ug_world.specs.World.{World}
 use Rattle.ug_group_rules.specs.Machine as machine
-use Rattle.ug_group_rules.specs.Machine.{Seat, System, seat_at, seat_of, handed_now, mark_at, marks_at}
+use Rattle.ug_group_rules.specs.Machine.{System, seat_at, seat_of, handed_now, mark_at, marks_at}
 use Rattle.ug_groups.specs.Rows.{Rows}
 use Rattle.ug_groups.specs.declared.member.Member.{Member}
 use Rattle.ug_groups.specs.Members.{seat_in, member_of, members_from, system, sub_in, sub_at}

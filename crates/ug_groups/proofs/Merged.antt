@@ -12,7 +12,7 @@ use Rattle.ug_speaker.specs.Counts.{sessions_at}
 use Rattle.ug_queue.specs.Queues.{place_of, from_place, rest_of, IsMember}
 use Rattle.ug_group_rules.specs.Packets.{Packet, same_group}
 use Rattle.ug_group_rules.specs.Machine as machine
-use Rattle.ug_group_rules.specs.Machine.{System, Subgroup, Seat, is_level, moved, reseated, with_seats, without_subgroup, merge}
+use Rattle.ug_group_rules.specs.Machine.{System, Subgroup, Seat, is_level, moved, reseated, without_subgroup, merge}
 use Rattle.ug_group_rules.specs.Rules.{rest_due}
 use Rattle.ug_group_rules.proofs.Groups.{group-same}
 use Rattle.ug_groups.specs.Rows.{Row, Rows, row_at, any_at, with_row, without_row, absorbing_row, may_merge_rows}

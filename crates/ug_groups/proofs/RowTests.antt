@@ -16,7 +16,7 @@ use Rattle.ug_queue.specs.Queues.{Queued, is_member, place_of, from_place, rest_
 use Rattle.ug_queue.proofs.Rests.{rests}
 use Rattle.ug_group_rules.specs.Packets.{Packet}
 use Rattle.ug_group_rules.specs.Machine as machine
-use Rattle.ug_group_rules.specs.Machine.{Seat, System, Subgroup, sits, left_in, queued, stands_first, stands_behind, is_there, is_so, any_from, some_so, is_full, is_parted, is_pending, is_level, owes, may_format, may_merge, must_part, is_ordered}
+use Rattle.ug_group_rules.specs.Machine.{Seat, sits, left_in, queued, stands_first, stands_behind}
 use Rattle.ug_groups.specs.Rows.{Row, Rows, row_at, any_at, is_parted_row, IsRow}
 use Rattle.ug_groups.specs.declared.member.Member.{Member}
 use Rattle.ug_groups.specs.Members.{rest_in, seat_in, member_of, members_from, sub_at, is_sub, is_queued}

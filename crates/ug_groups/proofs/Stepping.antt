@@ -18,7 +18,7 @@ use Rattle.ug_speaker.specs.Counts.{sessions_had, sessions_at}
 use Rattle.ug_queue.specs.Queues.{rest_of, shed, past_next}
 use Rattle.ug_group_rules.specs.Packets.{Packet}
 use Rattle.ug_group_rules.specs.Machine as machine
-use Rattle.ug_group_rules.specs.Machine.{System, Upshot, Begins, Hands, Rests, upshot, upshot_of, hands_by, first_left, after_upshot, after_next, with_session, with_handed, rest_behind}
+use Rattle.ug_group_rules.specs.Machine.{System, Upshot, Begins, Hands, Rests, upshot, upshot_of, hands_by, first_left, after_upshot, with_session, with_handed, rest_behind}
 use Rattle.ug_group_rules.specs.Rules.{group_rules, said_of, at_rest, text_for, rest_due}
 use Rattle.ug_groups.specs.declared.handed.Handed.{Handed}
 use Rattle.ug_groups.specs.Subgroups.{IsHanded, text_to}

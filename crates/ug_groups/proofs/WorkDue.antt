@@ -4,7 +4,7 @@ use Rattle.std.specs.Prelude.{IfNone, ◌==◌, ◌&&◌, ◌||◌, not}
 use Rattle.ug_world.specs.World.{World}
 use Rattle.ug_speaker.specs.Speech.{Prepares}
 use Rattle.ug_group_rules.specs.Machine as machine
-use Rattle.ug_group_rules.specs.Machine.{System, there, is_turn, legal}
+use Rattle.ug_group_rules.specs.Machine.{System, there, legal}
 use Rattle.ug_group_rules.specs.Rules.{purpose}
 use Rattle.ug_groups.specs.Rows.{Row, Rows, row_at, any_at, may_format_row, may_merge_rows, must_part_row, any_row, some_row, some_merge}
 use Rattle.ug_groups.specs.declared.member.Member.{Member}

@@ -177,7 +177,7 @@ fn answer<R: Threads + Wait + Sync, E: Site, K: Sink>(
 
 /// Runs a command with sessions, with a counter of its own, and answers its status. What `run` says of a status is said of this one.
 ///
-/// The history isn't given back piece by piece, which took a twelfth of a run: the process ends behind it.
+/// The history and the machine aren't taken apart, of which the first alone took a twelfth of a run: the process ends behind them.
 fn begin<L: Ledger, R: Threads + Wait + Sync, E: Site, K: Sink>(
     rt: &R,
     alloc: Global,
@@ -210,9 +210,11 @@ fn begin<L: Ledger, R: Threads + Wait + Sync, E: Site, K: Sink>(
     let Done {
         status,
         history,
+        machine,
         ..
     } = run(rt, alloc, words, site, report, &mut steps);
     forget(history);
+    forget(machine);
     status
 }
 

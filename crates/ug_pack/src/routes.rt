@@ -89,6 +89,7 @@ fn widened(alloc: Global, keys: &[V4Key]) -> Result<KeyList<Key>, NoMemory>
     ensures { IfOk result (λ wide. wide.items ≡ keys.now) }
 {
     let mut wide = Sequence::new(alloc);
+    wide.reserve(keys.len())?;
     for key in keys {
         let Ok(()) = wide.push(key.widen()) else {
             return Err(NoMemory);

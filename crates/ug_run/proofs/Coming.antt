@@ -1,12 +1,11 @@
 -- What a run comes to, by how its reading ended.
 use Rattle.std.proofs.Common.{◌≡◌, ℕ, ◌≤◌, Bool, true, false, List, [], ◌∷◌, ◌++◌, length, map, Option, Some, None, inl, inr, refl, sym, ◌∙◌, ap, subst, append_assoc, arith}
 use Rattle.std.specs.Prelude.{◌&&◌, not, ◌⊎◌, ◌==◌}
-use Rattle.std.specs.List.{concat, list_any, flat_map}
+use Rattle.std.specs.List.{concat, flat_map}
 use Rattle.std.proofs.lemmas.List.{append-nil}
 use Rattle.ug_types.specs.declared.mark.Mark.{Mark}
 use Rattle.ug_types.specs.Bytes.{is_empty}
-use Rattle.ug_edge.specs.Told.{Rose, IsEnded, HasPicked, FileText, WireName, file_told, AppendsPiece}
-use Rattle.ug_pieces.specs.Pieces.{HasRead}
+use Rattle.ug_edge.specs.Told.{Rose, IsEnded, HasPicked, WireName, file_told, AppendsPiece}
 use Rattle.ug_pieces.specs.Reporting.{AppendsFront}
 use Rattle.ug_pieces.specs.AppendingLaws.{AppendsPiece-more, AppendsFront-more}
 use Rattle.ug_board.specs.Entry.{Entry}
@@ -21,7 +20,7 @@ use Rattle.ug_speaker.specs.Speech.{Speech}
 use Rattle.ug_speaker.specs.Owes.{IsOpening, IsSpeaker}
 use Rattle.ug_speaker.specs.Story.{IsSound}
 use Rattle.ug_report.specs.declared.endings.Loss.{Loss}
-use Rattle.ug_report.specs.Report.{names_in, loss_text, counts_text, accepted_count, refused_count, line_texts, end_text, losses_from, losses_status}
+use Rattle.ug_report.specs.Report.{names_in, loss_text, counts_text, accepted_count, line_texts, end_text, losses_from, losses_status}
 use Rattle.ug_event_loop.specs.declared.grammar.Grammar.{Grammar}
 use Rattle.ug_event_loop.specs.declared.tally.Tally.{Tally}
 use Rattle.ug_event_loop.specs.declared.stop.Stop.TheVariants as stops
@@ -30,15 +29,15 @@ use Rattle.ug_event_loop.specs.declared.reading.End.TheVariants as ends
 use Rattle.ug_event_loop.specs.Standing.{said_by, AreLanes, IsTally, HasTaken, IsReportedUntil, StandsAt, StopsAt, Stands, Stops, BuilderView, BuilderStands, BuilderStops}
 use Rattle.ug_event_loop.specs.Files.{lines_read, IsPastLimits}
 use Rattle.ug_event_loop.specs.Turns.{IsEndedAt, IsClosedAt}
-use Rattle.ug_event_loop.specs.Reading.{Outside, IsNotBegun, EndsAt}
+use Rattle.ug_event_loop.specs.Reading.{Outside, EndsAt}
 use Rattle.ug_commands.specs.Files.{IsPartOf, AppendsThenStatus}
 use Rattle.ug_report.specs.Statuses.{status_text}
 use Rattle.ug_report.specs.declared.status.Status.{Status}
 use Rattle.ug_report.specs.declared.status.Status.TheVariants as statuses
-use Rattle.ug_commands.proofs.Ends.{rest_of, part_read, no_rest, not_missing, agrees_read, then_status, later_status}
+use Rattle.ug_commands.proofs.Ends.{rest_of, no_rest, not_missing, agrees_read, then_status}
 use Rattle.ug_event_loop.specs.Contents.{WireTold, Content}
 use Rattle.ug_event_loop.specs.Crew.{EachLaneFrom, IsCrewed, IsClosed, all_losses}
-use Rattle.ug_event_loop.specs.Kept.{IsKept, IsWireOf, IsWireRight, AreCounted}
+use Rattle.ug_event_loop.specs.Kept.{IsKept, IsWireOf, AreCounted}
 use Rattle.ug_event_loop.proofs.Lists.{each-front, each-join}
 use Rattle.ug_event_loop.proofs.Keeps.{closed-kept}
 use Rattle.ug_run.specs.Ends.{last_text, IsConcluded, CompletesBy, IsFinished}

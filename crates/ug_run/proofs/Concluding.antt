@@ -1,6 +1,6 @@
 -- How the last lines of a run keep what is said of them.
-use Rattle.std.proofs.Common.{◌≡◌, ℕ, ◌≤◌, slice_index_or, length, arith, List, [], ◌∷◌, ◌++◌, Option, Some, None, inl, inr, refl, sym, ◌∙◌, ap, subst}
-use Rattle.std.specs.Prelude.{◌⊎◌, slice_get}
+use Rattle.std.proofs.Common.{◌≡◌, ℕ, ◌≤◌, slice_index_or, length, arith, List, [], ◌∷◌, ◌++◌, Option, inl, inr, refl, sym, ◌∙◌, ap, subst}
+use Rattle.std.specs.Prelude.{◌⊎◌}
 use Rattle.ug_edge.specs.Told.{AppendsPiece}
 use Rattle.ug_pieces.specs.Reporting.{AppendsFront}
 use Rattle.ug_report.specs.declared.endings.Loss.{Loss}

@@ -8,7 +8,6 @@ use Rattle.ug_edge.specs.WireState.{WireState}
 use Rattle.ug_board.specs.Entry.{Entry}
 use Rattle.ug_board.specs.Rules.{Rules}
 use Rattle.ug_message.proofs.Sent.{sent_is_received}
-use Rattle.ug_message.specs.Streams.{IsSentForm}
 use Rattle.ug_events.specs.Events.{Happening, ComesUp, GoesDown, HasPaths, HasNone, HasPolicy, HasEntries, AsksAgain, SendsRequest, SendsList, Saying}
 use Rattle.ug_events.specs.Reads.{Reads}
 use Rattle.ug_events.specs.Views.{event_of}
@@ -38,11 +37,11 @@ use Rattle.ug_event_loop.specs.Reading.{first_of}
 use Rattle.ug_event_loop.specs.declared.grammar.Grammar.{Grammar}
 use Rattle.ug_event_loop.specs.declared.grammar.Grammar.TheVariants.{Every}
 use Rattle.ug_selfrun.specs.Lines.{line_of, lines_of, accepted_by, accepted_events}
-use Rattle.ug_selfrun.specs.Standings.{LeavesTable, HoldsTable, HoldTables}
+use Rattle.ug_selfrun.specs.Standings.{HoldsTable, HoldTables}
 use Rattle.ug_run.specs.Told.{RunTold}
 use Rattle.ug_run.specs.Outcomes.{Course, taken, marked, EndsWell, IsDoneBy, IsOutcome}
 use Rattle.ug_commands.specs.Files.{IsPartOf}
-use Rattle.ug_run.specs.Promise.{IsEarly, IsRun, IsPromised, IsCounted, IsCountedFrom, IsStopped, IsStoppedFrom}
+use Rattle.ug_run.specs.Promise.{IsEarly, IsRun, IsPromised, IsCounted, IsStopped, IsStoppedFrom}
 use Rattle.ug_run.specs.Drawn.{IsSummed, IsDrawnRun}
 
 -- ---- the lines

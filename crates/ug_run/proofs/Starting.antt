@@ -1,8 +1,8 @@
 -- A run before its first line.
 use Rattle.std.specs.Prelude.{◌⊎◌}
-use Rattle.std.proofs.Common.{◌≡◌, ℕ, zero, suc, ◌+◌, ◌≤◌, Bool, true, false, List, [], ◌∷◌, length, map, take, Option, Some, None, Result, Ok, Err, inl, inr, refl, sym, ◌∙◌, ap, subst, arith}
+use Rattle.std.proofs.Common.{◌≡◌, ℕ, ◌+◌, ◌≤◌, Bool, true, false, List, [], ◌∷◌, length, map, take, Option, Some, None, Result, Ok, Err, inl, inr, refl, sym, ◌∙◌, ap, subst, arith}
 use Rattle.std.proofs.lemmas.List.{append-nil, length-map}
-use Rattle.ug_edge.specs.Told.{Rose, IsFresh, TakesFront, HasPicked, WireName, WiresMade, Picks, AppendsAll, FileText, FileTold, file_told}
+use Rattle.ug_edge.specs.Told.{Rose, TakesFront, HasPicked, WireName, WiresMade, Picks, AppendsAll, FileText, FileTold, file_told}
 use Rattle.ug_board.specs.Deeds.{Each}
 use Rattle.ug_world.specs.World.{World}
 use Rattle.ug_report.specs.Report.{names_in}

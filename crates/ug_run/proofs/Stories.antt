@@ -1,9 +1,9 @@
 -- A run whose board is closed: its story is that of its lines, and each wire holds what its lane was handed.
-use Rattle.std.proofs.Common.{◌≡◌, ℕ, zero, suc, ◌+◌, ◌<◌, ◌≤◌, Bool, true, false, List, [], ◌∷◌, ◌++◌, length, map, slice_get, Option, Some, None, Ok, Err, inl, inr, refl, sym, ◌∙◌, ap, subst, arith}
+use Rattle.std.proofs.Common.{◌≡◌, ℕ, zero, suc, ◌+◌, ◌<◌, ◌≤◌, Bool, true, false, List, [], ◌∷◌, ◌++◌, length, map, slice_get, Option, Some, Ok, Err, inl, inr, refl, sym, ◌∙◌, ap, subst, arith}
 use Rattle.std.specs.Prelude.{◌==◌, ◌||◌, ◌&&◌, not, nat_lt, is_none, filter}
 use Rattle.std.specs.List.{list_any}
 use Rattle.std.proofs.lemmas.Bool.{cases_lt, eq-eqb}
-use Rattle.std.proofs.lemmas.List.{length-map, append-nil, append_cancel_left}
+use Rattle.std.proofs.lemmas.List.{append-nil, append_cancel_left}
 use Rattle.std.proofs.lemmas.List.Elements.{filter-append}
 use Rattle.atomic_table.specs.Seated.{TableId}
 use Rattle.ug_types.specs.declared.mark.Mark.{Mark}
@@ -23,18 +23,18 @@ use Rattle.ug_events.specs.Reads.{Reads}
 use Rattle.ug_events.specs.Grammar.{verb_of, routes_verb_of}
 use Rattle.ug_commands.proofs.EventLines.{line_sound}
 use Rattle.ug_speaker.specs.Speech.{Purpose, TakesEvent, MarksTold, Ends, Prepares, Speech}
-use Rattle.ug_speaker.specs.Owes.{IsTimely, StepsRight, IsOpening}
+use Rattle.ug_speaker.specs.Owes.{IsTimely, StepsRight}
 use Rattle.ug_world.specs.Verdicts.{verdict}
 use Rattle.ug_speaker.specs.Story.{IsSound, IsBetween, IsStory}
 use Rattle.ug_speaker.specs.StoryLaws.{story-between}
 use Rattle.ug_event_loop.specs.declared.grammar.Grammar.{Grammar}
 use Rattle.ug_event_loop.specs.declared.grammar.Grammar.TheVariants as grammars
-use Rattle.ug_event_loop.specs.Standing.{said_by, IsLaneStep, AreLanes, HasTaken}
+use Rattle.ug_event_loop.specs.Standing.{said_by, IsLaneStep, AreLanes}
 use Rattle.ug_event_loop.proofs.Worlds.{lanes-back, legal-back}
 use Rattle.ug_run.specs.Lanes.{AreAtPosts, AreKept}
 use Rattle.ug_event_loop.specs.Contents.{WireTold}
-use Rattle.ug_event_loop.specs.Crew.{EachLaneFrom, IsCrewed, IsClosed}
-use Rattle.ug_event_loop.proofs.Lists.{each-so, each-with, each-all, each-any, each-join, none-passes, get-there}
+use Rattle.ug_event_loop.specs.Crew.{EachLaneFrom, IsCrewed}
+use Rattle.ug_event_loop.proofs.Lists.{each-so, each-with, each-all, each-any, none-passes, get-there}
 use Rattle.ug_event_loop.proofs.Owned.{lane-at, own-steps}
 
 -- ---- what lines say is sound

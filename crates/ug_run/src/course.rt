@@ -27,13 +27,15 @@ use ug_speaker::Speaker;
 use ug_types::{NameList, NoMemory, Sequence, Steps};
 use ug_world::World;
 
-/// How a run ended, the wires that were made for it, in configured order, what was done, step by step, and whether its
-/// board was spent: memory ran out in the midst of a job, and no further job could be done.
+/// How a run ended, the wires that were made for it, in configured order, what was done, step by step, the machine of its
+/// board, if there was one, and whether that board was spent: memory ran out in the midst of a job, and no further job could be
+/// done. The machine is given back so that whoever ends then needn't take it apart.
 #[derive(Drop)]
 pub struct Done<W: Wire, S: Speaker> {
     pub status: Status,
     pub wires: WireList<W>,
     pub history: HistoryList<S>,
+    pub machine: Option<Box<S>>,
     pub spent: bool,
 }
 
@@ -49,6 +51,7 @@ impl<W: Wire, S: Speaker> Done<W, S> {
             status,
             wires,
             history: History::new(alloc),
+            machine: None,
             spent: false,
         }
     }

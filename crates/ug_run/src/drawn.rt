@@ -73,12 +73,14 @@ pub(crate) fn selfrun<S: Speaker, R: Threads + Wait + Sync, W: Wire, K: Sink, L:
         status,
         wires,
         history,
+        machine,
         spent,
     } = done;
     Done {
         status: end_drawn(alloc, number, &last, status, wires.as_slice(), report),
         wires: Sequence::new(alloc),
         history,
+        machine,
         spent,
     }
 }

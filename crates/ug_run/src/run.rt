@@ -186,7 +186,7 @@ impl<W: Wire, S: Speaker> Run<W, S> {
         put(&mut passes, pass);
         let board = turnstile.close(passes);
         let spent = board.is_spent();
-        let history = board.into_history();
+        let (machine, history) = board.into_parts();
         let outcome = Outcome {
             end,
             tally,
@@ -197,6 +197,7 @@ impl<W: Wire, S: Speaker> Run<W, S> {
             status,
             wires,
             history,
+            machine: Some(machine),
             spent,
         }
     }

@@ -25,13 +25,13 @@ unladen lane = record { lane = lane; filled = 0; waiting = None }
 
 -- how many bytes the buffer of a lane holds, a quarter of them, and half of them
 abbrev pub lane_buffer_size : ℕ
-lane_buffer_size = 131072
+lane_buffer_size = 262144
 
 abbrev pub quarter_of_buffer : ℕ
-quarter_of_buffer = 32768
+quarter_of_buffer = 65536
 
 abbrev pub half_of_buffer : ℕ
-half_of_buffer = 65536
+half_of_buffer = 131072
 
 -- What is told of how much a lane has to send, by the session that is to be begun, if there is one, and by how many bytes fill
 -- its buffer.

@@ -2,7 +2,8 @@
 //!
 //! To wake a thread costs as much as to take many packets. So the builder takes packets for lanes that lie in their docks,
 //! and their threads are woken once there is much to send, one after the other, or where nothing more comes for now. While the
-//! builder does that, a thread sends alone: what it took itself, other processors would have to get from each other.
+//! builder does that, a thread sends alone: turns of its own would hold the builder up. A thread that is late doesn't either, as
+//! long as there is room in its lane's buffer.
 //!
 //! A thread is started when it is woken for the first time: before a session begins there is nothing to do for it, and a
 //! program that has a second thread takes longer for each allocation.

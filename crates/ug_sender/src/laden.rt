@@ -20,9 +20,9 @@ use ug_turnstile::{Pass, Turnstile};
 use ug_types::PeerId;
 
 /// A quarter of the bytes of a lane's buffer, and half of them.
-const QUARTER_OF_BUFFER: usize = 32768;
+const QUARTER_OF_BUFFER: usize = 65536;
 
-const HALF_OF_BUFFER: usize = 65536;
+const HALF_OF_BUFFER: usize = 131072;
 
 /// A lane that took packets which its wire has not got yet: they stand at the front of its buffer, and behind them the
 /// session that began, if one did. Contracts see what they see of a lane, how many bytes fill its buffer, and the session that
@@ -71,7 +71,7 @@ impl<W: Wire, M: Machine> Model for Laden<W, M> {
 
     ghost view = { λ l. record { lane = record { wire = l.wire; made_for = W.made_for l.wire; pass = l.pass; peer = l.peer; latest = l.latest; unnoted = l.unnoted }; filled = l.filled; waiting = begun_by l.ending } };
 
-    ghost invariant = { λ l. KeepsLoad M.rules l.pass l.peer (W.sessions l.wire) (W.begun l.wire) (W.faults l.wire) l.latest l.unnoted (vec_items l.buf) l.filled l.ending × (vec_len l.buf ≡ 131072) };
+    ghost invariant = { λ l. KeepsLoad M.rules l.pass l.peer (W.sessions l.wire) (W.begun l.wire) (W.faults l.wire) l.latest l.unnoted (vec_items l.buf) l.filled l.ending × (vec_len l.buf ≡ 262144) };
 }
 
 impl<W: Wire, M: Machine> Laden<W, M> {

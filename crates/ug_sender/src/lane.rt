@@ -23,9 +23,9 @@ use ug_edge::Wire;
 use ug_turnstile::{Pass, Turnstile};
 use ug_types::{NoMemory, PeerId};
 
-/// The bytes of the buffer. The longest message has 65535: at least as many bytes are sent with one call, where there are
-/// so many.
-const BUFFER_SIZE: usize = 131072;
+/// The bytes of the buffer. The longest message has 65535, and a message is taken only where there is room for that: so at least
+/// three times as many bytes are sent with one call, where there are so many.
+const BUFFER_SIZE: usize = 262144;
 
 /// A wire to a peer, and the pass by which it is told what to send. Contracts see these, the session that is open and
 /// whether the loss of one was not taken. The wire holds what the pass was handed: each session that its entries begin,
@@ -44,7 +44,7 @@ pub struct Lane<W: Wire, M: Machine> {
 #[derive(Drop)]
 pub struct Buffer {
     bytes: Vec<u8>,
-    ghost size: { vec_len bytes ≡ 131072 },
+    ghost size: { vec_len bytes ≡ 262144 },
 }
 
 impl Buffer {
@@ -72,7 +72,7 @@ impl<W: Wire, M: Machine> Model for Lane<W, M> {
 
     ghost view = { λ l. record { wire = l.wire; made_for = W.made_for l.wire; pass = l.pass; peer = l.peer; latest = l.latest; unnoted = l.unnoted } };
 
-    ghost invariant = { λ l. KeepsLane M.rules l.pass l.peer (W.sessions l.wire) (W.begun l.wire) (W.faults l.wire) l.latest l.unnoted × (vec_len l.buf ≡ 131072) };
+    ghost invariant = { λ l. KeepsLane M.rules l.pass l.peer (W.sessions l.wire) (W.begun l.wire) (W.faults l.wire) l.latest l.unnoted × (vec_len l.buf ≡ 262144) };
 }
 
 impl<W: Wire, M: Machine> Lane<W, M> {

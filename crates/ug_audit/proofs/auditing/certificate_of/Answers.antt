@@ -1,4 +1,4 @@
-use Rattle.std.proofs.Common.{Err, rules, arith, ◌≡◌, ◌≤◌, ◌++◌, ◌∷◌, [], ℕ, List, length, Ok, Option, ap, subst, sym, refl, ◌∙◌}
+use Rattle.std.proofs.Common.{Err, rules, arith, ◌≡◌, ◌≤◌, ◌++◌, ◌∷◌, [], ℕ, List, Ok, ap, subst, sym, refl, ◌∙◌}
 use Rattle.ug_edge.specs.Told.{Rose, file_told, AppendsAll}
 use Rattle.std.specs.Global.{Vec}
 use Rattle.ug_types.specs.declared.sequence.Sequence.{Sequence}

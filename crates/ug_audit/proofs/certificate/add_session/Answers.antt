@@ -1,5 +1,5 @@
 use Rattle.std.proofs.Common.{List, ℕ, ◌∙◌, sym, subst}
-use Rattle.ug_audit.specs.Certified.{AddsClimbs, AddsSession}
+use Rattle.ug_audit.specs.Certified.{AddsSession}
 use Rattle.ug_audit.proofs.Writing.{behind-title}
 use Rattle.ug_audit.proofs.certificate.add_session.Goals as goal
 

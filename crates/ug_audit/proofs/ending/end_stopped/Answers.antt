@@ -1,5 +1,5 @@
 use Rattle.ug_audit.proofs.Ended.{ended_read, ended_memory, ended_limit, ended_unclear}
-use Rattle.ug_edge.specs.Told.{Rose, AppendsAll, file_told}
+use Rattle.ug_edge.specs.Told.{AppendsAll, file_told}
 use Rattle.ug_audit.proofs.ending.end_stopped.Goals as goal
 
 pub returns-in-Read-clause-ended : goal.returns-in-Read-clause-ended

@@ -1,4 +1,3 @@
-use Rattle.std.proofs.Common.{subst}
 use Rattle.ug_audit.proofs.Steps.{told_stop}
 use Rattle.ug_audit.specs.Stopping.{said}
 use Rattle.ug_edge.specs.Told.{file_told}

@@ -1,4 +1,4 @@
-use Rattle.std.proofs.Common.{[], inl, inr, refl, ◌∙◌, ap, arith}
+use Rattle.std.proofs.Common.{[], inl, inr, refl, ◌∙◌, arith}
 use Rattle.ug_report.specs.Report.{names_in}
 use Rattle.ug_config.specs.One.{one_world}
 use Rattle.ug_report.specs.declared.status.Status.TheVariants as statuses

@@ -1,4 +1,4 @@
-use Rattle.std.proofs.Common.{◌≡◌, ℕ, [], true, inl, inr, refl, Err, map, sym, subst, ◌∙◌, ap, arith}
+use Rattle.std.proofs.Common.{◌≡◌, ℕ, [], true, inl, inr, refl, map, sym, subst, ◌∙◌, ap}
 use Rattle.ug_edge.specs.Told.{Rose, file_told}
 use Rattle.ug_pieces.specs.ReadingLaws.{Rose-later}
 use Rattle.ug_commands.specs.Files.{AppendsThenStatus}

@@ -1,5 +1,4 @@
-use Rattle.std.proofs.Common.{◌∙◌, inl, sym, subst}
-use Rattle.std.specs.Prelude.{IfErr}
+use Rattle.std.proofs.Common.{◌∙◌, inl}
 use Rattle.ug_run.proofs.Setting.{stopped-all, on_ok}
 use Rattle.ug_run.proofs.setup.configure.Goals as goal
 

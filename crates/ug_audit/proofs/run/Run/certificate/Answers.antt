@@ -1,4 +1,4 @@
-use Rattle.std.proofs.Common.{rules, arith, ◌≡◌, ◌+◌, ◌<◌, ◌≤◌, ℕ, List, [], length, drop, ap, subst, sym, refl, ◌∙◌}
+use Rattle.std.proofs.Common.{rules, arith, ◌≡◌, ◌+◌, ◌<◌, ◌≤◌, List, [], length, drop, ap, subst, ◌∙◌}
 use Rattle.ug_edge.specs.Told.{file_told, AppendsAll}
 use Rattle.ug_audit.specs.Sessions.{SessionOf, sessions_of_peers}
 use Rattle.ug_audit.specs.Stopping.{last_in, IsAt}

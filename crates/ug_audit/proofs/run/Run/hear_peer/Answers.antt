@@ -1,6 +1,5 @@
-use Rattle.std.proofs.Common.{rules, arith, ◌≡◌, ◌+◌, ◌-◌, ◌++◌, ℕ, List, ap, subst, sym, refl, ◌∙◌, length, slice_get, Some, Option}
+use Rattle.std.proofs.Common.{rules, arith, ◌≡◌, ◌+◌, ◌-◌, ◌++◌, ℕ, List, ap, subst, sym, refl, ◌∙◌, length}
 use Rattle.ug_edge.specs.Told.{file_told, AppendsAll}
-use Rattle.ug_world.specs.declared.peer_state.PeerState.{PeerState}
 use Rattle.ug_audit_rules.specs.Timelines.{IsTimeline, HasSessions}
 use Rattle.ug_audit_rules.specs.Histories.{AreTimelines}
 use Rattle.ug_audit.specs.Sessions.{sessions_from}

@@ -1,10 +1,10 @@
-use Rattle.std.proofs.Common.{ap, subst, sym, refl, List, ℕ}
+use Rattle.std.proofs.Common.{subst, sym}
 use Rattle.ug_edge.specs.Told.{file_told}
 use Rattle.ug_hearing.specs.declared.session.Session.{Session}
 use Rattle.ug_audit.specs.Asked.{IsAsked}
 use Rattle.ug_audit.specs.Auditing.{worlds_of}
 use Rattle.ug_audit.specs.Stopping.{last_in}
-use Rattle.ug_audit.proofs.Placed.{version_few, peer_last, kept_of, aims_by, file_stops, starves_unpicked, starves_picked, broken_stops, right_goes_on}
+use Rattle.ug_audit.proofs.Placed.{version_few, peer_last, kept_of, aims_by, file_stops, starves_picked, broken_stops, right_goes_on}
 use Rattle.ug_audit.proofs.Steps.{starves_between}
 use Rattle.ug_audit.proofs.run.Run.hear_session.Goals as goal
 

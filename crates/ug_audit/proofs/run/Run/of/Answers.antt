@@ -1,10 +1,6 @@
-use Rattle.std.proofs.Common.{◌≡◌, subst, ap, sym, List, ℕ}
+use Rattle.std.proofs.Common.{◌≡◌, subst}
 use Rattle.ug_world.specs.World.{World}
-use Rattle.ug_audit_rules.specs.declared.timelines.Timelines.{Timelines}
-use Rattle.ug_audit_rules.specs.Histories.{AreTimelines}
-use Rattle.ug_audit.specs.Auditing.{worlds_of, last_of}
 use Rattle.ug_audit.specs.Last.{IsLast}
-use Rattle.ug_audit.specs.declared.last.Last.{Last}
 use Rattle.ug_audit.proofs.run.Run.of.Goals as goal
 
 pub returns-clause-run : goal.returns-clause-run

@@ -1,6 +1,5 @@
 use Rattle.std.proofs.Common.{false, List, ap, ◌∙◌, arith}
 use Rattle.ug_group_rules.specs.Machine as machine
-use Rattle.ug_group_rules.specs.Machine.{System}
 use Rattle.ug_groups.specs.declared.member.Member.{Member}
 use Rattle.ug_groups.specs.Members.{system}
 use Rattle.ug_groups.proofs.ListFacts.{put-back}

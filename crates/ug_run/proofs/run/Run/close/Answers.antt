@@ -59,11 +59,11 @@ returns-clause-history g c =
     let whole = c.put.ensures.items ∙ ap (λ ps. ps ++ c.into_parts-pass.result.0 ∷ []) c.part-unnoted.ensures.passes in
     let i = c.self.inside in
     let pass = c.into_parts-pass.result.0 in
-    let history = c.into_history-history.result.items in
+    let history = c.into_parts-machine.result.1.items in
     subst (λ run. IsHistoryOf g.S.Machine.rules run.builder.pass run.lanes history) c.self.view_is
     (subst (λ p. IsHistoryOf g.S.Machine.rules p i.lanes.items history) c.into_parts-pass.ensures.pass
     (history_of g.S.Machine.rules i.turnstile.id pass i.lanes.items c.close-board.result.opening c.close-board.result.history history c.put.new.list.items
-    at first whole c.into_history-history.ensures.history c.into_history-history.ensures.legal c.close-board.ensures.agrees c.close-board.ensures.owned))
+    at first whole c.into_parts-machine.ensures.history c.into_parts-machine.ensures.legal c.close-board.ensures.agrees c.close-board.ensures.owned))
 
 pub returns-clause-only : goal.returns-clause-only
 returns-clause-only g c other hist =
@@ -79,7 +79,7 @@ returns-clause-only g c other hist =
     (subst (λ run. IsHistoryOf g.S.Machine.rules run.builder.pass run.lanes other) (sym c.self.view_is) hist) in
     c.close-board.ensures.only other
     (told_by g.S.Machine.rules i.turnstile.id pass i.lanes.items c.close-board.result.opening other c.put.new.list.items at first whole root here)
-    ∙ sym c.into_history-history.ensures.history
+    ∙ sym c.into_parts-machine.ensures.history
 
 pub returns-clause-spent : goal.returns-clause-spent
 returns-clause-spent g c is =
@@ -97,7 +97,7 @@ returns-clause-open g c is root known =
     let here = (last_of_all (Agrees (λ entry. entry.pass) c.close-board.result.opening c.close-board.result.history) (map (λ lane. lane.pass) c.self.inside.lanes.items) pass agrees).0 in
     let was = ap (λ p. p.root) c.into_parts-pass.ensures.pass ∙ (ap (λ run. run.builder.pass.root) c.self.view_is ∙ known) in
     let same = some_is c.close-board.result.opening root (sym here ∙ was) in
-    subst (λ h. MayGoOn g.S.Machine.rules root h) (sym c.into_history-history.ensures.history)
+    subst (λ h. MayGoOn g.S.Machine.rules root h) (sym c.into_parts-machine.ensures.history)
     (subst (λ r. MayGoOn g.S.Machine.rules r c.close-board.result.history) same (c.is_spent-spent.ensures.open is))
 
 pub returns-clause-wires : goal.returns-clause-wires
@@ -111,7 +111,7 @@ returns-clause-kept g c = subst (λ run. AreKept g.S.Machine.rules g.W.Wire.sess
 
 pub returns-clause-finished : goal.returns-clause-finished
 returns-clause-finished g c =
-    finished-at c.args.self c.as_slice.result.now c.self.inside.peers c.tally-tally.result c.part-unnoted.result c.into_history-history.result.items _ _ _ c.args.end c.finish-status.result
+    finished-at c.args.self c.as_slice.result.now c.self.inside.peers c.tally-tally.result c.part-unnoted.result c.into_parts-machine.result.1.items _ _ _ c.args.end c.finish-status.result
     (c.as_slice.ensures ∙ (c.into_parts-pass.ensures.names ∙ ap (λ run. run.builder.names) c.self.view_is))
     (c.self.invariant.all ∙ ap (λ run. length run.lanes) c.self.view_is)
     (c.tally-tally.ensures ∙ ap (λ run. run.builder.tally) c.self.view_is)
