@@ -11,7 +11,7 @@ profile() {
     config "${PEERS:-32}" 1 "${COALESCE:-4096}" > "$work/config"
     events "${PREFIXES:-200000}" "${PEERS:-32}" "$1" > "$work/events"
     mkdir -p "$work/there"
-    perf record -q -F 999 -o "$work/profile" "$program" run "$work/config" "$work/events" "$work/there" --workers 0 > "$work/report" 2> /dev/null
+    perf record -q -F 4999 -o "$work/profile" "$program" run "$work/config" "$work/events" "$work/there" --workers 0 > "$work/report" 2> /dev/null
     rm -rf "$work/there"
     perf report -i "$work/profile" --stdio --sort symbol 2> /dev/null | awk '$1 ~ /%$/ {
         sub(/%/, "", $1)

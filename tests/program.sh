@@ -16,9 +16,10 @@ printf 'paths 10.0.0.0/8 id=1 from=local nh=0.0.0.0 origin=igp as=-\n' > events
 (cat events; echo 'withdraw 10.0.0.0/8') > gone
 (cat gone; echo 'withdraw 10.0.0.0/8') > gone-twice
 
-# run WORDS..: runs the program, and keeps its exit number, its report and what it says of errors.
+# run WORDS..: runs the program, and keeps its exit number, its report and what it says of errors. One that doesn't end within a
+# minute has 124.
 run() {
-    said=$("$program" "$@" 2> errors)
+    said=$(timeout 60 "$program" "$@" 2> errors)
     code=$?
     errors=$(cat errors)
 }
@@ -262,8 +263,19 @@ ends "run over routes with the same communities" 0 "accepted 20001 refused 0"
 said=$(ulimit -v 12000; "$program" check there/p1.1 2> errors | tail -n 1)
 [ "$said" = "messages 26 eors 1 rows 20000 rest 0" ] && note "check of routes that share their attributes" ok || note "check of routes that share their attributes" "$said"
 
+# Waits until what was begun last has ended, and keeps its exit number: 137 where it doesn't end within a minute.
+end_last() {
+    for ((looks = 0; looks < 3000; looks++)); do
+        [ -n "$(readlink /proc/$!/exe)" ] || break
+        sleep 0.02
+    done
+    kill -KILL $! 2> errors
+    wait $! 2> errors
+    code=$?
+}
+
 # How many threads there are before the session begins and after it, while EVENTS is a pipe into which nothing more is written. The
-# report tells the refused line once it is read.
+# report tells the refused line once it is read. Then the file ends, and all threads with it: a run that doesn't has status 137.
 threads() {
     rm -rf there/*
     mkfifo slowly
@@ -282,12 +294,13 @@ threads() {
     done
     said+=" $(ls /proc/$!/task | wc -l)"
     exec 7>&-
-    wait $!
+    end_last
     rm slowly
 }
 threads 1
 [ "$said" = "1 2" ] && note "a thread beside that of the events for each peer with a session" ok ||
     note "a thread beside that of the events for each peer with a session" "$said threads"
+[ "$code" = 0 ] && note "threads end where the file does" ok || note "threads end where the file does" "status $code"
 threads 0
 [ "$said" = "1 1" ] && note "one thread without workers" ok || note "one thread without workers" "$said threads"
 
@@ -297,8 +310,8 @@ said=1
 while [ "$said" = 1 ] && [ -n "$(readlink /proc/$!/exe)" ]; do
     said=$(ls /proc/$!/task | wc -l)
 done
-wait $!
-[ "$said" -gt 1 ] && note "threads of a selfrun" ok || note "threads of a selfrun" "$said threads"
+end_last
+[ "$said" -gt 1 ] && [ "$code" = 0 ] && note "threads of a selfrun" ok || note "threads of a selfrun" "$said threads, status $code"
 
 # ---- what `run` takes at most
 
