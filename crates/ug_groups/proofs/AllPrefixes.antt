@@ -8,7 +8,7 @@ use Rattle.std.specs.Ordering.{ordering_then, is_eq}
 use Rattle.std.specs.declared.cmp.Ordering.{Ordering}
 use Rattle.std.specs.declared.cmp.Ordering.TheVariants.{Less}
 use Rattle.std.specs.Ordering.{nat_cmp}
-use Rattle.std.specs.BTreeMap.{is_at}
+use Rattle.std.specs.BTreeMap.{insert_entry, is_at}
 use Rattle.std.proofs.lemmas.Map.Keys.{sorted_head, sorted_tail}
 use Rattle.ug_types.specs.Ip.{IpPrefix, same_family}
 use Rattle.ug_types.specs.Keys.{prefix_cmp, prefix_cmp_total, same_prefix, family_rank}
@@ -89,6 +89,12 @@ pub none-left : (routes : Routes) (prefix : IpPrefix) → IsStrictlySortedBy pre
 none-left routes prefix sorted =
     ap (λ (o : Option (List Path)). unwrap_or o [])
     (ap (λ (test : IpPrefix → Bool). lookup test (remove_entry test routes)) (sym (found_same prefix)) ∙ value_at-here prefix_cmp_total prefix_cmp-IsAntisymmetric routes prefix None sorted)
+
+-- the paths that were set are those of the prefix
+pub row-set : (routes : Routes) (prefix : IpPrefix) (paths : List Path) → IsStrictlySortedBy prefix_cmp (keys_of routes) → paths_to (insert_entry prefix_cmp routes prefix paths) prefix ≡ paths
+row-set routes prefix paths sorted =
+    ap (λ (o : Option (List Path)). unwrap_or o [])
+    (ap (λ (test : IpPrefix → Bool). lookup test (insert_entry prefix_cmp routes prefix paths)) (sym (found_same prefix)) ∙ value_at-here prefix_cmp_total prefix_cmp-IsAntisymmetric routes prefix (Some paths) sorted)
 
 -- ---- keys in order
 

@@ -23,10 +23,10 @@ use Rattle.ug_group_rules.specs.Machine.{Subgroup, retabled}
 use Rattle.ug_group_rules.specs.Touched.{IsKeptIn}
 use Rattle.ug_group_rules.proofs.TouchedKeys.{no-keys}
 use Rattle.ug_group_rules.proofs.WantedTables.{rows-value, has-among, without-path}
-use Rattle.ug_groups.specs.TableChanges.{Changes, IsOwnKey, IsUnder, changes_to, keys_before, with_changes}
+use Rattle.ug_groups.specs.TableChanges.{AreNumbered, Changes, IsOwnKey, IsUnder, changes_to, keys_before, with_changes}
 use Rattle.ug_groups.proofs.KeyLists.{all-weaker}
 use Rattle.ug_groups.proofs.ChangeKeys.{no-changes}
-use Rattle.ug_groups.proofs.Walked.{AreNumbered, paths-numbered}
+use Rattle.ug_groups.proofs.Walked.{paths-numbered}
 use Rattle.ug_groups.proofs.Retabled.{AreWanted, changed-table}
 use Rattle.ug_groups.proofs.OnePrefix.{AreOf, changes-of, changes-wanted, none-wanted}
 

@@ -1,21 +1,27 @@
 -- What an event makes of all rows, and how often it asks.
-use Rattle.std.proofs.Common.{◌≡◌, ℕ, ◌+◌, Bool, true, false, List, [], ◌∷◌, refl, sym, ◌∙◌, ap, subst, arith}
+use Rattle.std.proofs.Common.{◌≡◌, ℕ, ◌+◌, Bool, true, false, List, [], ◌∷◌, map, refl, sym, ◌∙◌, ap, subst, arith}
 use Rattle.std.specs.List.{filter, sum_by}
 use Rattle.std.specs.List.Sorted.{IsStrictlySortedBy}
 use Rattle.std.specs.Map.{keys_of, remove_entry}
+use Rattle.std.specs.BTreeMap.{insert_entry}
 use Rattle.std.proofs.lemmas.List.Sums.{sum_by-cons}
 use Rattle.std.specs.Prelude.{◌||◌, cond, if◌then◌else◌}
 use Rattle.ug_types.specs.Ip.{IpPrefix, same_family}
 use Rattle.ug_types.specs.Keys.{prefix_cmp, same_prefix}
 use Rattle.ug_types.specs.declared.key.Key.{Key}
-use Rattle.ug_events.specs.Events.{Happening, ComesUp, GoesDown, HasPaths, HasNone, HasPolicy, HasEntries, AsksAgain, SendsRequest, SendsList}
+use Rattle.ug_types.specs.declared.route.Path.{Path}
+use Rattle.ug_events.specs.Events.{Happening, IsEvent, ComesUp, GoesDown, HasPaths, HasNone, HasPolicy, HasEntries, AsksAgain, SendsRequest, SendsList}
+use Rattle.ug_outbound.specs.Outbound.{out}
 use Rattle.ug_outbound.specs.declared.key.GroupKey.{GroupKey}
 use Rattle.ug_world.specs.World.{Routes, World, paths_to}
 use Rattle.ug_world.specs.Private.{keys_to, wanted}
 use Rattle.ug_world.specs.After.{after}
 use Rattle.ug_world.specs.Good.{IsGoodWorld}
 use Rattle.ug_world.specs.Touches.{decides_for}
+use Rattle.ug_world.specs.Verdicts.{path_of, told_row, with_paths}
+use Rattle.ug_world.proofs.GoodWorlds.{good-after}
 use Rattle.ug_world.proofs.Keeping.{kept}
+use Rattle.ug_pack.specs.Ready.{key_order}
 use Rattle.ug_group_rules.specs.Machine.{Subgroup, retabled}
 use Rattle.ug_group_rules.specs.Packets.{same_group}
 use Rattle.ug_group_rules.specs.Evaluations.{has_key, paths_heeded, all_heeded, paths_touched}
@@ -24,16 +30,35 @@ use Rattle.ug_group_rules.specs.Touched.{IsKeptIn}
 use Rattle.ug_group_rules.proofs.TouchedKeys.{event-touched, no-keys}
 use Rattle.ug_groups.specs.Rows.{Row, Rows, keys_in, with_sub, each_row}
 use Rattle.ug_groups.specs.declared.scope.Scope.TheVariants.{Under, All}
-use Rattle.ug_groups.specs.TableChanges.{Changes, IsUnder, IsList, IsOfPeer, changes_by, changes_of, changes_in, heeded_in, keys_before, keys_decided, some_add_path, with_changes, by_keys, each_by_key}
+use Rattle.ug_groups.specs.TableChanges.{AreNumbered, Changes, IsUnder, IsList, IsOfPeer, changes_by, changes_in, changes_of, changes_to, clearing, of_first, with_each_path, heeded_in, keys_before, keys_decided, some_add_path, with_changes, by_keys, each_by_key}
 use Rattle.ug_groups.specs.Entered.{AreKept, entering, retabled_row}
+use Rattle.ug_groups.proofs.Walked.{paths-numbered}
 use Rattle.ug_groups.proofs.Reached.{mapped_none, changes-key}
 use Rattle.ug_groups.proofs.ByKeys.{each-same, row-met, by-some}
 use Rattle.ug_groups.proofs.Retabled.{changed-table}
 use Rattle.ug_groups.proofs.PrefixEvents.{kept-wanted, prefix-retabled}
-use Rattle.ug_groups.proofs.AllPrefixes.{none-left, all-are-wanted, none-elsewhere}
+use Rattle.ug_groups.proofs.AllPrefixes.{none-left, row-set, all-are-wanted, none-elsewhere}
 
 changed_row : (one other : Subgroup → Subgroup) (r : Row) → one r.sub ≡ other r.sub → with_sub one r ≡ with_sub other r
 changed_row one other r same = ap (λ (x : Subgroup). record { sub = x; queue = r.queue }) same
+
+-- ---- what goes out hangs on the settings and the policies of a world alone
+
+module _ (v w : World) (tables : v.tables ≡ w.tables) (local : v.local ≡ w.local) (prefix : IpPrefix) (key : GroupKey) where
+  each_alike : (changes : Changes) (paths : List Path) → with_each_path key v prefix changes paths ≡ with_each_path key w prefix changes paths
+  each_alike changes [] = refl
+  each_alike changes (p ∷ paths) = λ i. insert_entry key_order (each_alike changes paths i) (record { prefix = prefix; id = p.id }) (out key (tables i) (local i) prefix p)
+
+  first_alike : (paths : List Path) → of_first key v prefix paths ≡ of_first key w prefix paths
+  first_alike [] = refl
+  first_alike (p ∷ paths) = λ i. out key (tables i) (local i) prefix p
+
+  by_alike : (b : Bool) (before : List Key) (paths : List Path) → changes_by b key v prefix before paths ≡ changes_by b key w prefix before paths
+  by_alike false before paths = λ i. (record { prefix = prefix; id = 0 }, first_alike paths i) ∷ []
+  by_alike true before paths = each_alike (clearing before) paths
+
+  to_alike : (before : List Key) (paths : List Path) → changes_to v prefix before paths key ≡ changes_to w prefix before paths key
+  to_alike before paths = λ i. if same_family key.family prefix.family then by_alike key.add_path before paths i else []
 
 -- ---- an event about a prefix
 
@@ -49,11 +74,11 @@ none-adds (k ∷ keys) key there none = by (same_group key k) refl there (k.add_
 
 module _ (e : Happening) (prefix : IpPrefix) (w : World) (about : IsUnder prefix e) where
   pub prefix-rows : IsGoodWorld w → (rows : Rows) → AreKept w rows
-      → each_by_key (λ key. with_changes (changes_in (after w e) (Under prefix) (keys_to true prefix (paths_to w.routes prefix)) key)) rows ≡ each_row (retabled_row (after w e)) rows
+      → each_by_key (λ key. with_changes (changes_in (after w e) (Under prefix) (keys_to true prefix (paths_to w.routes prefix)) (paths_to (after w e).routes prefix) key)) rows ≡ each_row (retabled_row (after w e)) rows
   prefix-rows good rows kept =
-      each-same (λ (r : Row). with_sub (with_changes (changes_in (after w e) (Under prefix) (keys_to true prefix (paths_to w.routes prefix)) r.sub.key)) r) (retabled_row (after w e)) rows
+      each-same (λ (r : Row). with_sub (with_changes (changes_in (after w e) (Under prefix) (keys_to true prefix (paths_to w.routes prefix)) (paths_to (after w e).routes prefix) r.sub.key)) r) (retabled_row (after w e)) rows
       (λ g r at.
-      changed_row (with_changes (changes_in (after w e) (Under prefix) (keys_to true prefix (paths_to w.routes prefix)) r.sub.key)) (retabled (after w e)) r
+      changed_row (with_changes (changes_in (after w e) (Under prefix) (keys_to true prefix (paths_to w.routes prefix)) (paths_to (after w e).routes prefix) r.sub.key)) (retabled (after w e)) r
       (prefix-retabled e prefix w about good r.sub (kept g r at)))
 
   no_heeded : (b : Bool) → paths_heeded b [] ≡ 0
@@ -64,10 +89,10 @@ module _ (e : Happening) (prefix : IpPrefix) (w : World) (about : IsUnder prefix
   unfolding after
   removed_routes p = refl
 
-  pub prefix-touched : IsStrictlySortedBy prefix_cmp (keys_of w.routes) → (key : GroupKey) → heeded_in (Under prefix) key.add_path (after w e) ≡ paths_touched e key (after w e)
+  pub prefix-touched : IsStrictlySortedBy prefix_cmp (keys_of w.routes) → (key : GroupKey) → heeded_in (Under prefix) (paths_to (after w e).routes prefix) key.add_path w ≡ paths_touched e key (after w e)
   prefix-touched sorted key = by e about
     where
-      by : (e : Happening) → IsUnder prefix e → heeded_in (Under prefix) key.add_path (after w e) ≡ paths_touched e key (after w e)
+      by : (e : Happening) → IsUnder prefix e → heeded_in (Under prefix) (paths_to (after w e).routes prefix) key.add_path w ≡ paths_touched e key (after w e)
       by (HasPaths p paths) about = ap (λ (q : IpPrefix). paths_heeded key.add_path (paths_to (after w (HasPaths p paths)).routes q)) (sym about)
       by (HasNone p) about =
           ap (λ (q : IpPrefix). paths_heeded key.add_path (paths_to (after w (HasNone p)).routes q)) (sym about)
@@ -80,12 +105,12 @@ module _ (e : Happening) (prefix : IpPrefix) (w : World) (about : IsUnder prefix
       by (SendsRequest name) about = absurd about
       by (SendsList name request) about = absurd about
 
-  pub prefix-asked : IsStrictlySortedBy prefix_cmp (keys_of w.routes) → (rows : Rows) → sum_by (λ (key : GroupKey). heeded_in (Under prefix) key.add_path (after w e)) (keys_in rows) ≡ entering e w rows
+  pub prefix-asked : IsStrictlySortedBy prefix_cmp (keys_of w.routes) → (rows : Rows) → sum_by (λ (key : GroupKey). heeded_in (Under prefix) (paths_to (after w e).routes prefix) key.add_path w) (keys_in rows) ≡ entering e w rows
   prefix-asked sorted rows = λ i. sum_by (λ (key : GroupKey). prefix-touched sorted key i) (keys_in rows)
 
   -- without ADD-PATH the keys that there were don't matter
   changes_alike : (before : List Key) (key : GroupKey) → key.add_path ≡ false
-      → changes_in (after w e) (Under prefix) [] key ≡ changes_in (after w e) (Under prefix) before key
+      → changes_in (after w e) (Under prefix) [] (paths_to (after w e).routes prefix) key ≡ changes_in (after w e) (Under prefix) before (paths_to (after w e).routes prefix) key
   changes_alike before key plain = by key.add_path plain (same_family key.family prefix.family)
     where
       by : (a : Bool) → a ≡ false → (b : Bool)
@@ -95,24 +120,60 @@ module _ (e : Happening) (prefix : IpPrefix) (w : World) (about : IsUnder prefix
       by true plain b = absurd cc
 
   before_alike : (rows : Rows) (b : Bool) → some_add_path (keys_in rows) ≡ b
-      → each_by_key (λ key. with_changes (changes_in (after w e) (Under prefix) (keys_before b w prefix) key)) rows
-      ≡ each_by_key (λ key. with_changes (changes_in (after w e) (Under prefix) (keys_to true prefix (paths_to w.routes prefix)) key)) rows
+      → each_by_key (λ key. with_changes (changes_in (after w e) (Under prefix) (keys_before b w prefix) (paths_to (after w e).routes prefix) key)) rows
+      ≡ each_by_key (λ key. with_changes (changes_in (after w e) (Under prefix) (keys_to true prefix (paths_to w.routes prefix)) (paths_to (after w e).routes prefix) key)) rows
   before_alike rows true some = refl
   before_alike rows false some =
-      each-same (λ (r : Row). with_sub (with_changes (changes_in (after w e) (Under prefix) [] r.sub.key)) r)
-      (λ (r : Row). with_sub (with_changes (changes_in (after w e) (Under prefix) (keys_to true prefix (paths_to w.routes prefix)) r.sub.key)) r) rows
+      each-same (λ (r : Row). with_sub (with_changes (changes_in (after w e) (Under prefix) [] (paths_to (after w e).routes prefix) r.sub.key)) r)
+      (λ (r : Row). with_sub (with_changes (changes_in (after w e) (Under prefix) (keys_to true prefix (paths_to w.routes prefix)) (paths_to (after w e).routes prefix) r.sub.key)) r) rows
       (λ g r at. ap (λ (cs : Changes). with_sub (with_changes cs) r) (changes_alike (keys_to true prefix (paths_to w.routes prefix)) r.sub.key (none-adds (keys_in rows) r.sub.key (row-met w rows g r at) some)))
 
-  module _ (new : World) (taken : new ≡ after w e) where
+  -- what goes out doesn't hang on the routes beside
+  changes_before : (before : List Key) (paths : List Path) (key : GroupKey) → changes_in w (Under prefix) before paths key ≡ changes_in (after w e) (Under prefix) before paths key
+  unfolding after
+  changes_before before paths key = by e about
+    where
+      by : (e : Happening) → IsUnder prefix e → changes_in w (Under prefix) before paths key ≡ changes_in (after w e) (Under prefix) before paths key
+      by (HasPaths p given) about = to_alike w (after w (HasPaths p given)) refl refl prefix key before paths
+      by (HasNone p) about = to_alike w (after w (HasNone p)) refl refl prefix key before paths
+      by (ComesUp name) about = absurd about
+      by (GoesDown name) about = absurd about
+      by (HasPolicy name policy) about = absurd about
+      by (HasEntries name entries) about = absurd about
+      by (AsksAgain name) about = absurd about
+      by (SendsRequest name) about = absurd about
+      by (SendsList name request) about = absurd about
+
+  -- the paths that the event tells are those of the prefix then
+  pub row-told : IsStrictlySortedBy prefix_cmp (keys_of w.routes) → told_row w e ≡ paths_to (after w e).routes prefix
+  unfolding after
+  row-told sorted = by e about
+    where
+      by : (e : Happening) → IsUnder prefix e → told_row w e ≡ paths_to (after w e).routes prefix
+      by (HasPaths p given) about = sym (row-set w.routes p (map (path_of w) given) sorted) ∙ ap (paths_to (with_paths w p given)) about
+      by (HasNone p) about = sym (none-left w.routes p sorted) ∙ ap (paths_to (remove_entry (same_prefix p) w.routes)) about
+      by (ComesUp name) about = absurd about
+      by (GoesDown name) about = absurd about
+      by (HasPolicy name policy) about = absurd about
+      by (HasEntries name entries) about = absurd about
+      by (AsksAgain name) about = absurd about
+      by (SendsRequest name) about = absurd about
+      by (SendsList name request) about = absurd about
+
+  module _ (paths : List Path) (row : paths ≡ told_row w e) (sorted : IsStrictlySortedBy prefix_cmp (keys_of w.routes)) where
     pub prefix-entered : IsGoodWorld w → (rows : Rows) → AreKept w rows → (before : List Key) → before ≡ keys_before (some_add_path (keys_in rows)) w prefix
-        → each_by_key (λ key. with_changes (changes_in new (Under prefix) before key)) rows ≡ each_row (retabled_row (after w e)) rows
+        → each_by_key (λ key. with_changes (changes_in w (Under prefix) before paths key)) rows ≡ each_row (retabled_row (after w e)) rows
     prefix-entered good rows kept before are =
-        ap (λ (v : World). each_by_key (λ key. with_changes (changes_in v (Under prefix) before key)) rows) taken
-        ∙ ap (λ (ks : List Key). each_by_key (λ key. with_changes (changes_in (after w e) (Under prefix) ks key)) rows) are
+        (λ i. each_by_key (λ key. with_changes (changes_before before paths key i)) rows)
+        ∙ ap (λ (ps : List Path). each_by_key (λ key. with_changes (changes_in (after w e) (Under prefix) before ps key)) rows) (row ∙ row-told sorted)
+        ∙ ap (λ (ks : List Key). each_by_key (λ key. with_changes (changes_in (after w e) (Under prefix) ks (paths_to (after w e).routes prefix) key)) rows) are
         ∙ before_alike rows (some_add_path (keys_in rows)) refl ∙ prefix-rows good rows kept
 
-    pub prefix-cost : IsStrictlySortedBy prefix_cmp (keys_of w.routes) → (rows : Rows) → sum_by (λ (key : GroupKey). heeded_in (Under prefix) key.add_path new) (keys_in rows) ≡ entering e w rows
-    prefix-cost sorted rows = ap (λ (v : World). sum_by (λ (key : GroupKey). heeded_in (Under prefix) key.add_path v) (keys_in rows)) taken ∙ prefix-asked sorted rows
+    pub prefix-cost : (rows : Rows) → sum_by (λ (key : GroupKey). heeded_in (Under prefix) paths key.add_path w) (keys_in rows) ≡ entering e w rows
+    prefix-cost rows = ap (λ (ps : List Path). sum_by (λ (key : GroupKey). heeded_in (Under prefix) ps key.add_path w) (keys_in rows)) (row ∙ row-told sorted) ∙ prefix-asked sorted rows
+
+    pub numbered-row : IsGoodWorld w → IsEvent e → AreNumbered paths
+    numbered-row good form = subst AreNumbered (sym (row ∙ row-told sorted)) (paths-numbered (after w e).routes prefix (good-after w e good form).routes)
 
 -- ---- new entries of a list
 
@@ -175,31 +236,31 @@ module _ (e : Happening) (list : List ℕ) (w : World) (about : IsList list e) w
       (kept-wanted w (after w e) x [] kept (record { sorted = no-keys; values = tt; others = λ q absent. kept_undecided e list w x.key q about not }))
 
   list_rows : IsStrictlySortedBy prefix_cmp (keys_of (after w e).routes) → (rows : Rows) → AreKept w rows
-      → by_keys (λ key. with_changes (changes_in (after w e) All [] key)) (keys_decided (after w e) list (keys_in rows)) rows ≡ each_row (retabled_row (after w e)) rows
+      → by_keys (λ key. with_changes (changes_in (after w e) All [] [] key)) (keys_decided (after w e) list (keys_in rows)) rows ≡ each_row (retabled_row (after w e)) rows
   list_rows sorted rows kept =
-      by-some (λ key. with_changes (changes_in (after w e) All [] key)) (λ key. changes-key (changes_in (after w e) All [] key)) (λ (key : GroupKey). decides_for (after w e).tables key list) w rows
-      ∙ each-same (λ (r : Row). if decides_for (after w e).tables r.sub.key list then with_sub (with_changes (changes_in (after w e) All [] r.sub.key)) r else r) (retabled_row (after w e)) rows
+      by-some (λ key. with_changes (changes_in (after w e) All [] [] key)) (λ key. changes-key (changes_in (after w e) All [] [] key)) (λ (key : GroupKey). decides_for (after w e).tables key list) w rows
+      ∙ each-same (λ (r : Row). if decides_for (after w e).tables r.sub.key list then with_sub (with_changes (changes_in (after w e) All [] [] r.sub.key)) r else r) (retabled_row (after w e)) rows
       (λ g r at. by r (kept g r at) (decides_for (after w e).tables r.sub.key list) refl)
     where
       by : (r : Row) → IsKeptIn w r.sub → (b : Bool) → decides_for (after w e).tables r.sub.key list ≡ b
-          → (if b then with_sub (with_changes (changes_in (after w e) All [] r.sub.key)) r else r) ≡ retabled_row (after w e) r
+          → (if b then with_sub (with_changes (changes_in (after w e) All [] [] r.sub.key)) r else r) ≡ retabled_row (after w e) r
       by r is true decides = changed_row (with_changes (changes_of (after w e) (after w e).routes r.sub.key)) (retabled (after w e)) r (decided_retabled sorted r.sub is)
       by r is false not = changed_row (λ x. x) (retabled (after w e)) r (undecided_retabled r.sub is not)
 
-  list_asked : (rows : Rows) → sum_by (λ (key : GroupKey). heeded_in All key.add_path (after w e)) (keys_decided (after w e) list (keys_in rows)) ≡ entering e w rows
+  list_asked : (rows : Rows) → sum_by (λ (key : GroupKey). heeded_in All [] key.add_path (after w e)) (keys_decided (after w e) list (keys_in rows)) ≡ entering e w rows
   list_asked rows =
       sum_some (λ (key : GroupKey). decides_for (after w e).tables key list) (λ (key : GroupKey). all_heeded key.add_path (after w e).routes) (keys_in rows)
       ∙ (λ i. sum_by (λ (key : GroupKey). list_touched e list (after w e) about key i) (keys_in rows))
 
   module _ (new : World) (taken : new ≡ after w e) where
     pub list-entered : IsStrictlySortedBy prefix_cmp (keys_of new.routes) → (rows : Rows) → AreKept w rows
-        → by_keys (λ key. with_changes (changes_in new All [] key)) (keys_decided new list (keys_in rows)) rows ≡ each_row (retabled_row (after w e)) rows
+        → by_keys (λ key. with_changes (changes_in new All [] [] key)) (keys_decided new list (keys_in rows)) rows ≡ each_row (retabled_row (after w e)) rows
     list-entered sorted rows kept =
-        ap (λ (v : World). by_keys (λ key. with_changes (changes_in v All [] key)) (keys_decided v list (keys_in rows)) rows) taken
+        ap (λ (v : World). by_keys (λ key. with_changes (changes_in v All [] [] key)) (keys_decided v list (keys_in rows)) rows) taken
         ∙ list_rows (subst (λ (v : World). IsStrictlySortedBy prefix_cmp (keys_of v.routes)) taken sorted) rows kept
 
-    pub list-cost : (rows : Rows) → sum_by (λ (key : GroupKey). heeded_in All key.add_path new) (keys_decided new list (keys_in rows)) ≡ entering e w rows
-    list-cost rows = ap (λ (v : World). sum_by (λ (key : GroupKey). heeded_in All key.add_path v) (keys_decided v list (keys_in rows))) taken ∙ list_asked rows
+    pub list-cost : (rows : Rows) → sum_by (λ (key : GroupKey). heeded_in All [] key.add_path new) (keys_decided new list (keys_in rows)) ≡ entering e w rows
+    list-cost rows = ap (λ (v : World). sum_by (λ (key : GroupKey). heeded_in All [] key.add_path v) (keys_decided v list (keys_in rows))) taken ∙ list_asked rows
 
 -- ---- an event of a peer
 

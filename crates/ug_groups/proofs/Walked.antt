@@ -22,14 +22,11 @@ use Rattle.ug_group_rules.specs.Evaluations.{paths_heeded, all_heeded}
 use Rattle.ug_group_rules.specs.Machine.{Subgroup}
 use Rattle.ug_groups.specs.Rows.{Rows, row_at, each_row, of_key}
 use Rattle.ug_groups.specs.declared.reach.Reach.{Reach}
-use Rattle.ug_groups.specs.TableChanges.{Changes, changes_to, changes_of, key_at, reached, with_changes, by_keys, HaveKeys}
+use Rattle.ug_groups.specs.TableChanges.{AreNumbered, Changes, changes_to, changes_of, key_at, reached, with_changes, by_keys, HaveKeys}
 use Rattle.ug_groups.proofs.KeyLists.{one-more}
 use Rattle.ug_groups.proofs.Reached.{row-of, reached-append}
 
 -- ---- identifiers of a good world
-
-abbrev pub AreNumbered : List Path → Type 0
-AreNumbered paths = AllByRecursion (λ (p : Path). (p.id == 0) ≡ false) paths
 
 not_zero : (n : ℕ) → nat_lt 0 n ≡ true → (n == 0) ≡ false
 not_zero n above = by (n == 0) refl

@@ -68,14 +68,14 @@ changes_of w routes group = flat_map (λ (r : IpPrefix × List Path). changes_to
 
 -- ---- of the paths that an event touches
 
--- Of a prefix, which with ADD-PATH had these keys before, or of all prefixes.
-abbrev pub changes_in : World → Scope → List Key → GroupKey → Changes
-changes_in w (Under prefix) before group = changes_to w prefix before (paths_to w.routes prefix) group
-changes_in w All before group = changes_of w w.routes group
+-- Of a prefix with these paths, which with ADD-PATH had these keys before, or of all prefixes.
+abbrev pub changes_in : World → Scope → List Key → List Path → GroupKey → Changes
+changes_in w (Under prefix) before paths group = changes_to w prefix before paths group
+changes_in w All before paths group = changes_of w w.routes group
 
-abbrev pub heeded_in : Scope → Bool → World → ℕ
-heeded_in (Under prefix) add_path w = paths_heeded add_path (paths_to w.routes prefix)
-heeded_in All add_path w = all_heeded add_path w.routes
+abbrev pub heeded_in : Scope → List Path → Bool → World → ℕ
+heeded_in (Under prefix) paths add_path w = paths_heeded add_path paths
+heeded_in All paths add_path w = all_heeded add_path w.routes
 
 -- the keys that there were, where a group key has ADD-PATH
 abbrev pub some_add_path : List GroupKey → Bool
@@ -88,6 +88,10 @@ keys_before true w prefix = keys_to true prefix (paths_to w.routes prefix)
 abbrev pub AreBefore : Scope → List Key → Type 0
 AreBefore (Under prefix) before = AllByRecursion (IsOwnKey prefix) before
 AreBefore All before = Unit {0}
+
+-- no identifier of these paths is 0
+abbrev pub AreNumbered : List Path → Type 0
+AreNumbered paths = AllByRecursion (λ (p : Path). (p.id == 0) ≡ false) paths
 
 -- ---- in subgroups
 

@@ -85,9 +85,13 @@ fn enter_paths<L: Ledger>(
     let groups = subgroups.groups()?;
     let groups = groups.as_slice();
     let before = keys_before(alloc, world, subgroups, groups, prefix)?;
-    world.take(alloc, event)?;
+    let row = world.row_of(alloc, event)?;
     let scope = Scope::Under(*prefix);
-    touch_all(alloc, world, subgroups, groups, &scope, &before, steps)
+    let paths = row.as_slice();
+    touch_all(
+        alloc, world, subgroups, groups, &scope, &before, paths, steps,
+    )?;
+    world.take_row(alloc, event, row)
 }
 
 /// The same of new entries of the prefix list of that name. Where it decides for no key, no path is looked at.
@@ -116,7 +120,16 @@ fn enter_list<L: Ledger>(
     know_order(world);
     let groups = subgroups.groups()?;
     let groups = decided(alloc, world, subgroups, groups.as_slice(), name)?;
-    touch_keys(alloc, world, subgroups, &groups, &Scope::All, &[], steps)
+    touch_keys(
+        alloc,
+        world,
+        subgroups,
+        &groups,
+        &Scope::All,
+        &[],
+        &[],
+        steps,
+    )
 }
 
 /// The world is the one after an event of a peer, which changes nothing that subgroups desire and asks nothing.

@@ -6,7 +6,7 @@ ghost use Rattle.ug_outbound.specs.declared.key.GroupKey as group_keys;
 ghost use Rattle.ug_world.specs.Good.{IsGoodWorld};
 ghost use Rattle.ug_group_rules.specs.Evaluations.{all_heeded};
 ghost use Rattle.ug_groups.specs.Rows.{keys_in};
-ghost use Rattle.ug_groups.specs.TableChanges.{AreBefore, AreKeys, HasKey, HaveKeys, by_keys, changes_in, changes_of, each_by_key, heeded_in, key_at, number_of, reached, with_changes};
+ghost use Rattle.ug_groups.specs.TableChanges.{AreBefore, AreKeys, AreNumbered, HasKey, HaveKeys, by_keys, changes_in, changes_of, each_by_key, heeded_in, key_at, number_of, reached, with_changes};
 
 use crate::Subgroups;
 use crate::reach::Reach;
@@ -14,10 +14,11 @@ use crate::scope::Scope;
 use crate::touching::touch;
 use std::alloc::Global;
 use std::sync::ledger::Ledger;
-use ug_types::{Key, NoMemory, Steps};
+use ug_types::{Key, NoMemory, Path, Steps};
 use ug_world::World;
 
-/// Each subgroup desires what goes out of these paths to the peers of its key. The first of each key are given.
+/// Each subgroup desires what goes out of these paths to the peers of its key: of those of one prefix, which are given, or of all
+/// that the world has. The first subgroup of each key is given.
 pub fn touch_all<L: Ledger>(
     alloc: Global,
     world: &World,
@@ -25,17 +26,19 @@ pub fn touch_all<L: Ledger>(
     groups: &[u32],
     scope: &Scope,
     before: &[Key],
+    paths: &[Path],
     steps: &mut Steps<L>,
 ) -> Result<(), NoMemory>
     requires groups { HaveKeys groups.now subgroups.old (keys_in subgroups.old) }
     requires good { IsGoodWorld world.now }
     requires before { AreBefore scope.now before.now }
-    ensures rows { OnOk result (subgroups.new ≡ each_by_key (λ key. with_changes (changes_in world.now scope.now before.now key)) subgroups.old) }
-    ensures steps { OnOk result (steps.new ≡ steps.old + sum_by (λ (key : group_keys.GroupKey). heeded_in scope.now key.add_path world.now) (keys_in subgroups.old)) }
-    ensures most { steps.new ≤ steps.old + sum_by (λ (key : group_keys.GroupKey). heeded_in scope.now key.add_path world.now) (keys_in subgroups.old) }
+    requires paths { AreNumbered paths.now }
+    ensures rows { OnOk result (subgroups.new ≡ each_by_key (λ key. with_changes (changes_in world.now scope.now before.now paths.now key)) subgroups.old) }
+    ensures steps { OnOk result (steps.new ≡ steps.old + sum_by (λ (key : group_keys.GroupKey). heeded_in scope.now paths.now key.add_path world.now) (keys_in subgroups.old)) }
+    ensures most { steps.new ≤ steps.old + sum_by (λ (key : group_keys.GroupKey). heeded_in scope.now paths.now key.add_path world.now) (keys_in subgroups.old) }
     ensures counted { steps.old ≤ steps.new }
 {
-    touch_keys(alloc, world, subgroups, groups, scope, before, steps)
+    touch_keys(alloc, world, subgroups, groups, scope, before, paths, steps)
 }
 
 /// The same of the keys of these subgroups alone, each of which is there once.
@@ -46,22 +49,24 @@ pub fn touch_keys<L: Ledger>(
     groups: &[u32],
     scope: &Scope,
     before: &[Key],
+    paths: &[Path],
     steps: &mut Steps<L>,
 ) -> Result<(), NoMemory>
     requires keys { AreKeys groups.now subgroups.old }
     requires good { IsGoodWorld world.now }
     requires before { AreBefore scope.now before.now }
+    requires paths { AreNumbered paths.now }
     ensures rows { OnOk result ((keys : List group_keys.GroupKey) → HaveKeys groups.now subgroups.old keys →
-        subgroups.new ≡ by_keys (λ key. with_changes (changes_in world.now scope.now before.now key)) keys subgroups.old) }
+        subgroups.new ≡ by_keys (λ key. with_changes (changes_in world.now scope.now before.now paths.now key)) keys subgroups.old) }
     ensures steps { OnOk result ((keys : List group_keys.GroupKey) → HaveKeys groups.now subgroups.old keys →
-        steps.new ≡ steps.old + sum_by (λ (key : group_keys.GroupKey). heeded_in scope.now key.add_path world.now) keys) }
+        steps.new ≡ steps.old + sum_by (λ (key : group_keys.GroupKey). heeded_in scope.now paths.now key.add_path world.now) keys) }
     ensures most { (keys : List group_keys.GroupKey) → HaveKeys groups.now subgroups.old keys →
-        steps.new ≤ steps.old + sum_by (λ (key : group_keys.GroupKey). heeded_in scope.now key.add_path world.now) keys }
+        steps.new ≤ steps.old + sum_by (λ (key : group_keys.GroupKey). heeded_in scope.now paths.now key.add_path world.now) keys }
     ensures counted { steps.old ≤ steps.new }
 {
     for g in groups {
         let reach = Reach::Alike(*g);
-        touch_in(alloc, world, subgroups, reach, scope, before, steps)?;
+        touch_in(alloc, world, subgroups, reach, scope, before, paths, steps)?;
     }
     Ok(())
 }
@@ -74,22 +79,21 @@ fn touch_in<L: Ledger>(
     reach: Reach,
     scope: &Scope,
     before: &[Key],
+    paths: &[Path],
     steps: &mut Steps<L>,
 ) -> Result<(), NoMemory>
     requires there { HasKey (number_of reach) subgroups.old (λ key. Unit {0}) }
     requires good { IsGoodWorld world.now }
     requires before { AreBefore scope.now before.now }
+    requires paths { AreNumbered paths.now }
     ensures rows { OnOk result ((key : group_keys.GroupKey) → key_at (number_of reach) subgroups.old ≡ Some key →
-        subgroups.new ≡ reached reach key (with_changes (changes_in world.now scope.now before.now key)) subgroups.old) }
-    ensures steps { OnOk result ((key : group_keys.GroupKey) → key_at (number_of reach) subgroups.old ≡ Some key → steps.new ≡ steps.old + heeded_in scope.now key.add_path world.now) }
-    ensures most { (key : group_keys.GroupKey) → key_at (number_of reach) subgroups.old ≡ Some key → steps.new ≤ steps.old + heeded_in scope.now key.add_path world.now }
+        subgroups.new ≡ reached reach key (with_changes (changes_in world.now scope.now before.now paths.now key)) subgroups.old) }
+    ensures steps { OnOk result ((key : group_keys.GroupKey) → key_at (number_of reach) subgroups.old ≡ Some key → steps.new ≡ steps.old + heeded_in scope.now paths.now key.add_path world.now) }
+    ensures most { (key : group_keys.GroupKey) → key_at (number_of reach) subgroups.old ≡ Some key → steps.new ≤ steps.old + heeded_in scope.now paths.now key.add_path world.now }
     ensures counted { steps.old ≤ steps.new }
 {
     match scope {
-        Scope::Under(prefix) => {
-            let paths = world.paths(prefix);
-            touch(alloc, world, subgroups, reach, prefix, before, paths, steps)
-        }
+        Scope::Under(prefix) => touch(alloc, world, subgroups, reach, prefix, before, paths, steps),
         Scope::All => touch_world(alloc, world, subgroups, reach, steps),
     }
 }

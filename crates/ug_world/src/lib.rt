@@ -21,6 +21,7 @@ mod stored_prefix;
 mod take;
 mod world;
 
+pub use best::Best;
 pub use judge::Refusal;
 pub use laws::{sendable_laws, world_laws};
 pub use parts::WorldParts;

@@ -1,12 +1,14 @@
 //! What an event makes of a world.
 
-ghost use Rattle.std.specs.Prelude.{◌≡◌, ◌<◌, None, false, map, OnOk, OnErr, IfOk};
+ghost use Rattle.std.specs.Prelude.{◌≡◌, ◌<◌, None, false, List, map, OnOk, OnErr, IfOk};
+ghost use Rattle.std.specs.BTreeMap.{insert_entry};
+ghost use Rattle.ug_types.specs.Keys.{prefix_cmp};
 ghost use Rattle.ug_policy.specs.Order.{ascending};
 ghost use Rattle.ug_policy.specs.Lists.{list_refusal, seq_of};
-ghost use Rattle.ug_events.specs.Events.{ComesUp, GoesDown, HasPaths, HasNone, HasPolicy, HasEntries, AsksAgain, SendsRequest, SendsList, IsEvent};
+ghost use Rattle.ug_events.specs.Events.{ComesUp, GoesDown, HasPaths, HasNone, HasPolicy, HasEntries, AsksAgain, SendsRequest, SendsList, IsEvent, GivenPath};
 ghost use Rattle.ug_events.specs.Views.{event_of};
 ghost use Rattle.ug_policy.specs.OrfViews.{orf_seen};
-ghost use Rattle.ug_world.specs.Verdicts.{path_of, learned_of, sender, with_paths, is_overfull, verdict};
+ghost use Rattle.ug_world.specs.Verdicts.{path_of, learned_of, sender, told_row, with_paths, is_overfull, verdict};
 ghost use Rattle.ug_world.specs.World.{learned_from};
 ghost use Rattle.ug_world.specs.After.{after};
 
@@ -50,6 +52,33 @@ impl World {
                 self.remove_paths(prefix);
                 Ok(())
             }
+        }
+    }
+
+    /// The paths that a prefix has after an event that tells them, and none after any other. They share the attributes with
+    /// the event.
+    pub fn row_of(&self, alloc: Global, event: &Event) -> Result<Best, NoMemory>
+        ensures { IfOk result (λ row. row ≡ told_row self.now (event_of event.now)) }
+    {
+        match event {
+            Event::Paths { paths, .. } => self.row_of_given(alloc, paths.get().as_slice()),
+            _ => Ok(Best::new(alloc, Vec::new(alloc))),
+        }
+    }
+
+    /// The world after an event that it accepts, where the paths that it tells are made already. Running out of memory
+    /// changes nothing.
+    pub fn take_row(&mut self, alloc: Global, event: &Event, row: Best) -> Result<(), NoMemory>
+        requires accepted { verdict self.old (event_of event.now) ≡ None }
+        requires kept { IsEvent (event_of event.now) }
+        requires version { self.old.version < 4294967295 }
+        requires row { row ≡ told_row self.old (event_of event.now) }
+        ensures ok { OnOk result (self.new ≡ after self.old (event_of event.now)) }
+        ensures err { OnErr result (self.new ≡ self.old) }
+    {
+        match event {
+            Event::Paths { prefix, .. } => self.set_row(*prefix, row),
+            _ => self.take(alloc, event),
         }
     }
 
@@ -129,15 +158,25 @@ impl World {
         Ok(())
     }
 
-    #[tactic(auto, unfolding(crate::specs::After::after))]
     fn set_paths(&mut self, alloc: Global, prefix: Prefix, given: &[Given]) -> Result<(), NoMemory>
         requires version { self.old.version < 4294967295 }
         requires room { is_overfull (with_paths self.old prefix given.now) ≡ false }
         ensures ok { OnOk result (self.new ≡ after self.old (HasPaths prefix given.now)) }
         ensures err { OnErr result (self.new ≡ self.old) }
     {
-        let paths = self.paths_of(alloc, given)?;
-        self.routes.set(prefix, Best::new(alloc, paths))?;
+        let row = self.row_of_given(alloc, given)?;
+        self.set_row(prefix, row)
+    }
+
+    /// A prefix has these paths from now on.
+    #[tactic(auto, unfolding(crate::specs::After::after))]
+    fn set_row(&mut self, prefix: Prefix, row: Best) -> Result<(), NoMemory>
+        requires version { self.old.version < 4294967295 }
+        requires room { is_overfull (insert_entry prefix_cmp self.old.routes prefix row) ≡ false }
+        ensures ok { OnOk result ((given : List GivenPath) → row ≡ map (path_of self.old) given → self.new ≡ after self.old (HasPaths prefix given)) }
+        ensures err { OnErr result (self.new ≡ self.old) }
+    {
+        self.routes.set(prefix, row)?;
         self.version += 1;
         Ok(())
     }
@@ -151,19 +190,35 @@ impl World {
         self.version += 1;
     }
 
-    /// The paths as they stand among the routes, which share the attributes.
+    /// The paths as they stand among the routes.
+    fn row_of_given(&self, alloc: Global, given: &[Given]) -> Result<Best, NoMemory>
+        ensures { IfOk result (λ row. row ≡ map (path_of self.now) given.now) }
+    {
+        match given {
+            [only] => Ok(Best::one(alloc, self.path_of(only)?)),
+            _ => Ok(Best::new(alloc, self.paths_of(alloc, given)?)),
+        }
+    }
+
     fn paths_of(&self, alloc: Global, given: &[Given]) -> Result<Vec<Path>, NoMemory>
         ensures { IfOk result (λ paths. paths.items ≡ map (path_of self.now) given.now) }
     {
         let mut paths = Vec::with_capacity(alloc, given.len())?;
         for path in given {
-            paths.push(Path {
-                id: path.id,
-                learned: self.learned_of(&path.from),
-                attrs: path.attrs.share()?,
-            })?;
+            paths.push(self.path_of(path)?)?;
         }
         Ok(paths)
+    }
+
+    /// The path as it stands among the routes, which shares the attributes.
+    fn path_of(&self, given: &Given) -> Result<Path, NoMemory>
+        ensures { IfOk result (λ path. path ≡ path_of self.now given.now) }
+    {
+        Ok(Path {
+            id: given.id,
+            learned: self.learned_of(&given.from),
+            attrs: given.attrs.share()?,
+        })
     }
 
     /// Where a path is learned from.

@@ -14,7 +14,7 @@ returns-clause-rows g c =
     on_ok_weaker c.touch_keys.result
     (λ so.
     so (keys_in c.args.subgroups.now) c.requires.groups
-    ∙ by-each (λ key. with_changes (changes_in c.args.world.now c.args.scope.now c.args.before.now key)) (λ key. changes-key (changes_in c.args.world.now c.args.scope.now c.args.before.now key)) c.args.world.now c.args.subgroups.now)
+    ∙ by-each (λ key. with_changes (changes_in c.args.world.now c.args.scope.now c.args.before.now c.args.paths.now key)) (λ key. changes-key (changes_in c.args.world.now c.args.scope.now c.args.before.now c.args.paths.now key)) c.args.world.now c.args.subgroups.now)
     c.touch_keys.ensures.rows
 
 pub returns-clause-steps : goal.returns-clause-steps

@@ -15,7 +15,7 @@ touch_in-requires-clause-there g c =
 pub returns-in_err-touch_in-clause-most : goal.returns-in_err-touch_in-clause-most
 returns-in_err-touch_in-clause-most g c keys have =
     let inside : c.loop-g.g-index < length c.args.groups.now = omega arith in
-    costs-most (λ (key : GroupKey). heeded_in c.args.scope.now key.add_path c.args.world.now) c.args.groups.now c.args.subgroups.now c.loop-g.subgroups keys c.loop-g.g-index c.args.steps.now c.loop-g.steps
+    costs-most (λ (key : GroupKey). heeded_in c.args.scope.now c.args.paths.now key.add_path c.args.world.now) c.args.groups.now c.args.subgroups.now c.loop-g.subgroups keys c.loop-g.g-index c.args.steps.now c.loop-g.steps
     c.touch_in.new.steps have inside (c.loop-g.invariant.count keys have) c.loop-g.invariant.same c.touch_in.ensures.most
 
 pub loop-g-preserved : goal.loop-g-preserved
@@ -24,14 +24,14 @@ loop-g-preserved g c =
     let there = key-there c.args.groups.now c.args.subgroups.now c.requires.keys.keys c.loop-g.g-index c.requires.keys.are inside in
     record {
       same = λ h.
-          still-key (Alike (get_or c.args.groups.now c.loop-g.g-index 0)) there.key (changes_in c.args.world.now c.args.scope.now c.args.before.now there.key) h c.loop-g.subgroups c.touch_in.new.subgroups
+          still-key (Alike (get_or c.args.groups.now c.loop-g.g-index 0)) there.key (changes_in c.args.world.now c.args.scope.now c.args.before.now c.args.paths.now there.key) h c.loop-g.subgroups c.touch_in.new.subgroups
           (c.in_ok-touch_in.ensures.rows there.key (c.loop-g.invariant.same _ ∙ there.is))
           ∙ c.loop-g.invariant.same h;
       rows = λ keys have.
-          keys-more (λ key. with_changes (changes_in c.args.world.now c.args.scope.now c.args.before.now key)) c.args.groups.now c.args.subgroups.now c.loop-g.subgroups c.touch_in.new.subgroups keys c.loop-g.g-index have inside
+          keys-more (λ key. with_changes (changes_in c.args.world.now c.args.scope.now c.args.before.now c.args.paths.now key)) c.args.groups.now c.args.subgroups.now c.loop-g.subgroups c.touch_in.new.subgroups keys c.loop-g.g-index have inside
           (c.loop-g.invariant.rows keys have) c.loop-g.invariant.same c.in_ok-touch_in.ensures.rows;
       count = λ keys have.
-          costs-more (λ (key : GroupKey). heeded_in c.args.scope.now key.add_path c.args.world.now) c.args.groups.now c.args.subgroups.now c.loop-g.subgroups keys c.loop-g.g-index c.args.steps.now c.loop-g.steps
+          costs-more (λ (key : GroupKey). heeded_in c.args.scope.now c.args.paths.now key.add_path c.args.world.now) c.args.groups.now c.args.subgroups.now c.loop-g.subgroups keys c.loop-g.g-index c.args.steps.now c.loop-g.steps
           c.touch_in.new.steps have inside (c.loop-g.invariant.count keys have) c.loop-g.invariant.same c.in_ok-touch_in.ensures.steps;
       counted = omega (arith, c.touch_in.ensures.counted, c.loop-g.invariant.counted);
     }

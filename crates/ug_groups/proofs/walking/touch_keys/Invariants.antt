@@ -9,8 +9,8 @@ abbrev pub invariant-loop-g : goal.invariant-loop-g
 invariant-loop-g g l = record {
   same : (h : ℕ) → key_at h l.subgroups ≡ key_at h l.fn.subgroups;
   rows : (keys : List GroupKey) → HaveKeys l.groups l.fn.subgroups keys
-      → by_keys (λ key. with_changes (changes_in l.fn.world l.fn.scope l.fn.before key)) (drop l.g-index keys) l.subgroups ≡ by_keys (λ key. with_changes (changes_in l.fn.world l.fn.scope l.fn.before key)) keys l.fn.subgroups;
+      → by_keys (λ key. with_changes (changes_in l.fn.world l.fn.scope l.fn.before l.fn.paths key)) (drop l.g-index keys) l.subgroups ≡ by_keys (λ key. with_changes (changes_in l.fn.world l.fn.scope l.fn.before l.fn.paths key)) keys l.fn.subgroups;
   count : (keys : List GroupKey) → HaveKeys l.groups l.fn.subgroups keys
-      → l.steps + sum_by (λ (key : GroupKey). heeded_in l.fn.scope key.add_path l.fn.world) (drop l.g-index keys) ≡ l.fn.steps + sum_by (λ (key : GroupKey). heeded_in l.fn.scope key.add_path l.fn.world) keys;
+      → l.steps + sum_by (λ (key : GroupKey). heeded_in l.fn.scope l.fn.paths key.add_path l.fn.world) (drop l.g-index keys) ≡ l.fn.steps + sum_by (λ (key : GroupKey). heeded_in l.fn.scope l.fn.paths key.add_path l.fn.world) keys;
   counted : l.fn.steps ≤ l.steps;
 }

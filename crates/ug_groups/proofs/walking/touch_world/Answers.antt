@@ -5,10 +5,10 @@ use Rattle.ug_outbound.specs.declared.key.GroupKey.{GroupKey}
 use Rattle.ug_world.specs.World.{Routes}
 use Rattle.ug_world.specs.Rows.{row_lent}
 use Rattle.ug_group_rules.specs.Evaluations.{all_heeded}
-use Rattle.ug_groups.specs.TableChanges.{changes_of, key_at, number_of, reached, with_changes}
+use Rattle.ug_groups.specs.TableChanges.{AreNumbered, changes_of, key_at, number_of, reached, with_changes}
 use Rattle.ug_groups.proofs.KeyLists.{one-more, all-between}
 use Rattle.ug_groups.proofs.Reached.{still-key, reached-none}
-use Rattle.ug_groups.proofs.Walked.{AreNumbered, routes-numbered, prefix-more, heeded-more, heeded-most, all-behind}
+use Rattle.ug_groups.proofs.Walked.{routes-numbered, prefix-more, heeded-more, heeded-most, all-behind}
 use Rattle.ug_groups.proofs.walking.touch_world.Goals as goal
 
 pub loop-prefix-init : goal.loop-prefix-init

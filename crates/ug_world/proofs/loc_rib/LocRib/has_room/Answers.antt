@@ -1,4 +1,4 @@
-use Rattle.std.proofs.Common.{List, ap, subst, ◌∙◌, arith, length}
+use Rattle.std.proofs.Common.{ap, subst, ◌∙◌, arith, length}
 use Rattle.std.specs.Map.{keys_of}
 use Rattle.std.specs.List.Sorted.{IsStrictlySortedBy}
 use Rattle.ug_types.specs.Keys.{prefix_cmp}
