@@ -15,14 +15,28 @@ config() {
         } }'
 }
 
-# events PREFIXES PEERS ORDER: the routes, with the sessions of all peers before or after them.
+# events PREFIXES PEERS ORDER: the routes, ten an attribute set, with the sessions of all peers before or after them. With KEYS=random
+# the prefixes come in random order, and ten lines in a row have one attribute set; with KEYS=shuffled the lines of the sorted order do.
 events() {
-    awk -v n="$1" -v peers="$2" -v order="$3" '
+    awk -v n="$1" -v peers="$2" -v order="$3" -v keys="${KEYS:-sorted}" '
         function sessions(  i) { for (i = 1; i <= peers; i++) printf "up p%d\n", i }
+        function shuffle(  i, j, kept) {
+            srand(7)
+            for (i = 0; i < n; i++) number[i] = i
+            for (i = n - 1; i > 0; i--) {
+                j = int(rand() * (i + 1))
+                kept = number[i]
+                number[i] = number[j]
+                number[j] = kept
+            }
+        }
         BEGIN {
+            if (keys != "sorted") shuffle()
             if (order == "after") sessions()
-            for (i = 0; i < n; i++)
-                printf "paths %d.%d.%d.0/24 id=1 from=local nh=0.0.0.0 origin=igp as=- med=%d\n", 20 + int(i / 65536), int(i / 256) % 256, i % 256, int(i / 10)
+            for (i = 0; i < n; i++) {
+                k = keys == "sorted" ? i : number[i]
+                printf "paths %d.%d.%d.0/24 id=1 from=local nh=0.0.0.0 origin=igp as=- med=%d\n", 20 + int(k / 65536), int(k / 256) % 256, k % 256, int((keys == "shuffled" ? k : i) / 10)
+            }
             if (order == "before") sessions()
         }'
 }
