@@ -15,8 +15,9 @@ config() {
         } }'
 }
 
-# events PREFIXES PEERS ORDER: the routes, ten an attribute set, with the sessions of all peers before or after them. With KEYS=random
-# the prefixes come in random order, and ten lines in a row have one attribute set; with KEYS=shuffled the lines of the sorted order do.
+# events PREFIXES PEERS ORDER: the routes, ten an attribute set, with the sessions of all peers before or after them. With
+# KEYS=random the prefixes come in random order, and ten lines in a row have one attribute set; with KEYS=shuffled the lines
+# of the sorted order come in random order.
 events() {
     awk -v n="$1" -v peers="$2" -v order="$3" -v keys="${KEYS:-sorted}" '
         function sessions(  i) { for (i = 1; i <= peers; i++) printf "up p%d\n", i }
