@@ -44,6 +44,7 @@ pub mod MarkedPeers
 pub mod FreshMembers
 pub mod StateJobs
 pub mod EvaluatedTurns
+pub mod EventCases
 pub mod TurnOthers
 pub mod TurnNone
 pub mod TurnKept

@@ -7,7 +7,7 @@ use Rattle.ug_types.specs.Keys.{same_prefix}
 use Rattle.ug_types.specs.declared.key.Key.{Key}
 use Rattle.ug_types.specs.declared.route.Path.{Path}
 use Rattle.ug_policy.specs.Order.{placed, ascending}
-use Rattle.ug_events.specs.Events.{Happening, ComesUp, GoesDown, HasPaths, HasNone, HasPolicy, HasEntries, AsksAgain, SendsRequest, SendsList}
+use Rattle.ug_events.specs.Events.{Happening, HasPaths, HasNone}
 use Rattle.ug_outbound.specs.declared.key.GroupKey.{GroupKey}
 use Rattle.ug_speaker.proofs.SameKeys.{prefix-is}
 use Rattle.ug_speaker.proofs.PathKeys.{path_among}
@@ -24,6 +24,7 @@ use Rattle.ug_group_rules.specs.Touched.{IsKeptIn}
 use Rattle.ug_group_rules.proofs.TouchedKeys.{no-keys}
 use Rattle.ug_group_rules.proofs.WantedTables.{rows-value, has-among, without-path}
 use Rattle.ug_groups.specs.TableChanges.{AreNumbered, Changes, IsOwnKey, IsUnder, changes_to, keys_before, with_changes}
+use Rattle.ug_groups.proofs.EventCases.{by-prefix}
 use Rattle.ug_groups.proofs.KeyLists.{all-weaker}
 use Rattle.ug_groups.proofs.ChangeKeys.{no-changes}
 use Rattle.ug_groups.proofs.Walked.{paths-numbered}
@@ -74,15 +75,8 @@ none_before w prefix q group b add under same absent = without-path group w q (a
 -- ---- beside the prefix
 
 kept_apart : (e : Happening) (prefix : IpPrefix) (w : World) (group : GroupKey) (q : Key) → IsUnder prefix e → same_prefix q.prefix prefix ≡ false → wanted group (after w e) q ≡ wanted group w q
-kept_apart (HasPaths p paths) prefix w group q about apart = kept w (HasPaths p paths) group q (ap (same_prefix q.prefix) about ∙ apart)
-kept_apart (HasNone p) prefix w group q about apart = kept w (HasNone p) group q (ap (same_prefix q.prefix) about ∙ apart)
-kept_apart (ComesUp name) prefix w group q about apart = absurd about
-kept_apart (GoesDown name) prefix w group q about apart = absurd about
-kept_apart (HasPolicy name policy) prefix w group q about apart = absurd about
-kept_apart (HasEntries name entries) prefix w group q about apart = absurd about
-kept_apart (AsksAgain name) prefix w group q about apart = absurd about
-kept_apart (SendsRequest name) prefix w group q about apart = absurd about
-kept_apart (SendsList name request) prefix w group q about apart = absurd about
+kept_apart e prefix w group q about apart =
+    by-prefix (λ (f : Happening). wanted group (after w f) q ≡ wanted group w q) prefix e about (λ paths. kept w (HasPaths prefix paths) group q apart) (kept w (HasNone prefix) group q apart)
 
 beside : (e : Happening) (prefix : IpPrefix) (w : World) (group : GroupKey) (q : Key) → IsUnder prefix e
     → (q.prefix ≡ prefix → same_prefix q.prefix prefix ≡ true → (wanted group (after w e) q ≡ None) × (wanted group w q ≡ None)) → wanted group (after w e) q ≡ wanted group w q

@@ -15,10 +15,10 @@ use Rattle.ug_outbound.specs.Outbound.{out}
 use Rattle.ug_outbound.specs.declared.key.GroupKey.{GroupKey}
 use Rattle.ug_world.specs.World.{Routes, World, paths_to}
 use Rattle.ug_world.specs.Private.{keys_to, wanted}
-use Rattle.ug_world.specs.After.{after}
+use Rattle.ug_world.specs.After.{after, told_row}
 use Rattle.ug_world.specs.Good.{IsGoodWorld}
 use Rattle.ug_world.specs.Touches.{decides_for}
-use Rattle.ug_world.specs.Verdicts.{path_of, told_row, with_paths}
+use Rattle.ug_world.specs.Verdicts.{path_of}
 use Rattle.ug_world.proofs.GoodWorlds.{good-after}
 use Rattle.ug_world.proofs.Keeping.{kept}
 use Rattle.ug_pack.specs.Ready.{key_order}
@@ -29,9 +29,9 @@ use Rattle.ug_group_rules.proofs.Groups.{group-same}
 use Rattle.ug_group_rules.specs.Touched.{IsKeptIn}
 use Rattle.ug_group_rules.proofs.TouchedKeys.{event-touched, no-keys}
 use Rattle.ug_groups.specs.Rows.{Row, Rows, keys_in, with_sub, each_row}
-use Rattle.ug_groups.specs.declared.scope.Scope.TheVariants.{Under, All}
-use Rattle.ug_groups.specs.TableChanges.{AreNumbered, Changes, IsUnder, IsList, IsOfPeer, changes_by, changes_in, changes_of, changes_to, clearing, of_first, with_each_path, heeded_in, keys_before, keys_decided, some_add_path, with_changes, by_keys, each_by_key}
+use Rattle.ug_groups.specs.TableChanges.{AreNumbered, Changes, IsUnder, IsList, IsOfPeer, changes_by, changes_of, changes_to, clearing, of_first, with_each_path, keys_before, keys_decided, some_add_path, with_changes, by_keys, each_by_key}
 use Rattle.ug_groups.specs.Entered.{AreKept, entering, retabled_row}
+use Rattle.ug_groups.proofs.EventCases.{by-list, by-prefix}
 use Rattle.ug_groups.proofs.Walked.{paths-numbered}
 use Rattle.ug_groups.proofs.Reached.{mapped_none, changes-key}
 use Rattle.ug_groups.proofs.ByKeys.{each-same, row-met, by-some}
@@ -73,104 +73,73 @@ none-adds (k ∷ keys) key there none = by (same_group key k) refl there (k.add_
     by false e is false adds none rest = rest is none
 
 module _ (e : Happening) (prefix : IpPrefix) (w : World) (about : IsUnder prefix e) where
-  pub prefix-rows : IsGoodWorld w → (rows : Rows) → AreKept w rows
-      → each_by_key (λ key. with_changes (changes_in (after w e) (Under prefix) (keys_to true prefix (paths_to w.routes prefix)) (paths_to (after w e).routes prefix) key)) rows ≡ each_row (retabled_row (after w e)) rows
-  prefix-rows good rows kept =
-      each-same (λ (r : Row). with_sub (with_changes (changes_in (after w e) (Under prefix) (keys_to true prefix (paths_to w.routes prefix)) (paths_to (after w e).routes prefix) r.sub.key)) r) (retabled_row (after w e)) rows
+  abbrev told : List Path
+  told = paths_to (after w e).routes prefix
+
+  abbrev changing : List Key → List Path → GroupKey → Subgroup → Subgroup
+  changing before paths key = with_changes (changes_to (after w e) prefix before paths key)
+
+  prefix_rows : IsGoodWorld w → (rows : Rows) → AreKept w rows → each_by_key (changing (keys_to true prefix (paths_to w.routes prefix)) told) rows ≡ each_row (retabled_row (after w e)) rows
+  prefix_rows good rows kept =
+      each-same (λ (r : Row). with_sub (changing (keys_to true prefix (paths_to w.routes prefix)) told r.sub.key) r) (retabled_row (after w e)) rows
       (λ g r at.
-      changed_row (with_changes (changes_in (after w e) (Under prefix) (keys_to true prefix (paths_to w.routes prefix)) (paths_to (after w e).routes prefix) r.sub.key)) (retabled (after w e)) r
+      changed_row (changing (keys_to true prefix (paths_to w.routes prefix)) told r.sub.key) (retabled (after w e)) r
       (prefix-retabled e prefix w about good r.sub (kept g r at)))
 
   no_heeded : (b : Bool) → paths_heeded b [] ≡ 0
   no_heeded true = refl
   no_heeded false = refl
 
-  removed_routes : (p : IpPrefix) → (after w (HasNone p)).routes ≡ remove_entry (same_prefix p) w.routes
+  removed_routes : (after w (HasNone prefix)).routes ≡ remove_entry (same_prefix prefix) w.routes
   unfolding after
-  removed_routes p = refl
+  removed_routes = refl
 
-  pub prefix-touched : IsStrictlySortedBy prefix_cmp (keys_of w.routes) → (key : GroupKey) → heeded_in (Under prefix) (paths_to (after w e).routes prefix) key.add_path w ≡ paths_touched e key (after w e)
-  prefix-touched sorted key = by e about
-    where
-      by : (e : Happening) → IsUnder prefix e → heeded_in (Under prefix) (paths_to (after w e).routes prefix) key.add_path w ≡ paths_touched e key (after w e)
-      by (HasPaths p paths) about = ap (λ (q : IpPrefix). paths_heeded key.add_path (paths_to (after w (HasPaths p paths)).routes q)) (sym about)
-      by (HasNone p) about =
-          ap (λ (q : IpPrefix). paths_heeded key.add_path (paths_to (after w (HasNone p)).routes q)) (sym about)
-          ∙ ap (λ (rs : Routes). paths_heeded key.add_path (paths_to rs p)) (removed_routes p) ∙ ap (paths_heeded key.add_path) (none-left w.routes p sorted) ∙ no_heeded key.add_path
-      by (ComesUp name) about = absurd about
-      by (GoesDown name) about = absurd about
-      by (HasPolicy name policy) about = absurd about
-      by (HasEntries name entries) about = absurd about
-      by (AsksAgain name) about = absurd about
-      by (SendsRequest name) about = absurd about
-      by (SendsList name request) about = absurd about
-
-  pub prefix-asked : IsStrictlySortedBy prefix_cmp (keys_of w.routes) → (rows : Rows) → sum_by (λ (key : GroupKey). heeded_in (Under prefix) (paths_to (after w e).routes prefix) key.add_path w) (keys_in rows) ≡ entering e w rows
-  prefix-asked sorted rows = λ i. sum_by (λ (key : GroupKey). prefix-touched sorted key i) (keys_in rows)
+  prefix_touched : IsStrictlySortedBy prefix_cmp (keys_of w.routes) → (key : GroupKey) → paths_heeded key.add_path told ≡ paths_touched e key (after w e)
+  prefix_touched sorted key =
+      by-prefix (λ (f : Happening). paths_heeded key.add_path (paths_to (after w f).routes prefix) ≡ paths_touched f key (after w f)) prefix e about (λ given. refl)
+      (ap (λ (rs : Routes). paths_heeded key.add_path (paths_to rs prefix)) removed_routes ∙ ap (paths_heeded key.add_path) (none-left w.routes prefix sorted) ∙ no_heeded key.add_path)
 
   -- without ADD-PATH the keys that there were don't matter
-  changes_alike : (before : List Key) (key : GroupKey) → key.add_path ≡ false
-      → changes_in (after w e) (Under prefix) [] (paths_to (after w e).routes prefix) key ≡ changes_in (after w e) (Under prefix) before (paths_to (after w e).routes prefix) key
+  changes_alike : (before : List Key) (key : GroupKey) → key.add_path ≡ false → changes_to (after w e) prefix [] told key ≡ changes_to (after w e) prefix before told key
   changes_alike before key plain = by key.add_path plain (same_family key.family prefix.family)
     where
-      by : (a : Bool) → a ≡ false → (b : Bool)
-          → (if b then changes_by a key (after w e) prefix [] (paths_to (after w e).routes prefix) else []) ≡ (if b then changes_by a key (after w e) prefix before (paths_to (after w e).routes prefix) else [])
+      by : (a : Bool) → a ≡ false → (b : Bool) → (if b then changes_by a key (after w e) prefix [] told else []) ≡ (if b then changes_by a key (after w e) prefix before told else [])
       by false plain true = refl
       by false plain false = refl
       by true plain b = absurd cc
 
   before_alike : (rows : Rows) (b : Bool) → some_add_path (keys_in rows) ≡ b
-      → each_by_key (λ key. with_changes (changes_in (after w e) (Under prefix) (keys_before b w prefix) (paths_to (after w e).routes prefix) key)) rows
-      ≡ each_by_key (λ key. with_changes (changes_in (after w e) (Under prefix) (keys_to true prefix (paths_to w.routes prefix)) (paths_to (after w e).routes prefix) key)) rows
+      → each_by_key (changing (keys_before b w prefix) told) rows ≡ each_by_key (changing (keys_to true prefix (paths_to w.routes prefix)) told) rows
   before_alike rows true some = refl
   before_alike rows false some =
-      each-same (λ (r : Row). with_sub (with_changes (changes_in (after w e) (Under prefix) [] (paths_to (after w e).routes prefix) r.sub.key)) r)
-      (λ (r : Row). with_sub (with_changes (changes_in (after w e) (Under prefix) (keys_to true prefix (paths_to w.routes prefix)) (paths_to (after w e).routes prefix) r.sub.key)) r) rows
+      each-same (λ (r : Row). with_sub (changing [] told r.sub.key) r) (λ (r : Row). with_sub (changing (keys_to true prefix (paths_to w.routes prefix)) told r.sub.key) r) rows
       (λ g r at. ap (λ (cs : Changes). with_sub (with_changes cs) r) (changes_alike (keys_to true prefix (paths_to w.routes prefix)) r.sub.key (none-adds (keys_in rows) r.sub.key (row-met w rows g r at) some)))
 
   -- what goes out doesn't hang on the routes beside
-  changes_before : (before : List Key) (paths : List Path) (key : GroupKey) → changes_in w (Under prefix) before paths key ≡ changes_in (after w e) (Under prefix) before paths key
+  changes_before : (before : List Key) (paths : List Path) (key : GroupKey) → changes_to w prefix before paths key ≡ changes_to (after w e) prefix before paths key
   unfolding after
-  changes_before before paths key = by e about
-    where
-      by : (e : Happening) → IsUnder prefix e → changes_in w (Under prefix) before paths key ≡ changes_in (after w e) (Under prefix) before paths key
-      by (HasPaths p given) about = to_alike w (after w (HasPaths p given)) refl refl prefix key before paths
-      by (HasNone p) about = to_alike w (after w (HasNone p)) refl refl prefix key before paths
-      by (ComesUp name) about = absurd about
-      by (GoesDown name) about = absurd about
-      by (HasPolicy name policy) about = absurd about
-      by (HasEntries name entries) about = absurd about
-      by (AsksAgain name) about = absurd about
-      by (SendsRequest name) about = absurd about
-      by (SendsList name request) about = absurd about
+  changes_before before paths key =
+      by-prefix (λ (f : Happening). changes_to w prefix before paths key ≡ changes_to (after w f) prefix before paths key) prefix e about
+      (λ given. to_alike w (after w (HasPaths prefix given)) refl refl prefix key before paths) (to_alike w (after w (HasNone prefix)) refl refl prefix key before paths)
 
   -- the paths that the event tells are those of the prefix then
-  pub row-told : IsStrictlySortedBy prefix_cmp (keys_of w.routes) → told_row w e ≡ paths_to (after w e).routes prefix
+  pub row-told : IsStrictlySortedBy prefix_cmp (keys_of w.routes) → told_row w e ≡ told
   unfolding after
-  row-told sorted = by e about
-    where
-      by : (e : Happening) → IsUnder prefix e → told_row w e ≡ paths_to (after w e).routes prefix
-      by (HasPaths p given) about = sym (row-set w.routes p (map (path_of w) given) sorted) ∙ ap (paths_to (with_paths w p given)) about
-      by (HasNone p) about = sym (none-left w.routes p sorted) ∙ ap (paths_to (remove_entry (same_prefix p) w.routes)) about
-      by (ComesUp name) about = absurd about
-      by (GoesDown name) about = absurd about
-      by (HasPolicy name policy) about = absurd about
-      by (HasEntries name entries) about = absurd about
-      by (AsksAgain name) about = absurd about
-      by (SendsRequest name) about = absurd about
-      by (SendsList name request) about = absurd about
+  row-told sorted =
+      by-prefix (λ (f : Happening). told_row w f ≡ paths_to (after w f).routes prefix) prefix e about (λ given. sym (row-set w.routes prefix (map (path_of w) given) sorted)) (sym (none-left w.routes prefix sorted))
 
   module _ (paths : List Path) (row : paths ≡ told_row w e) (sorted : IsStrictlySortedBy prefix_cmp (keys_of w.routes)) where
     pub prefix-entered : IsGoodWorld w → (rows : Rows) → AreKept w rows → (before : List Key) → before ≡ keys_before (some_add_path (keys_in rows)) w prefix
-        → each_by_key (λ key. with_changes (changes_in w (Under prefix) before paths key)) rows ≡ each_row (retabled_row (after w e)) rows
+        → each_by_key (λ key. with_changes (changes_to w prefix before paths key)) rows ≡ each_row (retabled_row (after w e)) rows
     prefix-entered good rows kept before are =
         (λ i. each_by_key (λ key. with_changes (changes_before before paths key i)) rows)
-        ∙ ap (λ (ps : List Path). each_by_key (λ key. with_changes (changes_in (after w e) (Under prefix) before ps key)) rows) (row ∙ row-told sorted)
-        ∙ ap (λ (ks : List Key). each_by_key (λ key. with_changes (changes_in (after w e) (Under prefix) ks (paths_to (after w e).routes prefix) key)) rows) are
-        ∙ before_alike rows (some_add_path (keys_in rows)) refl ∙ prefix-rows good rows kept
+        ∙ ap (λ (ps : List Path). each_by_key (changing before ps) rows) (row ∙ row-told sorted)
+        ∙ ap (λ (ks : List Key). each_by_key (changing ks told) rows) are
+        ∙ before_alike rows (some_add_path (keys_in rows)) refl ∙ prefix_rows good rows kept
 
-    pub prefix-cost : (rows : Rows) → sum_by (λ (key : GroupKey). heeded_in (Under prefix) paths key.add_path w) (keys_in rows) ≡ entering e w rows
-    prefix-cost rows = ap (λ (ps : List Path). sum_by (λ (key : GroupKey). heeded_in (Under prefix) ps key.add_path w) (keys_in rows)) (row ∙ row-told sorted) ∙ prefix-asked sorted rows
+    pub prefix-cost : (rows : Rows) → sum_by (λ (key : GroupKey). paths_heeded key.add_path paths) (keys_in rows) ≡ entering e w rows
+    prefix-cost rows =
+        ap (λ (ps : List Path). sum_by (λ (key : GroupKey). paths_heeded key.add_path ps) (keys_in rows)) (row ∙ row-told sorted) ∙ (λ i. sum_by (λ (key : GroupKey). prefix_touched sorted key i) (keys_in rows))
 
     pub numbered-row : IsGoodWorld w → IsEvent e → AreNumbered paths
     numbered-row good form = subst AreNumbered (sym (row ∙ row-told sorted)) (paths-numbered (after w e).routes prefix (good-after w e good form).routes)
@@ -179,28 +148,13 @@ module _ (e : Happening) (prefix : IpPrefix) (w : World) (about : IsUnder prefix
 
 same_routes : (e : Happening) (list : List ℕ) (w : World) → IsList list e → (after w e).routes ≡ w.routes
 unfolding after
-same_routes (HasEntries name entries) list w about = refl
-same_routes (HasPaths prefix paths) list w about = absurd about
-same_routes (HasNone prefix) list w about = absurd about
-same_routes (ComesUp name) list w about = absurd about
-same_routes (GoesDown name) list w about = absurd about
-same_routes (HasPolicy name policy) list w about = absurd about
-same_routes (AsksAgain name) list w about = absurd about
-same_routes (SendsRequest name) list w about = absurd about
-same_routes (SendsList name request) list w about = absurd about
+same_routes e list w about = by-list (λ (f : Happening). (after w f).routes ≡ w.routes) list e about (λ entries. refl)
 
 -- where the list doesn't decide for a key nothing of what it wants changes
 kept_undecided : (e : Happening) (list : List ℕ) (w : World) (key : GroupKey) (q : Key) → IsList list e → decides_for (after w e).tables key list ≡ false → wanted key (after w e) q ≡ wanted key w q
 unfolding after
-kept_undecided (HasEntries name entries) list w key q about not = kept w (HasEntries name entries) key q (ap (decides_for w.tables key) about ∙ not)
-kept_undecided (HasPaths prefix paths) list w key q about not = absurd about
-kept_undecided (HasNone prefix) list w key q about not = absurd about
-kept_undecided (ComesUp name) list w key q about not = absurd about
-kept_undecided (GoesDown name) list w key q about not = absurd about
-kept_undecided (HasPolicy name policy) list w key q about not = absurd about
-kept_undecided (AsksAgain name) list w key q about not = absurd about
-kept_undecided (SendsRequest name) list w key q about not = absurd about
-kept_undecided (SendsList name request) list w key q about not = absurd about
+kept_undecided e list w key q about =
+    by-list (λ (f : Happening). decides_for (after w f).tables key list ≡ false → wanted key (after w f) q ≡ wanted key w q) list e about (λ entries not. kept w (HasEntries list entries) key q not)
 
 sum_some : (test : GroupKey → Bool) (f : GroupKey → ℕ) (keys : List GroupKey) → sum_by f (filter test keys) ≡ sum_by (λ (k : GroupKey). if test k then f k else 0) keys
 sum_some test f [] = refl
@@ -212,15 +166,7 @@ sum_some test f (k ∷ keys) = by (test k) (sum_some test f keys) ∙ sym (sum_b
     by false rest = omega arith
 
 list_touched : (e : Happening) (list : List ℕ) (w : World) → IsList list e → (key : GroupKey) → (if decides_for w.tables key list then all_heeded key.add_path w.routes else 0) ≡ paths_touched e key w
-list_touched (HasEntries name entries) list w about key = ap (λ (n : List ℕ). if decides_for w.tables key n then all_heeded key.add_path w.routes else 0) (sym about)
-list_touched (HasPaths prefix paths) list w about key = absurd about
-list_touched (HasNone prefix) list w about key = absurd about
-list_touched (ComesUp name) list w about key = absurd about
-list_touched (GoesDown name) list w about key = absurd about
-list_touched (HasPolicy name policy) list w about key = absurd about
-list_touched (AsksAgain name) list w about key = absurd about
-list_touched (SendsRequest name) list w about key = absurd about
-list_touched (SendsList name request) list w about key = absurd about
+list_touched e list w about key = by-list (λ (f : Happening). (if decides_for w.tables key list then all_heeded key.add_path w.routes else 0) ≡ paths_touched f key w) list e about (λ entries. refl)
 
 module _ (e : Happening) (list : List ℕ) (w : World) (about : IsList list e) where
   decided_retabled : IsStrictlySortedBy prefix_cmp (keys_of (after w e).routes) → (x : Subgroup) → IsKeptIn w x → with_changes (changes_of (after w e) (after w e).routes x.key) x ≡ retabled (after w e) x
@@ -236,31 +182,31 @@ module _ (e : Happening) (list : List ℕ) (w : World) (about : IsList list e) w
       (kept-wanted w (after w e) x [] kept (record { sorted = no-keys; values = tt; others = λ q absent. kept_undecided e list w x.key q about not }))
 
   list_rows : IsStrictlySortedBy prefix_cmp (keys_of (after w e).routes) → (rows : Rows) → AreKept w rows
-      → by_keys (λ key. with_changes (changes_in (after w e) All [] [] key)) (keys_decided (after w e) list (keys_in rows)) rows ≡ each_row (retabled_row (after w e)) rows
+      → by_keys (λ key. with_changes (changes_of (after w e) (after w e).routes key)) (keys_decided (after w e) list (keys_in rows)) rows ≡ each_row (retabled_row (after w e)) rows
   list_rows sorted rows kept =
-      by-some (λ key. with_changes (changes_in (after w e) All [] [] key)) (λ key. changes-key (changes_in (after w e) All [] [] key)) (λ (key : GroupKey). decides_for (after w e).tables key list) w rows
-      ∙ each-same (λ (r : Row). if decides_for (after w e).tables r.sub.key list then with_sub (with_changes (changes_in (after w e) All [] [] r.sub.key)) r else r) (retabled_row (after w e)) rows
+      by-some (λ key. with_changes (changes_of (after w e) (after w e).routes key)) (λ key. changes-key (changes_of (after w e) (after w e).routes key)) (λ (key : GroupKey). decides_for (after w e).tables key list) w rows
+      ∙ each-same (λ (r : Row). if decides_for (after w e).tables r.sub.key list then with_sub (with_changes (changes_of (after w e) (after w e).routes r.sub.key)) r else r) (retabled_row (after w e)) rows
       (λ g r at. by r (kept g r at) (decides_for (after w e).tables r.sub.key list) refl)
     where
       by : (r : Row) → IsKeptIn w r.sub → (b : Bool) → decides_for (after w e).tables r.sub.key list ≡ b
-          → (if b then with_sub (with_changes (changes_in (after w e) All [] [] r.sub.key)) r else r) ≡ retabled_row (after w e) r
+          → (if b then with_sub (with_changes (changes_of (after w e) (after w e).routes r.sub.key)) r else r) ≡ retabled_row (after w e) r
       by r is true decides = changed_row (with_changes (changes_of (after w e) (after w e).routes r.sub.key)) (retabled (after w e)) r (decided_retabled sorted r.sub is)
       by r is false not = changed_row (λ x. x) (retabled (after w e)) r (undecided_retabled r.sub is not)
 
-  list_asked : (rows : Rows) → sum_by (λ (key : GroupKey). heeded_in All [] key.add_path (after w e)) (keys_decided (after w e) list (keys_in rows)) ≡ entering e w rows
+  list_asked : (rows : Rows) → sum_by (λ (key : GroupKey). all_heeded key.add_path (after w e).routes) (keys_decided (after w e) list (keys_in rows)) ≡ entering e w rows
   list_asked rows =
       sum_some (λ (key : GroupKey). decides_for (after w e).tables key list) (λ (key : GroupKey). all_heeded key.add_path (after w e).routes) (keys_in rows)
       ∙ (λ i. sum_by (λ (key : GroupKey). list_touched e list (after w e) about key i) (keys_in rows))
 
   module _ (new : World) (taken : new ≡ after w e) where
     pub list-entered : IsStrictlySortedBy prefix_cmp (keys_of new.routes) → (rows : Rows) → AreKept w rows
-        → by_keys (λ key. with_changes (changes_in new All [] [] key)) (keys_decided new list (keys_in rows)) rows ≡ each_row (retabled_row (after w e)) rows
+        → by_keys (λ key. with_changes (changes_of new new.routes key)) (keys_decided new list (keys_in rows)) rows ≡ each_row (retabled_row (after w e)) rows
     list-entered sorted rows kept =
-        ap (λ (v : World). by_keys (λ key. with_changes (changes_in v All [] [] key)) (keys_decided v list (keys_in rows)) rows) taken
+        ap (λ (v : World). by_keys (λ key. with_changes (changes_of v v.routes key)) (keys_decided v list (keys_in rows)) rows) taken
         ∙ list_rows (subst (λ (v : World). IsStrictlySortedBy prefix_cmp (keys_of v.routes)) taken sorted) rows kept
 
-    pub list-cost : (rows : Rows) → sum_by (λ (key : GroupKey). heeded_in All [] key.add_path new) (keys_decided new list (keys_in rows)) ≡ entering e w rows
-    list-cost rows = ap (λ (v : World). sum_by (λ (key : GroupKey). heeded_in All [] key.add_path v) (keys_decided v list (keys_in rows))) taken ∙ list_asked rows
+    pub list-cost : (rows : Rows) → sum_by (λ (key : GroupKey). all_heeded key.add_path new.routes) (keys_decided new list (keys_in rows)) ≡ entering e w rows
+    list-cost rows = ap (λ (v : World). sum_by (λ (key : GroupKey). all_heeded key.add_path v.routes) (keys_decided v list (keys_in rows))) taken ∙ list_asked rows
 
 -- ---- an event of a peer
 

@@ -105,6 +105,15 @@ key-there (g ∷ gs) rows (k ∷ keys) (suc i) have inside =
     let rest = key-there gs rows keys i (cc) within in
     record { key = rest.key; is = rest.is; left = rest.left ∙ ap (λ (ks : List GroupKey). rest.key ∷ ks) (sym (behind_one k keys i)) }
 
+pub keys-done : (gs : List ℕ) (rows : Rows) (keys : List GroupKey) (i : ℕ) → HaveKeys gs rows keys → length gs ≤ i → drop i keys ≡ []
+keys-done [] rows [] zero have past = refl
+keys-done [] rows [] (suc i) have past = refl
+keys-done [] rows (k ∷ keys) i have past = absurd cc
+keys-done (g ∷ gs) rows [] i have past = absurd cc
+keys-done (g ∷ gs) rows (k ∷ keys) zero have past = absurd (omega arith)
+keys-done (g ∷ gs) rows (k ∷ keys) (suc i) have past =
+    let within : length gs ≤ i = omega arith in keys-done gs rows keys i (cc) within
+
 pub keys-more : (change : GroupKey → Subgroup → Subgroup) (gs : List ℕ) (before mid new : Rows) (keys : List GroupKey) (i : ℕ) → HaveKeys gs before keys → i < length gs
     → by_keys change (drop i keys) mid ≡ by_keys change keys before → ((h : ℕ) → key_at h mid ≡ key_at h before)
     → ((key : GroupKey) → key_at (get_or gs i 0) mid ≡ Some key → new ≡ each_row (of_key key (change key)) mid) → by_keys change (drop (i + 1) keys) new ≡ by_keys change keys before

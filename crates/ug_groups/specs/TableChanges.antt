@@ -20,13 +20,11 @@ use Rattle.ug_adjout.specs.Desiring.{AreForcedShown}
 use Rattle.ug_pack.specs.Ready.{key_order}
 use Rattle.ug_group_rules.specs.Packets.{same_out, wanted_rows}
 use Rattle.ug_group_rules.specs.Machine.{Subgroup}
-use Rattle.ug_group_rules.specs.Evaluations.{paths_heeded, all_heeded}
+use Rattle.ug_group_rules.specs.Evaluations.{all_heeded}
 use Rattle.ug_groups.specs.Standings.{desiring}
 use Rattle.ug_groups.specs.Rows.{Row, Rows, row_at, HasRow, with_sub, with_row, each_row, of_key}
 use Rattle.ug_groups.specs.declared.reach.Reach.{Reach}
 use Rattle.ug_groups.specs.declared.reach.Reach.TheVariants.{One, Alike}
-use Rattle.ug_groups.specs.declared.scope.Scope.{Scope}
-use Rattle.ug_groups.specs.declared.scope.Scope.TheVariants.{Under, All}
 
 -- keys in key order, each with the value with which it is desired from now on, or with none
 abbrev pub Changes : Type 0
@@ -68,15 +66,6 @@ changes_of w routes group = flat_map (λ (r : IpPrefix × List Path). changes_to
 
 -- ---- of the paths that an event touches
 
--- Of a prefix with these paths, which with ADD-PATH had these keys before, or of all prefixes.
-abbrev pub changes_in : World → Scope → List Key → List Path → GroupKey → Changes
-changes_in w (Under prefix) before paths group = changes_to w prefix before paths group
-changes_in w All before paths group = changes_of w w.routes group
-
-abbrev pub heeded_in : Scope → List Path → Bool → World → ℕ
-heeded_in (Under prefix) paths add_path w = paths_heeded add_path paths
-heeded_in All paths add_path w = all_heeded add_path w.routes
-
 -- the keys that there were, where a group key has ADD-PATH
 abbrev pub some_add_path : List GroupKey → Bool
 some_add_path keys = list_any (λ (key : GroupKey). key.add_path) keys
@@ -84,10 +73,6 @@ some_add_path keys = list_any (λ (key : GroupKey). key.add_path) keys
 abbrev pub keys_before : Bool → World → IpPrefix → List Key
 keys_before false w prefix = []
 keys_before true w prefix = keys_to true prefix (paths_to w.routes prefix)
-
-abbrev pub AreBefore : Scope → List Key → Type 0
-AreBefore (Under prefix) before = AllByRecursion (IsOwnKey prefix) before
-AreBefore All before = Unit {0}
 
 -- no identifier of these paths is 0
 abbrev pub AreNumbered : List Path → Type 0

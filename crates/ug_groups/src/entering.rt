@@ -14,8 +14,7 @@ ghost use Rattle.ug_groups.specs.TableChanges.{HaveKeys, IsList, IsOfPeer, IsUnd
 ghost use Rattle.ug_groups.specs.Entered.{AreKept, entering, retabled_row};
 
 use crate::Subgroups;
-use crate::scope::Scope;
-use crate::walking::{touch_all, touch_keys};
+use crate::walking::{touch_keys, touch_prefix};
 use std::alloc::Global;
 use std::sync::ledger::Ledger;
 use ug_events::Event;
@@ -86,10 +85,9 @@ fn enter_paths<L: Ledger>(
     let groups = groups.as_slice();
     let before = keys_before(alloc, world, subgroups, groups, prefix)?;
     let row = world.row_of(alloc, event)?;
-    let scope = Scope::Under(*prefix);
     let paths = row.as_slice();
-    touch_all(
-        alloc, world, subgroups, groups, &scope, &before, paths, steps,
+    touch_prefix(
+        alloc, world, subgroups, groups, prefix, &before, paths, steps,
     )?;
     world.take_row(alloc, event, row)
 }
@@ -120,16 +118,7 @@ fn enter_list<L: Ledger>(
     know_order(world);
     let groups = subgroups.groups()?;
     let groups = decided(alloc, world, subgroups, groups.as_slice(), name)?;
-    touch_keys(
-        alloc,
-        world,
-        subgroups,
-        &groups,
-        &Scope::All,
-        &[],
-        &[],
-        steps,
-    )
+    touch_keys(alloc, world, subgroups, &groups, steps)
 }
 
 /// The world is the one after an event of a peer, which changes nothing that subgroups desire and asks nothing.

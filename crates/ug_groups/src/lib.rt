@@ -39,7 +39,6 @@ mod routing;
 mod said;
 mod saying;
 mod scans;
-mod scope;
 mod settling;
 mod side;
 mod slowing;

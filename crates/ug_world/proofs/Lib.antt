@@ -12,3 +12,6 @@ pub mod Spelled
 pub mod GoodRoutes
 pub mod GoodWorlds
 pub mod Sendable
+pub mod Narrow
+pub mod Families
+pub mod FirstBehind

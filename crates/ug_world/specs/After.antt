@@ -12,7 +12,8 @@ use Rattle.ug_policy.specs.OrfApplying.{applied}
 use Rattle.ug_events.specs.Events.{Happening, ComesUp, GoesDown, HasPaths, HasNone, HasPolicy, HasEntries, AsksAgain, SendsRequest, SendsList}
 use Rattle.ug_world.specs.declared.peer_state.PeerState.{PeerState}
 use Rattle.ug_world.specs.World.{Routes, World}
-use Rattle.ug_world.specs.Verdicts.{with_paths}
+use Rattle.ug_types.specs.declared.route.Path.{Path}
+use Rattle.ug_world.specs.Verdicts.{path_of, with_paths}
 
 -- up, in one session more, with no filter of its own
 abbrev pub come_up : PeerState → PeerState
@@ -61,6 +62,18 @@ changed w (HasPolicy name policy) = with_peer w name (with_policy policy)
 changed w (HasEntries name entries) = with_list w name entries
 changed w (HasPaths prefix paths) = with_routes w (with_paths w prefix paths)
 changed w (HasNone prefix) = with_routes w (remove_entry (same_prefix prefix) w.routes)
+
+-- the paths that an event tells of its prefix, and none where it tells none
+abbrev pub told_row : World → Happening → List Path
+told_row w (HasPaths prefix paths) = map (path_of w) paths
+told_row w (HasNone prefix) = []
+told_row w (ComesUp name) = []
+told_row w (GoesDown name) = []
+told_row w (HasPolicy name policy) = []
+told_row w (HasEntries name entries) = []
+told_row w (AsksAgain name) = []
+told_row w (SendsRequest name) = []
+told_row w (SendsList name request) = []
 
 -- the world after an event that it accepts
 unfoldable pub after : World → Happening → World

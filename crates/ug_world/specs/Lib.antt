@@ -6,6 +6,7 @@ pub mod After
 pub mod Orders
 pub mod Rows
 pub mod Stored
+pub mod Families
 pub mod Kept
 pub mod Filtered
 pub mod Parts

@@ -3,8 +3,6 @@ use Rattle.std.specs.Borrow.{Bor}
 use Rattle.std.specs.Prelude.{Bool, true, List, Option, Some, None}
 use Rattle.std.specs.List.{filter}
 use Rattle.std.specs.Ordering.{is_lt}
-use Rattle.std.specs.declared.ops.Bound.{Bound}
-use Rattle.std.specs.declared.ops.Bound.TheVariants.{Excluded, Unbounded}
 use Rattle.ug_types.specs.Ip.{IpPrefix}
 use Rattle.ug_types.specs.Keys.{prefix_cmp}
 use Rattle.ug_types.specs.declared.route.Path.{Path}
@@ -18,11 +16,6 @@ is_behind (Some p) q = is_lt (prefix_cmp p q)
 -- the rows whose prefixes stand behind one, in their order; all rows, where none is given
 abbrev pub rows_behind : Option IpPrefix → Routes → Routes
 rows_behind from routes = filter (λ (row : IpPrefix × List Path). is_behind from row.0) routes
-
--- where the keys behind one begin, or all
-abbrev pub start_behind : {K : Type 0} → Option K → Bound K
-start_behind None = Unbounded
-start_behind (Some k) = Excluded k
 
 -- a row that is lent
 abbrev pub row_lent : IpPrefix × Bor (List Path) → IpPrefix × List Path

@@ -33,18 +33,6 @@ path_of w g = record { id = g.id; learned = learned_of w.local (sender w.peers g
 abbrev pub with_paths : World → IpPrefix → List GivenPath → Routes
 with_paths w prefix paths = insert_entry prefix_cmp w.routes prefix (map (path_of w) paths)
 
--- the paths that an event tells of its prefix, and none where it tells none
-abbrev pub told_row : World → Happening → List Path
-told_row w (HasPaths prefix paths) = map (path_of w) paths
-told_row w (HasNone prefix) = []
-told_row w (ComesUp name) = []
-told_row w (GoesDown name) = []
-told_row w (HasPolicy name policy) = []
-told_row w (HasEntries name entries) = []
-told_row w (AsksAgain name) = []
-told_row w (SendsRequest name) = []
-told_row w (SendsList name request) = []
-
 abbrev pub path_count : Routes → ℕ
 path_count routes = sum_by length (values_of routes)
 

@@ -15,10 +15,12 @@ mod parts;
 mod peer_state;
 mod peers;
 mod readers;
+mod row_trees;
 mod rows;
 mod seats;
 mod stored_prefix;
 mod take;
+mod v4_prefix;
 mod world;
 
 pub use best::Best;

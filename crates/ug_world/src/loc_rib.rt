@@ -4,31 +4,28 @@ ghost use Rattle.std.specs.Prelude.{◌≡◌, ◌≤◌, ◌||◌, nat_lt, if�
 ghost use Rattle.std.specs.List.Sorted.{IsStrictlySortedBy};
 ghost use Rattle.std.specs.Map.{lookup, remove_entry};
 ghost use Rattle.std.specs.Map as maps;
-ghost use Rattle.std.specs.BTreeMap.{insert_entry, get};
-ghost use Rattle.std.specs.BTreeMap.Range.{IsLeBy};
+ghost use Rattle.std.specs.BTreeMap.{insert_entry};
 ghost use Rattle.ug_types.specs.Ip.{IpPrefix};
 ghost use Rattle.ug_types.specs.Keys.{prefix_cmp, same_prefix};
 ghost use Rattle.ug_types.specs.declared.route.Path as stored;
 ghost use Rattle.ug_world.specs.World.{paths_to};
 ghost use Rattle.ug_world.specs.Private.{keys_of};
 ghost use Rattle.ug_world.specs.Verdicts.{path_count, is_overfull};
-ghost use Rattle.ug_world.specs.Orders.{IsAfterBy, IsAfter, IsNotAfter};
-ghost use Rattle.ug_world.specs.Rows.{rows_behind, start_behind};
+ghost use Rattle.ug_world.specs.Orders.{IsAfter, IsNotAfter};
+ghost use Rattle.ug_world.specs.Rows.{rows_behind};
 
 use crate::best::Best;
 use crate::keys::put_keys;
+use crate::row_trees::RowTrees;
 use crate::rows::Rows;
-use crate::stored_prefix::StoredPrefix;
 use std::alloc::Global;
-use std::collections::BTreeMap;
 use std::marker::Model;
-use std::ops::Bound;
 use ug_types::{Key, NoMemory, Path, Prefix};
 
 /// The Loc-RIB: each prefix that has paths, with them. Contracts see the prefixes in their order, each with its paths.
 #[derive(Drop)]
 pub struct LocRib {
-    rows: BTreeMap<StoredPrefix, Best>,
+    rows: RowTrees,
     /// How many paths there are in all.
     paths: u64,
 }
@@ -41,9 +38,9 @@ impl Model for LocRib {
 
     ghost Value = { List (IpPrefix × List Path) };
 
-    ghost view = { λ r. r.rows.entries };
+    ghost view = { λ r. r.rows };
 
-    ghost invariant = { λ r. IsCounted r.paths r.rows.entries };
+    ghost invariant = { λ r. IsCounted r.paths r.rows };
 }
 
 impl LocRib {
@@ -52,7 +49,7 @@ impl LocRib {
         ensures { result ≡ [] }
     {
         LocRib {
-            rows: BTreeMap::new(alloc),
+            rows: RowTrees::new(alloc),
             paths: 0,
         }
     }
@@ -61,7 +58,7 @@ impl LocRib {
     pub fn paths(&self, prefix: &Prefix) -> &[Path]
         ensures { result.now ≡ paths_to self.now prefix.now }
     {
-        match self.rows.get(&StoredPrefix::narrow(prefix)) {
+        match self.rows.get(prefix) {
             Some(best) => best.as_slice(),
             None => &[],
         }
@@ -71,7 +68,7 @@ impl LocRib {
     pub fn contains(&self, prefix: &Prefix) -> bool
         ensures { result ≡ is_some (lookup (same_prefix prefix.now) self.now) }
     {
-        self.rows.get(&StoredPrefix::narrow(prefix)).is_some()
+        self.rows.get(prefix).is_some()
     }
 
     /// Whether there would be over 1,048,576 prefixes, or over 2,097,152 paths, if this prefix had so many paths in place
@@ -117,7 +114,7 @@ impl LocRib {
         ensures small { result.0 ≤ 1 }
         ensures paths { result.1 ≡ length (paths_to self.now prefix.now) }
     {
-        match self.rows.get(&StoredPrefix::narrow(prefix)) {
+        match self.rows.get(prefix) {
             Some(best) => (1, best.as_slice().len() as u128),
             None => (0, 0),
         }
@@ -130,7 +127,7 @@ impl LocRib {
         ensures err { OnErr result (self.new ≡ self.old) }
     {
         let count = best.as_slice().len() as u64;
-        let before = count_of(self.rows.insert(StoredPrefix::narrow(&prefix), best)?);
+        let before = count_of(self.rows.insert(prefix, best)?);
         self.paths = self.paths - before + count;
         Ok(())
     }
@@ -139,7 +136,7 @@ impl LocRib {
     pub fn remove(&mut self, prefix: &Prefix)
         ensures { self.new ≡ remove_entry (same_prefix prefix.now) self.old }
     {
-        self.paths -= count_of(self.rows.remove(&StoredPrefix::narrow(prefix)));
+        self.paths -= count_of(self.rows.remove(prefix));
     }
 
     /// The least prefix with paths above the given one, or the first; None exactly where there is none.
@@ -149,7 +146,10 @@ impl LocRib {
         ensures least { IfSome result (λ p. (q : IpPrefix) → IsAfter (option_copied prefix.entry) q → IsSome (lookup (same_prefix q) self.now) → IsNotAfter p q) }
         ensures none { IfNone result ((q : IpPrefix) → IsAfter (option_copied prefix.entry) q → lookup (same_prefix q) self.now ≡ None) }
     {
-        first_after(&self.rows, prefix)
+        match self.rows.rows_behind(prefix).next() {
+            Some(row) => Some(row.0),
+            None => None,
+        }
     }
 
     /// The rows behind a prefix, or all of them, in the order of their prefixes. No list of them is made.
@@ -157,11 +157,7 @@ impl LocRib {
         ensures rows { result ≡ rows_behind (option_copied prefix.entry) self.now }
         ensures ascending { IsStrictlySortedBy prefix_cmp (maps.keys_of self.now) }
     {
-        Rows {
-            rows: self
-                .rows
-                .range((start_behind(narrowed(prefix)), Bound::Unbounded)),
-        }
+        self.rows.rows_behind(prefix)
     }
 
     /// The keys under which the paths can stand, in the order of the prefixes: identifier 0, or with ADD-PATH their own.
@@ -169,8 +165,8 @@ impl LocRib {
         ensures { IfOk result (λ keys. keys.items ≡ keys_of add_path self.now) }
     {
         let mut keys = Vec::new(alloc);
-        for (prefix, best) in self.rows.iter() {
-            put_keys(&mut keys, alloc, add_path, &prefix.widen(), best.as_slice())?;
+        for (prefix, paths) in self.rows.rows_behind(None) {
+            put_keys(&mut keys, alloc, add_path, &prefix, paths)?;
         }
         Ok(keys)
     }
@@ -200,51 +196,5 @@ fn count_of(best: Option<Best>) -> u64
     match best {
         Some(best) => best.as_slice().len() as u64,
         None => 0,
-    }
-}
-
-/// The least prefix above the given one, or the first.
-fn first_after(rows: &BTreeMap<StoredPrefix, Best>, prefix: Option<&Prefix>) -> Option<Prefix>
-    ensures there { IfSome result (λ p. IsSome (get prefix_cmp rows.now p)) }
-    ensures above { IfSome result (λ p. IsAfter (option_copied prefix.entry) p) }
-    ensures least { IfSome result (λ p. (q : IpPrefix) → IsAfter (option_copied prefix.entry) q → IsSome (get prefix_cmp rows.now q) → IsNotAfter p q) }
-    ensures none { IfNone result ((q : IpPrefix) → IsAfter (option_copied prefix.entry) q → get prefix_cmp rows.now q ≡ None) }
-{
-    match least_after(rows, narrowed(prefix)) {
-        Some(prefix) => Some(prefix.widen()),
-        None => None,
-    }
-}
-
-/// The least key above the given one, or the first.
-fn least_after<K: Ord + Drop, V>(rows: &BTreeMap<K, V>, key: Option<K>) -> Option<&K>
-    ensures there { IfSome result (λ k. IsSome (get K.cmp rows.now k.now)) }
-    ensures above { IfSome result (λ k. IsAfterBy K.cmp key k.now) }
-    ensures least { IfSome result (λ k. (q : K) → IsAfterBy K.cmp key q → IsSome (get K.cmp rows.now q) → IsLeBy K.cmp k.now q) }
-    ensures none { IfNone result ((q : K) → IsAfterBy K.cmp key q → get K.cmp rows.now q ≡ None) }
-{
-    match rows.range((start_behind(key), Bound::Unbounded)).next() {
-        Some((key, _)) => Some(key),
-        None => None,
-    }
-}
-
-/// Where the keys behind one begin, or all.
-fn start_behind<K>(key: Option<K>) -> Bound<K>
-    ensures { result ≡ start_behind key }
-{
-    match key {
-        Some(key) => Bound::Excluded(key),
-        None => Bound::Unbounded,
-    }
-}
-
-/// The prefix in few bytes, if there is one.
-fn narrowed(prefix: Option<&Prefix>) -> Option<StoredPrefix>
-    ensures { result ≡ option_copied prefix.entry }
-{
-    match prefix {
-        Some(prefix) => Some(StoredPrefix::narrow(prefix)),
-        None => None,
     }
 }

@@ -8,9 +8,9 @@ ghost use Rattle.ug_policy.specs.Lists.{list_refusal, seq_of};
 ghost use Rattle.ug_events.specs.Events.{ComesUp, GoesDown, HasPaths, HasNone, HasPolicy, HasEntries, AsksAgain, SendsRequest, SendsList, IsEvent, GivenPath};
 ghost use Rattle.ug_events.specs.Views.{event_of};
 ghost use Rattle.ug_policy.specs.OrfViews.{orf_seen};
-ghost use Rattle.ug_world.specs.Verdicts.{path_of, learned_of, sender, told_row, with_paths, is_overfull, verdict};
+ghost use Rattle.ug_world.specs.Verdicts.{path_of, learned_of, sender, with_paths, is_overfull, verdict};
 ghost use Rattle.ug_world.specs.World.{learned_from};
-ghost use Rattle.ug_world.specs.After.{after};
+ghost use Rattle.ug_world.specs.After.{after, told_row};
 
 use crate::best::Best;
 use crate::lists::relist;
@@ -200,6 +200,7 @@ impl World {
         }
     }
 
+    /// The same as a list of its own, where there is more than one, or none.
     fn paths_of(&self, alloc: Global, given: &[Given]) -> Result<Vec<Path>, NoMemory>
         ensures { IfOk result (λ paths. paths.items ≡ map (path_of self.now) given.now) }
     {

@@ -8,25 +8,25 @@ use Rattle.ug_groups.proofs.PrefixEvents.{before-all}
 use Rattle.ug_groups.proofs.RowsEntered.{numbered-row, prefix-entered, prefix-cost}
 use Rattle.ug_groups.proofs.entering.enter_paths.Goals as goal
 
-pub touch_all-requires-clause-before : goal.touch_all-requires-clause-before
-touch_all-requires-clause-before g c =
+pub touch_prefix-requires-clause-before : goal.touch_prefix-requires-clause-before
+touch_prefix-requires-clause-before g c =
     subst (AllByRecursion (IsOwnKey c.args.prefix.now)) (sym (c.deref.ensures.value ∙ c.in_ok-before.ensures)) (before-all (some_add_path (keys_in c.args.subgroups.now)) c.args.world.now c.args.prefix.now c.requires.good)
 
-pub touch_all-requires-clause-paths : goal.touch_all-requires-clause-paths
-touch_all-requires-clause-paths g c =
+pub touch_prefix-requires-clause-paths : goal.touch_prefix-requires-clause-paths
+touch_prefix-requires-clause-paths g c =
     numbered-row (event_of c.args.event.now) c.args.prefix.now c.args.world.now c.requires.about c.as_slice-paths.result.now (c.as_slice-paths.ensures ∙ c.in_ok-row.ensures) c.know_order.ensures c.requires.good c.requires.form
 
-pub returns-in_err-touch_all-clause-most : goal.returns-in_err-touch_all-clause-most
-returns-in_err-touch_all-clause-most g c =
-    subst (λ (n : ℕ). c.touch_all.new.steps ≤ c.args.steps.now + n)
+pub returns-in_err-touch_prefix-clause-most : goal.returns-in_err-touch_prefix-clause-most
+returns-in_err-touch_prefix-clause-most g c =
+    subst (λ (n : ℕ). c.touch_prefix.new.steps ≤ c.args.steps.now + n)
     (prefix-cost (event_of c.args.event.now) c.args.prefix.now c.args.world.now c.requires.about c.as_slice-paths.result.now (c.as_slice-paths.ensures ∙ c.in_ok-row.ensures) c.know_order.ensures c.args.subgroups.now)
-    c.touch_all.ensures.most
+    c.touch_prefix.ensures.most
 
 pub returns-clause-rows : goal.returns-clause-rows
 returns-clause-rows g c =
     on_ok_weaker c.take_row.result
     (λ _.
-    c.in_ok-touch_all.ensures.rows
+    c.in_ok-touch_prefix.ensures.rows
     ∙ prefix-entered (event_of c.args.event.now) c.args.prefix.now c.args.world.now c.requires.about c.as_slice-paths.result.now (c.as_slice-paths.ensures ∙ c.in_ok-row.ensures) c.know_order.ensures c.requires.good
     c.args.subgroups.now c.requires.kept c.deref.result.now (c.deref.ensures.value ∙ c.in_ok-before.ensures))
     c.take_row.ensures.ok
@@ -35,13 +35,13 @@ pub returns-clause-steps : goal.returns-clause-steps
 returns-clause-steps g c =
     on_ok_weaker c.take_row.result
     (λ _.
-    c.in_ok-touch_all.ensures.steps
+    c.in_ok-touch_prefix.ensures.steps
     ∙ ap (λ (n : ℕ). c.args.steps.now + n)
     (prefix-cost (event_of c.args.event.now) c.args.prefix.now c.args.world.now c.requires.about c.as_slice-paths.result.now (c.as_slice-paths.ensures ∙ c.in_ok-row.ensures) c.know_order.ensures c.args.subgroups.now))
     c.take_row.ensures.ok
 
 pub returns-clause-most : goal.returns-clause-most
 returns-clause-most g c =
-    subst (λ (n : ℕ). c.touch_all.new.steps ≤ c.args.steps.now + n)
+    subst (λ (n : ℕ). c.touch_prefix.new.steps ≤ c.args.steps.now + n)
     (prefix-cost (event_of c.args.event.now) c.args.prefix.now c.args.world.now c.requires.about c.as_slice-paths.result.now (c.as_slice-paths.ensures ∙ c.in_ok-row.ensures) c.know_order.ensures c.args.subgroups.now)
-    c.touch_all.ensures.most
+    c.touch_prefix.ensures.most

@@ -4,7 +4,8 @@ use Rattle.ug_types.specs.Keys.{prefix_cmp}
 use Rattle.ug_types.specs.declared.route.Path.{Path}
 use Rattle.ug_events.specs.declared.event.Event.{Event}
 use Rattle.ug_events.specs.Views.{event_of}
-use Rattle.ug_world.specs.Verdicts.{is_overfull, path_of, told_row, verdict}
+use Rattle.ug_world.specs.After.{told_row}
+use Rattle.ug_world.specs.Verdicts.{is_overfull, path_of, verdict}
 use Rattle.ug_world.proofs.Starting.{room}
 use Rattle.ug_world.proofs.world.World.take_row.Goals as goal
 
