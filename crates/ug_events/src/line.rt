@@ -21,8 +21,8 @@ use std::alloc::Global;
 use ug_text::read_prefix;
 use ug_types::{Name, Prefix};
 
-/// A reader of the lines of a file, one by one. It remembers the paths that it read last: lines near each other that give
-/// equal paths share them.
+/// A reader of the lines of a file, one by one. It remembers the paths that it read lately: lines that give equal paths
+/// share them.
 #[derive(Drop)]
 pub struct LineReader {
     alloc: Global,
@@ -34,7 +34,7 @@ impl LineReader {
     pub fn new(alloc: Global) -> LineReader {
         LineReader {
             alloc,
-            recent: Recent::new(),
+            recent: Recent::new(alloc),
         }
     }
 

@@ -18,9 +18,9 @@ mod readers;
 mod row_trees;
 mod rows;
 mod seats;
-mod stored_prefix;
 mod take;
 mod v4_prefix;
+mod v6_prefix;
 mod world;
 
 pub use best::Best;

@@ -11,8 +11,8 @@ ghost use Rattle.ug_world.specs.Rows.{rows_behind};
 
 use crate::best::Best;
 use crate::rows::Rows;
-use crate::stored_prefix::StoredPrefix;
 use crate::v4_prefix::V4Prefix;
+use crate::v6_prefix::V6Prefix;
 use std::alloc::{AllocError, Global};
 use std::collections::BTreeMap;
 use std::collections::btree_map::Range;
@@ -25,7 +25,7 @@ use ug_types::{Family, NoMemory, Prefix};
 #[derive(Drop)]
 pub struct RowTrees {
     v4: BTreeMap<V4Prefix, Best>,
-    v6: BTreeMap<StoredPrefix, Best>,
+    v6: BTreeMap<V6Prefix, Best>,
 }
 
 impl Model for RowTrees {
@@ -66,7 +66,7 @@ impl RowTrees {
     {
         match prefix.family {
             Family::V4 => self.v4.get(&V4Prefix::narrow(prefix)),
-            Family::V6 => self.v6.get(&StoredPrefix::narrow(prefix)),
+            Family::V6 => self.v6.get(&V6Prefix::narrow(prefix)),
         }
     }
 
@@ -79,7 +79,7 @@ impl RowTrees {
     {
         match prefix.family {
             Family::V4 => Ok(self.v4.insert(V4Prefix::narrow(&prefix), best)?),
-            Family::V6 => Ok(self.v6.insert(StoredPrefix::narrow(&prefix), best)?),
+            Family::V6 => Ok(self.v6.insert(V6Prefix::narrow(&prefix), best)?),
         }
     }
 
@@ -90,7 +90,7 @@ impl RowTrees {
     {
         match prefix.family {
             Family::V4 => self.v4.remove(&V4Prefix::narrow(prefix)),
-            Family::V6 => self.v6.remove(&StoredPrefix::narrow(prefix)),
+            Family::V6 => self.v6.remove(&V6Prefix::narrow(prefix)),
         }
     }
 
@@ -139,9 +139,9 @@ fn v4_behind<'a>(
 
 /// The rows of IPv6 behind a prefix, or all of them. They all stand behind a prefix of IPv4.
 fn v6_behind<'a>(
-    rows: &'a BTreeMap<StoredPrefix, Best>,
+    rows: &'a BTreeMap<V6Prefix, Best>,
     prefix: Option<&Prefix>,
-) -> Range<'a, StoredPrefix, Best>
+) -> Range<'a, V6Prefix, Best>
     requires { AreOf V6 rows.now.entries }
     ensures { result ≡ rows_behind (option_copied prefix.entry) rows.now.entries }
 {
@@ -150,7 +150,7 @@ fn v6_behind<'a>(
         Some(prefix) => match prefix.family {
             Family::V4 => rows.range(..),
             Family::V6 => {
-                let key = StoredPrefix::narrow(prefix);
+                let key = V6Prefix::narrow(prefix);
                 rows.range((Bound::Excluded(key), Bound::Unbounded))
             },
         },

@@ -6,8 +6,8 @@ ghost use Rattle.std.specs.Map.Iter.{TakesFirst};
 ghost use Rattle.ug_world.specs.Rows.{row_lent};
 
 use crate::best::Best;
-use crate::stored_prefix::StoredPrefix;
 use crate::v4_prefix::V4Prefix;
+use crate::v6_prefix::V6Prefix;
 use std::collections::btree_map::Range;
 use std::marker::Model;
 use ug_types::{Path, Prefix};
@@ -17,7 +17,7 @@ use ug_types::{Path, Prefix};
 pub struct Rows<'a> {
     /// Those of IPv4 that are left; None behind a prefix of IPv6, where they have all gone by.
     pub(crate) v4: Option<Range<'a, V4Prefix, Best>>,
-    pub(crate) v6: Range<'a, StoredPrefix, Best>,
+    pub(crate) v6: Range<'a, V6Prefix, Best>,
 }
 
 impl<'a> Model for Rows<'a> {

@@ -11,7 +11,7 @@ use std::cmp::Ordering;
 use std::marker::Model;
 use ug_types::{Family, Prefix};
 
-/// An IPv4 prefix as it is stored: 8 bytes, where one of either family takes 20. Contracts see the prefix that it stands
+/// An IPv4 prefix as it is stored: 8 bytes, where one to reckon with has 48. Contracts see the prefix that it stands
 /// for.
 #[derive(Drop)]
 pub struct V4Prefix {
