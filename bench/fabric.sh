@@ -16,8 +16,8 @@ config() {
 }
 
 # events PREFIXES PEERS ORDER: the routes, ten an attribute set, with the sessions of all peers before or after them. With
-# KEYS=random the prefixes come in random order, and ten lines in a row have one attribute set; with KEYS=shuffled the lines
-# of the sorted order come in random order.
+# KEYS=random the prefixes come in random order, and ten lines in a row have one attribute set; with KEYS=scattered the same
+# lines come in sorted order; with KEYS=shuffled those come in random order of which ten in a row have one in sorted order.
 events() {
     awk -v n="$1" -v peers="$2" -v order="$3" -v keys="${KEYS:-sorted}" '
         function sessions(  i) { for (i = 1; i <= peers; i++) printf "up p%d\n", i }
@@ -33,10 +33,12 @@ events() {
         }
         BEGIN {
             if (keys != "sorted") shuffle()
+            for (i = 0; i < n; i++) place[number[i]] = i
             if (order == "after") sessions()
             for (i = 0; i < n; i++) {
-                k = keys == "sorted" ? i : number[i]
-                printf "paths %d.%d.%d.0/24 id=1 from=local nh=0.0.0.0 origin=igp as=- med=%d\n", 20 + int(k / 65536), int(k / 256) % 256, k % 256, int((keys == "shuffled" ? k : i) / 10)
+                k = keys == "sorted" || keys == "scattered" ? i : number[i]
+                set = keys == "shuffled" ? k : keys == "scattered" ? place[i] : i
+                printf "paths %d.%d.%d.0/24 id=1 from=local nh=0.0.0.0 origin=igp as=- med=%d\n", 20 + int(k / 65536), int(k / 256) % 256, k % 256, int(set / 10)
             }
             if (order == "before") sessions()
         }'

@@ -4,8 +4,8 @@
 # time, the processors' time, the peak memory and the bytes written; then how the time grows from 100,000 to 400,000 prefixes,
 # to 8 peers of one group with `coalesce` 4096. Of RUNS runs (3) the shortest counts; runs with other workers come in turn. What
 # is written goes to TMPDIR, up to a gigabyte a run. PEERS, GROUPS_OF, COALESCE, PREFIXES and WORKERS are other numbers than
-# these, and ORDERS other orders than `after before`; KEYS is `random` or `shuffled` for prefixes that don't come in sorted order
-# (fabric.sh). GROWTH=no leaves out the growth.
+# these, and ORDERS other orders than `after before`; KEYS is `random`, `scattered` or `shuffled` for other orders of the lines
+# and their attributes (fabric.sh). GROWTH=no leaves out the growth.
 set -e
 source "$(dirname "$0")/measure.sh"
 source bench/fabric.sh
