@@ -1,7 +1,6 @@
 #!/bin/bash
 # rows.sh CONFIG DIR COMMAND..: for each session of a run in DIR its name, and what it leaves at the receiver. COMMAND is
 # the program, to which the words of `check` are added, with the options that CONFIG gives the session's peer.
-# rows.sh --options CONFIG PEER: these options alone.
 export LC_ALL=C
 
 # options PEER: those of `check` for the sessions of a peer.
@@ -15,11 +14,6 @@ options() {
         mine && /^[ \t]*family[ \t]*=/ && value($0) == "ipv6" { print "--ipv6" }' "$config"
 }
 
-if [ "$1" = --options ]; then
-    config=$2
-    options "$3"
-    exit
-fi
 config=$1
 folder=$2
 shift 2
