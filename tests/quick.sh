@@ -36,7 +36,7 @@ for i in "${!words[@]}"; do
     esac
 done
 (cd "$work" && "${words[@]}") || exit 1
-"$kit/bin/rattle-link" --target x86_64-unknown-linux-gnu --toolchain "$kit/toolchain" -o "$work/program" "$work/module.o" "$kit/c/libos_c.a" "$kit/c/liblibc_c.a" || exit 1
+"$kit/bin/rattle-link" --target x86_64-unknown-linux-gnu --toolchain "$kit/toolchain" -o "$work/program" "$work/module.o" "$kit/c/libos_c.a" "$kit/c/liblibc_c.a" > "$work/said" || exit 1
 mkdir -p out
 mv "$work/program" out/ug_main-unproved
 echo "out/ug_main-unproved is built, and not proved"
