@@ -10,7 +10,7 @@ help:
 	@echo "make install       installs the proved program and its manual page below PREFIX=/usr/local"
 	@echo "make check         proves the crates that changed since the last commit, and what they stand on"
 	@echo "make fmt           formats the sources"
-	@echo "make quick-test    tries all cases and scripts by the program without its proofs (ten minutes)"
+	@echo "make quick-test    tries all cases and scripts by the program without its proofs (ten to fifteen minutes)"
 	@echo "make test          the gate: proves and tests everything"
 	@echo "make oracles       proves the plain, slow programs with which fast ones are compared (half an hour)"
 	@echo "make wrong-bodies  tries all wrong bodies, or those of the crates in CRATES (an hour or two)"
