@@ -1,6 +1,8 @@
 """Fails each allocation of runs in turn: memory.py PROGRAM LIBRARY CASE.. goes through the cases of tests/runs of these
 names with both values of --workers, until no allocation is left to fail, and prints what came of each. The case `slow-peers`
-is none of those: there a pipe that nobody reads for a while makes a peer slow, beside two that are not.
+is none of those: there a pipe that nobody reads for a while makes a peer slow, beside two that are not. `check`, `groups`, `audit` and
+`one` are those commands over the files of the case `filters`, and `selfrun` is `selfrun 7`, of which, as it has more than 100,000
+allocations, the first 400 are failed and then each 1,999th.
 
 A run that lacked memory ends with status 6, its report is some lines of the whole report and then the status line, and each
 session is a front of the whole one. Where it was a wire that lacked memory its session is lost, and the status is 8."""
@@ -12,6 +14,7 @@ import sys
 import tempfile
 import time
 from collections import Counter
+from itertools import chain, count
 from pathlib import Path
 
 PROGRAM, LIBRARY = (os.path.abspath(word) for word in sys.argv[1:3])
@@ -185,26 +188,60 @@ def is_slow_front(whole, found):
     return is_front(whole, found) or is_otherwise_packed(whole, found)
 
 
-def sweep(name, workers, outcome_of, is_right=is_front):
-    """Goes through the allocations of a case, and answers whether all came as they should."""
+def sweep(name, outcome_of, is_right=is_front, numbers=count(1)):
+    """Goes through the allocations of a case, or those of these numbers, and answers whether all came as they should."""
     whole = outcome_of(0)
-    statuses, wrong, alike, number = Counter(), [], 0, 0
-    while alike < 40:
-        number += 1
+    statuses, wrong, alike, last = Counter(), [], 0, 0
+    for number in numbers:
         found = outcome_of(number)
         statuses[found[0]] += 1
-        alike = alike + 1 if found == whole else 0
+        alike, last = (alike + 1, last) if found == whole else (0, number)
         if found != whole and not is_right(whole, found):
             wrong.append(number)
-    print(f"{name} --workers {workers}: {number - alike} allocations, statuses {dict(statuses)}, wrong {wrong}")
+        if alike == 40:
+            break
+    print(f"{name}: allocations to number {last}, statuses {dict(statuses)}, wrong {wrong}")
     return not wrong
+
+
+def words_of(command, folder):
+    """The words of a command over the case `filters`, whose run left its report and sessions in this folder."""
+    case = CASES / "filters"
+    return {
+        "check": ["check", min(Path(folder, "there").iterdir())],
+        "groups": ["groups", case / "config.toml"],
+        "audit": ["audit", case / "config.toml", case / "events", Path(folder, "report"), Path(folder, "there")],
+        "one": ["one", case / "events", Path(folder, "own")],
+        "selfrun": ["selfrun", "7"],
+    }[command]
+
+
+def sweep_command(command):
+    """The same of a command over files that are there."""
+    with tempfile.TemporaryDirectory() as folder:
+        for part in ("there", "own"):
+            Path(folder, part).mkdir()
+        case = CASES / "filters"
+        with open(Path(folder, "report"), "wb") as report:
+            subprocess.run([PROGRAM, "run", case / "config.toml", case / "events", Path(folder, "there")], stdout=report, timeout=60)
+        words = [PROGRAM, *words_of(command, folder)]
+
+        def outcome_of(number):
+            for file in Path(folder, "own").iterdir():
+                file.unlink()
+            done = subprocess.run(words, env=dict(os.environ, LD_PRELOAD=LIBRARY, FAIL=str(number)), stdout=subprocess.PIPE, timeout=60)
+            return done.returncode, done.stdout, {file.name: file.read_bytes() for file in Path(folder, "own").iterdir()}
+
+        return sweep(command, outcome_of, numbers=chain(range(1, 401), count(1999, 1999)) if command == "selfrun" else count(1))
 
 
 def sweeps(name):
     """The same of a case with each value of --workers with which there is such a case."""
     if name == "slow-peers":
-        return [sweep(name, "1", slow_outcome, is_slow_front)]
-    return [sweep(name, workers, lambda number: outcome(CASES / name, workers, number)) for workers in "01"]
+        return [sweep("slow-peers with workers", slow_outcome, is_slow_front)]
+    if name in ("check", "groups", "audit", "one", "selfrun"):
+        return [sweep_command(name)]
+    return [sweep(f"{name} --workers {workers}", lambda number: outcome(CASES / name, workers, number)) for workers in "01"]
 
 
 results = [result for name in sys.argv[3:] for result in sweeps(name)]

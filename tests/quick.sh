@@ -1,8 +1,9 @@
 #!/bin/bash
-# Builds the program without its proofs, with checks of sums and bounds in their place, and keeps it at out/ug_main-unproved. It takes
-# some minutes. `rt try` lays the whole program down as one module, which it compiles with further checks, runs and removes: the
+# quick.sh [CRATE]: builds the program, or that of another crate (as ug_cases), without its proofs, with checks of sums and bounds in
+# their place, and keeps it at out/CRATE-unproved. It takes some minutes. `rt try` lays the whole program down as one module, which it compiles with further checks, runs and removes: the
 # module is taken as that begins, and is compiled to be kept.
 cd "$(dirname "${BASH_SOURCE[0]}")/.." || exit 1
+crate=${1:-ug_main}
 kit=$(dirname "$(rt doc)")
 work=$(mktemp -d)
 trap 'rm -rf "$work"' EXIT
@@ -18,7 +19,7 @@ compiler() {
     return 1
 }
 
-(cd crates/ug_main && TMPDIR=$work exec rt try -- groups nothing) > "$work/said" 2>&1 &
+(cd "crates/$crate" && TMPDIR=$work exec rt try -- groups nothing < /dev/null) > "$work/said" 2>&1 &
 tried=$!
 until process=$(compiler); do
     kill -0 "$tried" 2> "$work/ended" || { cat "$work/said"; exit 1; }
@@ -38,5 +39,5 @@ done
 (cd "$work" && "${words[@]}") || exit 1
 "$kit/bin/rattle-link" --target x86_64-unknown-linux-gnu --toolchain "$kit/toolchain" -o "$work/program" "$work/module.o" "$kit/c/libos_c.a" "$kit/c/liblibc_c.a" > "$work/said" || exit 1
 mkdir -p out
-mv "$work/program" out/ug_main-unproved
-echo "out/ug_main-unproved is built, and not proved"
+mv "$work/program" "out/$crate-unproved"
+echo "out/$crate-unproved is built, and not proved"
