@@ -165,6 +165,14 @@ code=$?
 ends "closed standard input" 0 "accepted 1 refused 0"
 same "the session of a run with closed standard input" there/p1.1 announced
 
+# With room for two files more the standard streams can't be held, which a command needs: words that are none are that first.
+said=$(ulimit -n 5; exec "$program" groups config.toml)
+code=$?
+ends "a command without room for its streams" 3 "status 3 read"
+said=$(ulimit -n 5; exec "$program" bogus)
+code=$?
+ends "words that are no command without room for the streams" 1 "status 1 usage"
+
 # ---- what `check` reads
 
 run check announced

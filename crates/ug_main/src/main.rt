@@ -34,7 +34,7 @@ use std::sync::Wait;
 use std::sync::ledger::{Blank, Ledger};
 use std::thread::Threads;
 use std::{env, fs};
-use ug_commands::end;
+use ug_commands::{command_in, end};
 use ug_edge::{HostSite, Sink, Site, StdoutSink};
 use ug_groups::Groups as UpdateGroups;
 use ug_report::Status;
@@ -44,15 +44,31 @@ use ug_types::Steps;
 /// Runs the command that the arguments are, over the files of the system, and ends with the number of its status.
 fn main(rt: HostRuntime) -> ExitCode {
     let mut report = StdoutSink::new(rt);
-    let Ok(_held) = hold_standard_streams(&rt) else {
-        return code_of(&end(&mut report, Status::ReadFault));
-    };
     let words = match words_of(rt.alloc(), env::args(&rt)) {
         Ok(words) => words,
         Err(status) => return code_of(&end(&mut report, status)),
     };
+    let _held = match may_run(&rt, words.as_slice()) {
+        Ok(held) => held,
+        Err(status) => return code_of(&end(&mut report, status)),
+    };
     let mut site = HostSite::new(rt, rt.alloc());
     code_of(&answer(&rt, rt.alloc(), words.as_slice(), &mut site, &mut report))
+}
+
+/// The standard streams, held for a command; else what is the matter: words that are no command, whatever the streams are, or
+/// that the streams can't be held.
+fn may_run<R: Files>(rt: &R, words: &[String]) -> Result<Held<R::File>, Status>
+    ensures usage { is_command (map string_bytes words.now) ≡ false → result ≡ Err Status.Usage }
+    ensures unheld { is_command (map string_bytes words.now) ≡ true → OnErr result (result ≡ Err Status.ReadFault) }
+{
+    if command_in(words).is_none() {
+        return Err(Status::Usage);
+    }
+    match hold_standard_streams(rt) {
+        Ok(held) => Ok(held),
+        Err(_) => Err(Status::ReadFault),
+    }
 }
 
 /// What a process ends with whose run came to this status.
