@@ -1,0 +1,149 @@
+"""The run behind the sessions: `ug_main run` with pipes as its events, its report and its sessions."""
+import asyncio
+import os
+import subprocess
+import sys
+import tempfile
+
+from live_lines import Lines
+from live_session import Session
+
+# What waits by `coalesce` is told after so many quiet seconds, and no later than so many seconds behind the first of it.
+QUIET, LATEST = 0.005, 0.1
+EVENTS = "/dev/stdin"
+
+
+class Writing(asyncio.Protocol):
+    """Whether the pipe of the events takes more."""
+
+    def __init__(self):
+        self.has_room = asyncio.Event()
+        self.has_room.set()
+
+    def pause_writing(self):
+        self.has_room.clear()
+
+    def resume_writing(self):
+        self.has_room.set()
+
+    def connection_lost(self, error):
+        self.has_room.set()
+
+
+class Run:
+    """One run of the program. `keep` gets a copy of all that goes in and comes out, where there is one."""
+
+    def __init__(self, program, config, folder, keep, said, flushes):
+        self.program, self.config, self.folder, self.keep, self.said, self.flushes = program, config, folder, keep, said, flushes
+        self.lines, self.sessions, self.full = Lines(), set(), asyncio.Event()
+        self.process = self.pipe = self.writing = self.flush_timer = None
+        self.first_waiting = None
+
+    async def start(self):
+        """Begins the run, in a process group of its own, so that Ctrl-C ends the sessions first."""
+        loop = asyncio.get_running_loop()
+        reading, writing = os.pipe()
+        words = [self.program, "run", self.config, EVENTS, self.folder, "--workers", "1"]
+        self.process = await asyncio.create_subprocess_exec(*words, stdin=reading, stdout=subprocess.PIPE, process_group=0)
+        os.close(reading)
+        self.pipe, self.writing = await loop.connect_write_pipe(Writing, os.fdopen(writing, "wb", buffering=0))
+
+    # ---- events
+
+    def say(self, lines):
+        """Says these lines, in this order."""
+        self.write("".join(line + "\n" for line in lines).encode())
+
+    def write(self, whole_lines):
+        """Says these lines, unless the run would have too many with them."""
+        if self.lines.have_room(whole_lines):
+            self.put(whole_lines)
+        else:
+            self.full.set()
+
+    def put(self, whole_lines):
+        if self.pipe.is_closing() or not whole_lines:
+            return
+        self.pass_on(whole_lines)
+        if self.flushes:
+            self.flush_soon()
+
+    def pass_on(self, whole_lines):
+        self.lines.take(whole_lines)
+        if self.keep is not None:
+            self.keep.events.write(whole_lines)
+        self.pipe.write(whole_lines)
+
+    async def room(self):
+        """Waits until the run has read what was written, but for a little."""
+        await self.writing.has_room.wait()
+
+    def flush_soon(self):
+        """With `coalesce` above 1 what comes behind the last turn would wait for the next event: `flush` has it told."""
+        now = asyncio.get_running_loop().time()
+        if self.flush_timer is None:
+            self.first_waiting = now
+        else:
+            self.flush_timer.cancel()
+        due = min(now + QUIET, self.first_waiting + LATEST)
+        self.flush_timer = asyncio.get_running_loop().call_at(due, self.flush)
+
+    def flush(self):
+        self.flush_timer = None
+        if not self.pipe.is_closing():
+            self.pass_on(b"flush\n")
+
+    # ---- sessions
+
+    def up(self, name, number, connection):
+        """Begins a session: its pipe is there, and is read, before the run opens it."""
+        file = f"{name}.{number}"
+        kept = self.keep.session(file) if self.keep is not None else None
+        session = Session(os.path.join(self.folder, file), kept, connection, self.sessions.discard)
+        self.sessions.add(session)
+        self.say([f"up {name}"])
+        return session
+
+    def down(self, name, session):
+        session.leave()
+        self.put(f"down {name}\n".encode())
+
+    # ---- the report
+
+    async def report(self):
+        """Hands the lines of the report on as they come, until the run ends. Gives its status."""
+        async for line in self.process.stdout:
+            sys.stdout.buffer.write(line)
+            sys.stdout.buffer.flush()
+            if self.keep is not None:
+                self.keep.report.write(line)
+            if line.startswith(b"line "):
+                self.tell_refused(line.decode())
+        status = await self.process.wait()
+        for session in list(self.sessions):
+            session.finish()
+        return status
+
+    def tell_refused(self, line):
+        """The run counts the lines that it reads, `up` and `down` too: the text says which of the operator's it was."""
+        number, _, *why = line.split()[1:]
+        self.said("refused line", why=" ".join(why), number=int(number), text=self.lines.text(int(number)))
+
+    # ---- the end
+
+    def close(self):
+        """No further event comes: the run ends behind what it has read."""
+        if self.flush_timer is not None:
+            self.flush_timer.cancel()
+        self.pipe.close()
+
+    def kill(self):
+        if self.process.returncode is None:
+            self.process.kill()
+
+
+def knows_flush(program, config):
+    """Whether the program has the verb `flush`. One that doesn't leaves what waits by `coalesce` untold until the next event."""
+    with tempfile.TemporaryDirectory() as folder:
+        tried = subprocess.run([program, "run", config, EVENTS, folder], input=b"flush\n", capture_output=True, check=False)
+    return b" refused " not in tried.stdout
