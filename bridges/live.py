@@ -24,7 +24,7 @@ import live_sockets
 from live_faults import Fault
 from live_keep import Keep
 from live_neighbor import Neighbor
-from live_run import Run, knows_flush
+from live_run import Run
 from live_said import Said
 
 ROOT = pathlib.Path(__file__).resolve().parent.parent
@@ -192,12 +192,11 @@ def live(words, folder):
     config, speaker, peers = prepared(words, program, folder)
     keys = live_sockets.keys_of(words.md5) if words.md5 else {}
     keep = Keep(words.keep, pathlib.Path(config).read_bytes()) if words.keep else None
-    flushes = speaker.coalesce > 1 and knows_flush(program, config)
     pipes = os.path.join(folder, "sessions")
     os.mkdir(pipes)
 
     async def all_sessions():
-        run = Run(program, config, pipes, keep, said, flushes)
+        run = Run(program, config, pipes, keep, said, speaker.coalesce)
         return await Live(words, speaker, peers, keys, said).serve(run)
 
     status = asyncio.run(all_sessions())

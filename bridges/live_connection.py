@@ -1,6 +1,7 @@
 """One TCP connection with a neighbor, from its OPEN to its end (RFC 4271 section 8.2.2, without the states that have no connection)."""
 import asyncio
 import collections
+import contextlib
 import enum
 
 from live_faults import NOTIFICATION, Fault, told_by
@@ -9,7 +10,7 @@ from live_open import EXTENDED, HOLD_TIME, check_open, open_message, read_open
 from messages import ROUTE_REFRESH, kind_of
 
 # How long an OPEN may take (section 8.2.2 suggests four minutes), and how long a NOTIFICATION has until all is cut.
-OPEN_TIME, LINGER = 240, 2
+OPEN_TIME, LINGER = 240, 1
 # How long a neighbor may read nothing (RFC 9687), and how much waits for it before its session's pipe is left full.
 SEND_HOLD_TIME, MOST_UNSENT = 480, 262144
 ALIVE = message(KEEPALIVE)
@@ -154,6 +155,7 @@ class Connection(asyncio.Protocol):
             return
         was, self.state = self.state, State.OVER
         self.stop_timers()
-        self.transport.write_eof()
+        with contextlib.suppress(OSError):
+            self.transport.write_eof()
         self.after("linger", LINGER, self.transport.abort)
         self.neighbor.ended(self, was, why)

@@ -48,12 +48,13 @@ class Frames:
             del self.rest[:at]
 
 
-def whole_length(stream):
-    """How many bytes the whole messages at the front of a well-formed stream have."""
-    at, last = 0, len(stream) - HEADER
+def whole_messages(stream):
+    """How many bytes the whole messages at the front of a well-formed stream have, and how many messages they are."""
+    at, count, last = 0, 0, len(stream) - HEADER
     while at <= last:
         length = stream[at + 16] << 8 | stream[at + 17]
         if at + length > len(stream):
             break
         at += length
-    return at
+        count += 1
+    return at, count

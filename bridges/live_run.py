@@ -5,11 +5,10 @@ import subprocess
 import sys
 import tempfile
 
+from live_flush import Flushing
 from live_lines import Lines
 from live_session import Session
 
-# What waits by `coalesce` is told after so many quiet seconds, and no later than so many seconds behind the first of it.
-QUIET, LATEST = 0.005, 0.1
 EVENTS = "/dev/stdin"
 
 
@@ -33,11 +32,11 @@ class Writing(asyncio.Protocol):
 class Run:
     """One run of the program. `keep` gets a copy of all that goes in and comes out, where there is one."""
 
-    def __init__(self, program, config, folder, keep, said, flushes):
-        self.program, self.config, self.folder, self.keep, self.said, self.flushes = program, config, folder, keep, said, flushes
+    def __init__(self, program, config, folder, keep, said, coalesce):
+        self.program, self.config, self.folder, self.keep, self.said = program, config, folder, keep, said
         self.lines, self.sessions, self.full = Lines(), set(), asyncio.Event()
-        self.process = self.pipe = self.writing = self.flush_timer = None
-        self.first_waiting = None
+        self.process = self.pipe = self.writing = None
+        self.flushing = Flushing(coalesce, self.flush) if knows_flush(program, config) else None
 
     async def start(self):
         """Begins the run, in a process group of its own, so that Ctrl-C ends the sessions first."""
@@ -65,8 +64,8 @@ class Run:
         if self.pipe.is_closing() or not whole_lines:
             return
         self.pass_on(whole_lines)
-        if self.flushes:
-            self.flush_soon()
+        if self.flushing is not None:
+            self.flushing.lines_came()
 
     def pass_on(self, whole_lines):
         self.lines.take(whole_lines)
@@ -78,20 +77,13 @@ class Run:
         """Waits until the run has read what was written, but for a little."""
         await self.writing.has_room.wait()
 
-    def flush_soon(self):
-        """With `coalesce` above 1 what comes behind the last turn would wait for the next event: `flush` has it told."""
-        now = asyncio.get_running_loop().time()
-        if self.flush_timer is None:
-            self.first_waiting = now
-        else:
-            self.flush_timer.cancel()
-        due = min(now + QUIET, self.first_waiting + LATEST)
-        self.flush_timer = asyncio.get_running_loop().call_at(due, self.flush)
-
     def flush(self):
-        self.flush_timer = None
         if not self.pipe.is_closing():
             self.pass_on(b"flush\n")
+
+    def messages_came(self, session, count):
+        if self.flushing is not None:
+            self.flushing.messages_came(session, count)
 
     # ---- sessions
 
@@ -99,7 +91,7 @@ class Run:
         """Begins a session: its pipe is there, and is read, before the run opens it."""
         file = f"{name}.{number}"
         kept = self.keep.session(file) if self.keep is not None else None
-        session = Session(os.path.join(self.folder, file), kept, connection, self.sessions.discard)
+        session = Session(os.path.join(self.folder, file), kept, connection, self)
         self.sessions.add(session)
         self.say([f"up {name}"])
         return session
@@ -133,8 +125,8 @@ class Run:
 
     def close(self):
         """No further event comes: the run ends behind what it has read."""
-        if self.flush_timer is not None:
-            self.flush_timer.cancel()
+        if self.flushing is not None:
+            self.flushing.stop()
         self.pipe.close()
 
     def kill(self):

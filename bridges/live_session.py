@@ -3,7 +3,7 @@ import asyncio
 import fcntl
 import os
 
-from live_frames import whole_length
+from live_frames import whole_messages
 
 # How many bytes are read of a pipe at a time, and how large the system is asked to make it.
 PIECE, PIPE_SIZE = 262144, 1048576
@@ -11,10 +11,10 @@ PIECE, PIPE_SIZE = 262144, 1048576
 
 class Session:
     """A pipe under the name of the session's file. It is read to its end in any case, since the run would lose a session whose pipe
-    is closed before. `kept` gets a copy, and `over` is called behind the last byte."""
+    is closed before. `kept` gets a copy, and the run is told how many messages came, and of the end."""
 
-    def __init__(self, path, kept, connection, over):
-        self.path, self.kept, self.connection, self.over = path, kept, connection, over
+    def __init__(self, path, kept, connection, run):
+        self.path, self.kept, self.connection, self.run = path, kept, connection, run
         self.loop, self.rest = asyncio.get_running_loop(), b""
         os.mkfifo(path, 0o600)
         self.pipe = os.open(path, os.O_RDONLY | os.O_NONBLOCK)
@@ -44,11 +44,14 @@ class Session:
         if self.kept is not None:
             self.kept.write(piece)
         if self.connection is not None:
-            piece = self.rest + piece
-            length = whole_length(piece)
-            self.rest = piece[length:]
-            if length > 0:
-                self.connection.send(piece[:length])
+            self.hand_on(self.rest + piece)
+
+    def hand_on(self, stream):
+        length, count = whole_messages(stream)
+        self.rest = stream[length:]
+        if count > 0:
+            self.run.messages_came(self, count)
+            self.connection.send(stream[:length])
 
     def leave(self):
         """The neighbor is gone: what comes is dropped."""
@@ -68,7 +71,7 @@ class Session:
         os.unlink(self.path)
         if self.kept is not None:
             self.kept.close()
-        self.over(self)
+        self.run.sessions.discard(self)
 
 
 def grow(pipe):

@@ -82,7 +82,23 @@ if [ -x "$program" ]; then
         done
     done
 else
-    echo "passed over, for want of a program at $program: pages and captures of runs"
+    echo "passed over, for want of a program at $program: pages and captures of runs, and live sessions"
+fi
+
+# ---- live sessions
+
+# counted WORDS..: runs tests that count for themselves.
+counted() {
+    "$@" > "$work/counted" 2>&1
+    sed '$d' "$work/counted"
+    passed=$((passed + $(sed -nE '$s/^([0-9]+) passed, [0-9]+ failed$/\1/p' "$work/counted")))
+    failed=$((failed + $(sed -nE '$s/^[0-9]+ passed, ([0-9]+) failed$/\1/p' "$work/counted")))
+    tail -n 1 "$work/counted" | grep -qE '^[0-9]+ passed, [0-9]+ failed$' || { tail -n 1 "$work/counted"; failed=$((failed + 1)); }
+}
+
+if [ -x "$program" ]; then
+    counted bridges/tests/live.py "$program"
+    counted bridges/tests/daemons.py "$program"
 fi
 echo "$passed passed, $failed failed"
 [ "$failed" = 0 ]

@@ -1,5 +1,6 @@
 """A BGP neighbor for the tests of live sessions, which does as it is told, wrong things too. It shares no code with what it tries."""
 import ipaddress
+import os
 import select
 import socket
 import struct
@@ -8,7 +9,7 @@ import time
 OPEN, UPDATE, NOTIFICATION, KEEPALIVE, ROUTE_REFRESH = 1, 2, 3, 4, 5
 MARKER = b"\xff" * 16
 # A machine that is busy may take long, and a test that fails may too.
-PATIENCE = 60
+PATIENCE = float(os.environ.get("PATIENCE", "60"))
 
 
 def message(kind, body=b"", marker=MARKER, length=None):
@@ -60,25 +61,31 @@ class Neighbor:
     def __init__(self, address, asn, identifier, afi=1, further=(), hold=90):
         self.address, self.asn, self.identifier, self.afi, self.hold = address, asn, identifier, afi, hold
         self.capabilities = [family(afi), REFRESH, four_bytes(asn), *further]
-        self.sock, self.rest, self.listener = None, b"", None
-        self.stream, self.opened = b"", None
+        self.sock, self.rest, self.listener = None, bytearray(), None
+        self.stream, self.opened = bytearray(), None
 
     def new_socket(self):
         sock = socket.socket(socket.AF_INET6 if ":" in self.address else socket.AF_INET)
         sock.setsockopt(socket.SOL_SOCKET, socket.SO_REUSEADDR, 1)
         return sock
 
-    def connect(self, place):
-        """Opens a connection from its own address, and forgets what an earlier one brought."""
+    def connect(self, place, prepare=None, patience=PATIENCE):
+        """Opens a connection from its own address, and forgets what an earlier one brought. `prepare` sets options of the socket."""
         sock = self.new_socket()
-        sock.bind((self.address, 0))
-        sock.settimeout(PATIENCE)
-        sock.connect(place)
+        try:
+            sock.bind((self.address, 0))
+            if prepare is not None:
+                prepare(sock)
+            sock.settimeout(patience)
+            sock.connect(place)
+        except OSError:
+            sock.close()
+            raise
         self.take(sock)
 
     def take(self, sock):
         sock.settimeout(PATIENCE)
-        self.sock, self.rest, self.stream, self.opened = sock, b"", b"", None
+        self.sock, self.rest, self.stream, self.opened = sock, bytearray(), bytearray(), None
 
     def listen(self, port=0):
         """Listens at its own address, and gives the port."""
@@ -101,7 +108,7 @@ class Neighbor:
 
     def next(self):
         """The next message. UPDATEs and ROUTE-REFRESHes are kept in `stream`."""
-        while len(self.rest) < 19 or len(self.rest) < struct.unpack_from("!H", self.rest, 16)[0]:
+        while not self.has_message():
             try:
                 piece = self.sock.recv(1 << 20)
             except ConnectionResetError as reset:
@@ -110,7 +117,8 @@ class Neighbor:
                 raise Closed
             self.rest += piece
         length = struct.unpack_from("!H", self.rest, 16)[0]
-        whole, self.rest = self.rest[:length], self.rest[length:]
+        whole = bytes(self.rest[:length])
+        del self.rest[:length]
         if whole[18] in (UPDATE, ROUTE_REFRESH):
             self.stream += whole
         return whole
@@ -131,10 +139,10 @@ class Neighbor:
             if whole[18] == NOTIFICATION:
                 return whole[19], whole[20], whole[21:]
 
-    def establish(self, place=None):
-        """A whole session, up to its KEEPALIVE."""
+    def establish(self, place=None, prepare=None):
+        """A whole session, up to its KEEPALIVE: on a new connection to this place, or on the one that there is."""
         if place is not None:
-            self.connect(place)
+            self.connect(place, prepare)
         self.send(self.open())
         self.opened = self.next_of(OPEN)
         self.send(message(KEEPALIVE))
@@ -148,9 +156,13 @@ class Neighbor:
                 raise AssertionError(f"not within {PATIENCE} s: {what}")
             self.next()
 
-    def quiet(self, seconds):
-        """Whether nothing comes for so long."""
-        return not self.rest and not select.select([self.sock], [], [], seconds)[0]
+    def has_message(self):
+        return len(self.rest) >= 19 and len(self.rest) >= struct.unpack_from("!H", self.rest, 16)[0]
+
+    def read_on(self, seconds=0.05):
+        """Reads messages until none comes for so long."""
+        while self.has_message() or select.select([self.sock], [], [], seconds)[0]:
+            self.next()
 
     def close(self):
         if self.sock is not None:
