@@ -12,14 +12,14 @@ class Keep:
         os.mkdir(self.place("sessions"))
         with open(self.place("config.toml"), "wb") as file:
             file.write(config)
-        self.events = open(self.place("events"), "wb")
-        self.report = open(self.place("report"), "wb")
+        self.events = open(self.place("events"), "wb", buffering=0)
+        self.report = open(self.place("report"), "wb", buffering=0)
 
     def place(self, name):
         return os.path.join(self.folder, name)
 
     def session(self, name):
-        return open(os.path.join(self.place("sessions"), name), "wb")
+        return open(os.path.join(self.place("sessions"), name), "wb", buffering=0)
 
     def close(self):
         self.events.close()

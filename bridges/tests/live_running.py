@@ -106,6 +106,13 @@ class Live:
         self.report.wait(lambda _: sum(line.startswith(beginning) for line in self.report.lines) >= number, beginning)
         return [line for line in self.report.lines if line.startswith(beginning)][number - 1]
 
+    def synced(self, peer, number):
+        """The line of this peer of the `number`th `sync`."""
+        def of_peer():
+            return [line for line in self.report.lines if line.startswith("sync ") and line.split()[2] == peer]
+        self.report.wait(lambda _: len(of_peer()) >= number, f"sync {number} of {peer}")
+        return of_peer()[number - 1]
+
     def end(self):
         """Ctrl-C, and the status behind it."""
         self.process.send_signal(signal.SIGINT)
