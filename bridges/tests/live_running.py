@@ -98,7 +98,10 @@ class Live:
         return sum(line["state"] == state and line.get("peer") == peer for line in said)
 
     def say(self, *lines):
-        self.process.stdin.write("".join(line + "\n" for line in lines))
+        self.write("".join(line + "\n" for line in lines))
+
+    def write(self, text):
+        self.process.stdin.write(text)
         self.process.stdin.flush()
 
     def reported(self, beginning, number=1):
