@@ -9,6 +9,7 @@ dropped: this is the outbound half. docs/LIVE.md is the manual.
 """
 import argparse
 import asyncio
+import contextlib
 import ipaddress
 import os
 import pathlib
@@ -84,7 +85,8 @@ class Live:
             return neighbor.accept(sock)
         fault = Fault(6, 5, why="no peer has this address")
         self.said("refused", why=str(fault), address=str(address))
-        sock.send(fault.message())
+        with contextlib.suppress(OSError):
+            sock.send(fault.message())
         sock.close()
 
     def call(self, peer):
@@ -127,13 +129,16 @@ class Live:
 
     async def pump(self, run):
         """Hands the operator's events on, as fast as the run takes them."""
-        left_out = 0
-        async for lines in live_events.whole_lines_of(self.events):
-            lines, count = live_events.without_sessions(lines)
-            left_out += count
-            run.write(lines)
-            await run.room()
-        self.said("events are over", lines=run.lines.count, left_out=left_out)
+        left_out, why = 0, None
+        try:
+            async for lines in live_events.whole_lines_of(self.events):
+                lines, count = live_events.without_sessions(lines)
+                left_out += count
+                run.write(lines)
+                await run.room()
+        except OSError as fault:
+            why = str(fault)
+        self.said("events are over", why=why, lines=run.lines.count, left_out=left_out)
 
     def heed_signals(self, run):
         for number in (signal.SIGINT, signal.SIGTERM):

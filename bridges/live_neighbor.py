@@ -67,7 +67,7 @@ class Neighbor:
         self.connections.add(made)
         return made
 
-    def call_again(self, why):
+    def call_again(self, why=None):
         """Waits twice as long after each call that came to nothing, up to two minutes (section 8.1, ConnectRetryTimer)."""
         if self.call is None or self.stopped or self.timer is not None:
             return
@@ -147,7 +147,7 @@ class Neighbor:
         """The connection is closed too."""
         self.connections.discard(connection)
         if not self.connections:
-            self.call_again("no session")
+            self.call_again()
 
     # ---- the end
 

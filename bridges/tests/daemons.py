@@ -353,10 +353,8 @@ def frr_sends_a_filter(program):
             trial = Trial(live, daemon)
             trial.is_same("at the start")
             daemon.filter()
-            live.state("filter", "p4", number=2)
+            until(lambda: {row[0] for row in daemon.rows(4)} == {"10.0.3.0/24"}, lambda: f"the filter leaves {daemon.rows(4)[:3]}")
             trial.is_same("with a filter")
-            if {row[0] for row in daemon.rows(4)} != {"10.0.3.0/24"}:
-                raise AssertionError("the filter doesn't hold")
             ends_well(live)
         finally:
             daemon.stop()
