@@ -201,7 +201,7 @@ def live(words, folder):
     os.mkdir(pipes)
 
     async def all_sessions():
-        run = Run(program, config, pipes, keep, said, speaker.coalesce)
+        run = Run(program, config, pipes, keep, said, speaker, peers)
         return await Live(words, speaker, peers, keys, said).serve(run)
 
     status = asyncio.run(all_sessions())

@@ -8,10 +8,12 @@ IPV4, IPV6 = 1, 2
 
 @dataclasses.dataclass(frozen=True)
 class Speaker:
-    """The local side of each session."""
+    """The local side of each session. `policies` are the names that a `policy` line may give, `-` being none."""
     asn: int
     identifier: ipaddress.IPv4Address
     coalesce: int
+    slow_after: int
+    policies: frozenset
 
 
 @dataclasses.dataclass(frozen=True)
@@ -27,6 +29,7 @@ class Peer:
     extended: bool
     enhanced_refresh: bool
     orf: bool | str
+    policy: str
 
 
 def peer_of(table):
@@ -35,7 +38,7 @@ def peer_of(table):
         afi=IPV6 if table.get("family") == "ipv6" else IPV4,
         address=ipaddress.ip_address(table["address"]), local_address=ipaddress.ip_address(table["local_address"]),
         add_path=table.get("add_path", False), extended=table.get("extended", False),
-        enhanced_refresh=table.get("enhanced_refresh", False), orf=table.get("orf", False))
+        enhanced_refresh=table.get("enhanced_refresh", False), orf=table.get("orf", False), policy=table.get("policy", "-"))
 
 
 def read(path):
@@ -43,7 +46,8 @@ def read(path):
     with open(path, "rb") as file:
         document = tomllib.load(file)
     local = document["local"]
-    speaker = Speaker(local["as"], ipaddress.IPv4Address(local["router_id"]), local.get("coalesce", 1))
+    policies = frozenset(["-", *(policy["name"] for policy in document.get("policy", []))])
+    speaker = Speaker(local["as"], ipaddress.IPv4Address(local["router_id"]), local.get("coalesce", 1), local.get("slow_after", 16), policies)
     return speaker, [peer_of(table) for table in document.get("peer", [])]
 
 

@@ -8,6 +8,7 @@ import tempfile
 from live_flush import Flushing
 from live_lines import Lines
 from live_session import Session
+from live_stall import Stall
 
 EVENTS = "/dev/stdin"
 
@@ -32,11 +33,12 @@ class Writing(asyncio.Protocol):
 class Run:
     """One run of the program. `keep` gets a copy of all that goes in and comes out, where there is one."""
 
-    def __init__(self, program, config, folder, keep, said, coalesce):
+    def __init__(self, program, config, folder, keep, said, speaker, peers):
         self.program, self.config, self.folder, self.keep, self.said = program, config, folder, keep, said
         self.lines, self.sessions, self.full = Lines(), set(), asyncio.Event()
         self.process = self.pipe = self.writing = None
-        self.flushing = Flushing(coalesce, self.flush) if knows_flush(program, config) else None
+        self.flushing = Flushing(speaker.coalesce, self.flush) if knows_flush(program, config) else None
+        self.stall = Stall(speaker, peers, self.sessions, self.say_on)
 
     async def start(self):
         """Begins the run, in a process group of its own, so that Ctrl-C ends the sessions first."""
@@ -63,6 +65,7 @@ class Run:
     def put(self, whole_lines):
         if self.pipe.is_closing() or not whole_lines:
             return
+        self.stall.lines_came(whole_lines)
         self.pass_on(whole_lines)
         if self.flushing is not None:
             self.flushing.lines_came()
@@ -77,11 +80,17 @@ class Run:
         """Waits until the run has read what was written, but for a little."""
         await self.writing.has_room.wait()
 
+    def say_on(self, lines):
+        """Says what nobody asked for: it leads to no further such lines by itself."""
+        text = "".join(line + "\n" for line in lines).encode()
+        if not self.pipe.is_closing() and self.lines.have_room(text):
+            self.pass_on(text)
+
     def flush(self):
-        if not self.pipe.is_closing():
-            self.pass_on(b"flush\n")
+        self.say_on(["flush"])
 
     def messages_came(self, session, count):
+        self.stall.moved()
         if self.flushing is not None:
             self.flushing.messages_came(session, count)
 
@@ -91,7 +100,7 @@ class Run:
         """Begins a session: its pipe is there, and is read, before the run opens it."""
         file = f"{name}.{number}"
         kept = self.keep.session(file) if self.keep is not None else None
-        session = Session(os.path.join(self.folder, file), kept, connection, self)
+        session = Session(name, os.path.join(self.folder, file), kept, connection, self)
         self.sessions.add(session)
         self.say([f"up {name}"])
         return session
@@ -125,6 +134,7 @@ class Run:
 
     def close(self):
         """No further event comes: the run ends behind what it has read."""
+        self.stall.stop()
         if self.flushing is not None:
             self.flushing.stop()
         self.pipe.close()

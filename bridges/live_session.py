@@ -13,8 +13,8 @@ class Session:
     """A pipe under the name of the session's file. It is read to its end in any case, since the run would lose a session whose pipe
     is closed before. `kept` gets a copy, and the run is told how many messages came, and of the end."""
 
-    def __init__(self, path, kept, connection, run):
-        self.path, self.kept, self.connection, self.run = path, kept, connection, run
+    def __init__(self, peer, path, kept, connection, run):
+        self.peer, self.path, self.kept, self.connection, self.run = peer, path, kept, connection, run
         self.loop, self.rest = asyncio.get_running_loop(), b""
         os.mkfifo(path, 0o600)
         self.pipe = os.open(path, os.O_RDONLY | os.O_NONBLOCK)
@@ -32,6 +32,9 @@ class Session:
         if self.reading:
             self.reading = False
             self.loop.remove_reader(self.pipe)
+
+    def is_left_full(self):
+        return not self.reading
 
     def carry(self):
         """Hands whole messages on, so that a KEEPALIVE or NOTIFICATION may stand between them."""
