@@ -30,7 +30,8 @@ from live_said import Said
 
 ROOT = pathlib.Path(__file__).resolve().parent.parent
 PROGRAMS = [ROOT / "out/ug_main", ROOT / "out/ug_main-unproved"]
-USAGE, ENDED_HARD = 1, 130
+# As a shell says that a signal ended a program.
+BY_SIGNAL = 128
 
 
 def words_of(arguments):
@@ -114,7 +115,7 @@ class Live:
         run.close()
         status = await report
         self.said("run ended", status=status)
-        return status
+        return status if status >= 0 else BY_SIGNAL - status
 
     def begin(self, run):
         call = None if self.words.passive else self.call

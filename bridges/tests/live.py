@@ -7,8 +7,10 @@ The last line is `N passed, M failed`. NAME tries the tests of these names alone
 environment, or else from 1.
 """
 import concurrent.futures
+import contextlib
 import os
 import random
+import signal
 import socket
 import struct
 import sys
@@ -378,6 +380,35 @@ def updates_of_the_neighbor_are_dropped(program):
         ends_well(live)
 
 
+# ---- the end
+
+def a_run_that_is_full_ends(program):
+    """Before the run would end for its limits, the sessions end as by Ctrl-C."""
+    with Live(program, config_text(one())) as live:
+        peer = first()
+        peer.establish(live.places[0])
+        live.say(path("10.0.0.0/8"))
+        with contextlib.suppress(BrokenPipeError):
+            live.write("#\n" * 2000000)
+        live.state("is full")
+        is_equal("NOTIFICATION", peer.notification(), (6, 2, b""))
+        is_equal("status of the run", live.state("run ended")["status"], 0)
+        is_equal("status of the audit", live.state("audit")["status"], 0)
+
+
+def a_run_that_dies_ends_the_sessions(program):
+    with Live(program, config_text(one()), keep=False) as live:
+        peer = first()
+        peer.establish(live.places[0])
+        live.state("up", "p1")
+        process = live.process.pid
+        with open(f"/proc/{process}/task/{process}/children", encoding="utf-8") as children:
+            os.kill(int(children.read()), signal.SIGKILL)
+        is_equal("NOTIFICATION", peer.notification(), (6, 8, b""))
+        is_equal("status of the run", live.state("run ended")["status"], -9)
+        is_equal("exit status", live.process.wait(bgp.PATIENCE), 137)
+
+
 # ---- the rest
 
 def both_families(program):
@@ -478,7 +509,7 @@ TESTS = [
     open_is_as_the_configuration_has_it, faults_of_an_open_are_told, an_open_without_families_is_ipv4, who_is_no_peer_is_turned_away,
     routes_are_told, a_session_that_ends_comes_again, the_hold_time_runs_out, of_two_connections_one_stays, a_neighbor_is_called_again,
     who_does_not_read_holds_up_itself_alone, a_flood_of_requests_is_told_as_few, requests_for_another_family_are_passed_over,
-    a_filter_of_the_neighbor_holds, updates_of_the_neighbor_are_dropped, both_families, what_waits_is_told_while_nothing_comes,
+    a_filter_of_the_neighbor_holds, a_run_that_is_full_ends, a_run_that_dies_ends_the_sessions, updates_of_the_neighbor_are_dropped, both_families, what_waits_is_told_while_nothing_comes,
     sessions_are_signed, who_is_far_away_is_not_heard, a_signed_neighbor_is_called]
 
 # What a program without `flush` doesn't do.

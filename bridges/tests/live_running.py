@@ -1,4 +1,5 @@
 """A live run for the tests: `bridges/live.py` as a process, with what it says, and its configuration."""
+import contextlib
 import ipaddress
 import json
 import pathlib
@@ -76,7 +77,8 @@ class Live:
             time.sleep(0 if self.process.poll() is not None else 0.1)
         self.process.wait(PATIENCE)
         for stream in (self.process.stdin, self.process.stdout, self.process.stderr):
-            stream.close()
+            with contextlib.suppress(BrokenPipeError):
+                stream.close()
         self.place.cleanup()
 
     def listens(self, number):
