@@ -82,9 +82,16 @@ class Live:
         sock.setblocking(False)
         address = ipaddress.ip_address(place[0].partition("%")[0])
         neighbor = self.neighbors.get(address)
-        if neighbor is not None:
-            return neighbor.accept(sock)
-        fault = Fault(6, 5, why="no peer has this address")
+        if neighbor is None:
+            self.turn_away(sock, address, "no peer has this address")
+        elif not neighbor.takes_another():
+            self.turn_away(sock, address, "too many connections at once")
+        else:
+            neighbor.accept(sock)
+
+    def turn_away(self, sock, address, why):
+        """Connection Rejected (RFC 4486)."""
+        fault = Fault(6, 5, why=why)
         self.said("refused", why=str(fault), address=str(address))
         with contextlib.suppress(OSError):
             sock.send(fault.message())

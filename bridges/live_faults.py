@@ -43,15 +43,3 @@ def told_by(message):
     """What a NOTIFICATION of the other side says."""
     code, subcode = message[19], message[20]
     return f"{code}/{subcode} {name_of(code, subcode)}"
-
-
-def shutdown():
-    return Fault(6, 2)
-
-
-def rejected(why):
-    return Fault(6, 5, why=why)
-
-
-def collision():
-    return Fault(6, 7)

@@ -14,7 +14,8 @@ REFRESH_INTERVAL = 1
 
 
 class Neighbor:
-    """`run` takes what happens; `said` says it. `source` is the address it is called from, and None where it is only listened to."""
+    """`run` takes what happens, and `said` says it. `call` gives a socket that can call it and where to, and is None where it is only
+    listened to."""
 
     def __init__(self, peer, speaker, run, said, call):
         self.peer, self.speaker, self.run, self.said, self.call = peer, speaker, run, said, call
@@ -55,12 +56,12 @@ class Neighbor:
             sock.close()
             self.call_again(str(fault) or "no answer")
 
+    def takes_another(self):
+        return len(self.connections) < MOST_CONNECTIONS
+
     def accept(self, sock):
         """Takes a connection that the neighbor opened."""
-        if self.stopped or len(self.connections) >= MOST_CONNECTIONS:
-            sock.close()
-        else:
-            self.start(asyncio.get_running_loop().connect_accepted_socket(lambda: self.connection(False), sock))
+        self.start(asyncio.get_running_loop().connect_accepted_socket(lambda: self.connection(False), sock))
 
     def connection(self, outgoing):
         made = Connection(self, outgoing)

@@ -22,7 +22,7 @@ def check(whole, peer):
 def is_for(whole, peer):
     """Whether it asks for the peer's routes. Marks, and requests for other families, are passed over (RFC 2918 section 4)."""
     afi, subtype, safi = struct.unpack_from("!HBB", whole, HEADER)
-    return (afi, safi) == (peer.afi, UNICAST) and subtype not in (BEGIN, END)
+    return (afi, safi) == (peer.afi, UNICAST) and subtype == REQUEST
 
 
 def is_plain(whole):

@@ -12,7 +12,9 @@ class Said:
         self.as_json, self.out = as_json, out
 
     def __call__(self, state, peer=None, why=None, **fields):
-        print(self.object(state, peer, why, fields) if self.as_json else self.words(state, peer, why, fields), file=self.out, flush=True)
+        known = {name: value for name, value in fields.items() if value is not None}
+        spell = self.object if self.as_json else self.words
+        print(spell(state, peer, why, known), file=self.out, flush=True)
 
     @staticmethod
     def object(state, peer, why, fields):

@@ -89,7 +89,8 @@ def open_is_as_the_configuration_has_it(program):
         peer = first()
         peer.connect(live.places[0])
         wanted = bgp.opening(4200000001, "192.0.2.100", [
-            bgp.family(1), bgp.REFRESH, bgp.four_bytes(4200000001), bgp.orf(1, 1), bgp.EXTENDED, bgp.add_path(1, 2), bgp.ENHANCED_REFRESH], short=23456)
+            bgp.family(1), bgp.REFRESH, bgp.four_bytes(4200000001), bgp.orf(1, 1), bgp.EXTENDED, bgp.add_path(1, 2),
+            bgp.ENHANCED_REFRESH], short=23456)
         is_equal("OPEN", peer.next(), wanted)
         peer.send(peer.open())
         data = bgp.orf(1, 1) + bgp.EXTENDED + bgp.add_path(1, 2) + bgp.ENHANCED_REFRESH
