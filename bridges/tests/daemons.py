@@ -49,7 +49,8 @@ BGPD = "/usr/lib/frr/bgpd"
 
 def route(prefix, number, next_hop, origin, path, med, local_pref, communities):
     """A route as all dumps are compared. What a dump doesn't have is the same in all of them."""
-    return (str(ipaddress.ip_network(prefix)), number, str(ipaddress.ip_address(next_hop)), origin.lower(), " ".join(map(str, path)), med, local_pref, tuple(communities))
+    return (str(ipaddress.ip_network(prefix)), number, str(ipaddress.ip_address(next_hop)), origin.lower(), " ".join(map(str, path)),
+            med, local_pref, tuple(communities))
 
 
 def of_check(row, has_numbers):
@@ -375,8 +376,17 @@ def knows_frr_filters(program):
         return subprocess.run([program, "groups", file.name], capture_output=True, check=False).returncode == 0
 
 
+def has_ipv6():
+    try:
+        return free_port("::1") > 0
+    except OSError:
+        return False
+
+
 def tests_of(program):
     """Name and test of each that can be tried here; the others are said."""
+    if not has_ipv6():
+        return print("passed over, for want of IPv6: live sessions with daemons")
     for kind in (Frr, Bird, Gobgp):
         if shutil.which(kind.needs) is None:
             print(f"passed over, for want of {os.path.basename(kind.needs)}: live sessions with {kind.name}")

@@ -507,14 +507,39 @@ def a_signed_neighbor_is_called(program):
 
 
 TESTS = [
-    open_is_as_the_configuration_has_it, faults_of_an_open_are_told, an_open_without_families_is_ipv4, who_is_no_peer_is_turned_away,
-    routes_are_told, a_session_that_ends_comes_again, the_hold_time_runs_out, of_two_connections_one_stays, a_neighbor_is_called_again,
-    who_does_not_read_holds_up_itself_alone, a_flood_of_requests_is_told_as_few, requests_for_another_family_are_passed_over,
-    a_filter_of_the_neighbor_holds, a_run_that_is_full_ends, a_run_that_dies_ends_the_sessions, updates_of_the_neighbor_are_dropped, both_families, what_waits_is_told_while_nothing_comes,
-    sessions_are_signed, who_is_far_away_is_not_heard, a_signed_neighbor_is_called]
+    open_is_as_the_configuration_has_it, faults_of_an_open_are_told, an_open_without_families_is_ipv4,
+    who_is_no_peer_is_turned_away, routes_are_told, a_session_that_ends_comes_again, the_hold_time_runs_out,
+    of_two_connections_one_stays, a_neighbor_is_called_again, who_does_not_read_holds_up_itself_alone,
+    a_flood_of_requests_is_told_as_few, requests_for_another_family_are_passed_over, a_filter_of_the_neighbor_holds,
+    a_run_that_is_full_ends, a_run_that_dies_ends_the_sessions, updates_of_the_neighbor_are_dropped, both_families,
+    what_waits_is_told_while_nothing_comes, sessions_are_signed, who_is_far_away_is_not_heard, a_signed_neighbor_is_called]
 
-# What a program without `flush` doesn't do.
+# What a program without `flush`, and a system without signatures or IPv6, doesn't do.
 OF_FLUSH = [what_waits_is_told_while_nothing_comes, who_does_not_read_holds_up_itself_alone]
+OF_SIGNATURES = [sessions_are_signed, a_signed_neighbor_is_called]
+OF_IPV6 = [both_families]
+
+
+def can(family, attempt):
+    """Whether the system lets a socket of this family do it."""
+    try:
+        with socket.socket(family) as sock:
+            attempt(sock)
+    except OSError:
+        return False
+    return True
+
+
+def passed_over(program):
+    """The tests that can't be tried here, which are said with the reason."""
+    wanting = [
+        ("since the program has no flush", OF_FLUSH, knows_flush(program)),
+        ("for want of TCP MD5", OF_SIGNATURES, can(socket.AF_INET, sign("127.0.0.1", b"key"))),
+        ("for want of IPv6", OF_IPV6, can(socket.AF_INET6, lambda sock: sock.bind(("::1", 0))))]
+    for why, tests, is_there in wanting:
+        if not is_there:
+            print(f"passed over, {why}: {', '.join(test.__name__ for test in tests)}")
+            yield from tests
 
 
 def try_one(test, program):
@@ -534,9 +559,8 @@ def try_one(test, program):
 def main():
     program, *names = sys.argv[1:]
     tests = [test for test in TESTS if not names or test.__name__ in names]
-    if not knows_flush(program):
-        print("passed over, since the program has no flush:", *(test.__name__ for test in tests if test in OF_FLUSH))
-        tests = [test for test in tests if test not in OF_FLUSH]
+    over = set(passed_over(program))
+    tests = [test for test in tests if test not in over]
     with concurrent.futures.ThreadPoolExecutor(AT_A_TIME) as pool:
         passed = sum(pool.map(lambda test: try_one(test, program), tests))
     print(f"{passed} passed, {len(tests) - passed} failed")
