@@ -56,7 +56,7 @@ right() {
 
 # slowly NAME CONFIG EVENTS: the certificate is that of the slow auditor.
 slowly() {
-    python3 tests/auditor.py "$2" "$3" "$work/report" "$work/there" > "$work/slow" 2> "$work/errors"
+    python3 tests/auditor.py audit "$2" "$3" "$work/report" "$work/there" > "$work/slow" 2> "$work/errors"
     cmp -s "$work/slow" "$work/certificate" && note "$1" ok || note "$1" "other certificates: $(diff "$work/slow" "$work/certificate" | head -n 5)"
 }
 

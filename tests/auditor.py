@@ -1,18 +1,20 @@
 #!/usr/bin/env python3
-"""auditor.py CONFIG EVENTS REPORT DIR: a plain, slow auditor. It prints what `audit` has to print, and ends with that status.
+"""auditor.py audit [--explain] [--unordered] CONFIG EVENTS REPORT DIR: a plain, slow auditor.
 
-It holds a whole table for each version, and asks each rule of each key, of each message and of each mark; the least breach is
-told. It takes a configuration that is accepted. The model is that of tests/model.py; nothing of it is taken from the program.
+It prints what `audit` has to print, and ends with that status, as docs/AUDIT.md says. It holds a whole table for each version, and asks
+each rule of each key, of each message and of each mark. It takes a configuration that is accepted. The model is that of
+tests/model.py; nothing of it is taken from the program.
 """
 
 import os
 import sys
 
-from model import Refused, lines_of, prefix_text, read_config, read_line
+from heard import CUT, MALFORMED, Heard
+from model import NAMES, Attributes, Refused, attribute_words, lines_of, prefix_text, read_config, read_line
 
 MOST_CONFIG, MOST_BYTES, MOST_LINES = 1048576, 1073741824, 2000000
-WHOLE, CUT, MALFORMED = "whole", "cut", "malformed"
-UNREAD, STUCK, AMISS, OFF = 1, 2, 3, 4
+UNREAD, STUCK, AMISS, OFF, LATE = 1, 2, 3, 4, 5
+MOST_MAY = 4
 
 
 class Ended(Exception):
@@ -24,194 +26,14 @@ class Ended(Exception):
         self.text = "status %d %s\n" % (status, text)
 
 
-# ---- messages
-
-class Fault(Exception):
-    """A message can't be read."""
-
-
-def needed(holds):
-    if not holds:
-        raise Fault
-
-
-def number(data):
-    return int.from_bytes(data, "big")
-
-
-def four_by_four(data):
-    return [data[at:at + 4] for at in range(0, len(data), 4)]
-
-
-def routes_read(family, add_path, data):
-    """Keys: a prefix and an identifier."""
-    width = 32 if family == 4 else 128
-    keys = []
-    while data:
-        identifier = 0
-        if add_path:
-            needed(len(data) >= 4)
-            identifier, data = number(data[:4]), data[4:]
-        needed(data and data[0] <= width)
-        length = data[0]
-        size = (length + 7) // 8
-        needed(len(data) > size)
-        bits = number(data[1:1 + size] + bytes(width // 8 - size))
-        past = width - length
-        keys.append(((family, bits >> past << past, length), identifier))
-        data = data[1 + size:]
-    return keys
-
-
-def segments_read(data):
-    segments = []
-    while data:
-        needed(len(data) >= 2 and data[0] in (1, 2) and data[1] > 0 and len(data) >= 2 + 4 * data[1])
-        end = 2 + 4 * data[1]
-        segments.append((data[0] == 1, tuple(number(word) for word in four_by_four(data[2:end]))))
-        data = data[end:]
-    return tuple(segments)
-
-
-# of each type its flags, the lengths that its value may have, and what the value says
-KINDS = {
-    1: (0x40, lambda n: n == 1, lambda v: v[0]),
-    2: (0x40, lambda n: True, segments_read),
-    3: (0x40, lambda n: n == 4, lambda v: (4, number(v))),
-    4: (0x80, lambda n: n == 4, number),
-    5: (0x40, lambda n: n == 4, number),
-    6: (0x40, lambda n: n == 0, lambda v: True),
-    7: (0xC0, lambda n: n == 8, lambda v: (number(v[:4]), (4, number(v[4:])))),
-    8: (0xC0, lambda n: n % 4 == 0, lambda v: tuple(number(word) for word in four_by_four(v))),
-    9: (0x80, lambda n: n == 4, lambda v: (4, number(v))),
-    10: (0x80, lambda n: n % 4 == 0, lambda v: tuple((4, number(word)) for word in four_by_four(v))),
-}
-MP_REACH, MP_UNREACH = 14, 15
-
-
-def is_ipv6_unicast(value):
-    return value[:3] == b"\x00\x02\x01"
-
-
-def reach_read(value):
-    needed(is_ipv6_unicast(value) and len(value) >= 4 and value[3] in (16, 32) and len(value) >= 5 + value[3])
-    return (6, number(value[4:20])), value[5 + value[3]:]
-
-
-def unreach_read(value):
-    needed(is_ipv6_unicast(value))
-    return value[3:]
-
-
-def attributes_read(family, data):
-    """The values of the attributes by their types."""
-    kinds = dict(KINDS)
-    if family == 6:
-        kinds[MP_REACH] = (0x80, lambda n: True, reach_read)
-        kinds[MP_UNREACH] = (0x80, lambda n: True, unreach_read)
-    seen, values = set(), {}
-    while data:
-        head = 4 if data[0] & 0x10 else 3
-        needed(len(data) >= head)
-        size = number(data[2:head])
-        needed(len(data) >= head + size)
-        flags, kind, value = data[0], data[1], data[head:head + size]
-        data = data[head + size:]
-        needed(kind not in seen)
-        seen.add(kind)
-        if kind not in kinds:
-            needed(flags & 0x80)
-            continue
-        wanted, has_length, read = kinds[kind]
-        needed(flags & 0xC0 == wanted and (not flags & 0x20 or kind in (7, 8)) and has_length(size))
-        values[kind] = read(value)
-        needed(kind != 1 or values[1] <= 2)
-    return values
-
-
-def attributes_of(values, next_hop):
-    """All attributes of a route, as one value."""
-    needed(1 in values and 2 in values and next_hop is not None)
-    return (values[1], values[2], next_hop, values.get(4), values.get(5), values.get(6, False), values.get(7), values.get(8, ()),
-            values.get(9), values.get(10, ()))
-
-
-def update_read(family, add_path, m):
-    """The withdrawn keys, the announced keys, and their attributes."""
-    withdrawn = number(m[19:21])
-    needed(len(m) >= 23 + withdrawn)
-    size = number(m[21 + withdrawn:23 + withdrawn])
-    needed(len(m) >= 23 + withdrawn + size)
-    before, among, behind = m[21:21 + withdrawn], m[23 + withdrawn:23 + withdrawn + size], m[23 + withdrawn + size:]
-    if family == 6:
-        needed(not before and not behind)
-        values = attributes_read(family, among)
-        next_hop, behind = values.get(MP_REACH, (None, b""))
-        before = values.get(MP_UNREACH, b"")
-        attributes = attributes_of(values, next_hop) if behind else None
-        return routes_read(6, add_path, before), routes_read(6, add_path, behind), attributes
-    gone = routes_read(4, add_path, before)
-    values = attributes_read(family, among)
-    attributes = attributes_of(values, values.get(3)) if behind else None
-    return gone, routes_read(4, add_path, behind), attributes
-
-
-def message_read(family, add_path, m):
-    if m[18] == 2:
-        return ("update",) + update_read(family, add_path, m)
-    if number(m[19:21]) == (1 if family == 4 else 2) and m[22] == 1 and m[21] in (1, 2):
-        return ("begins",) if m[21] == 1 else ("ends",)
-    return ("ignored",)
-
-
-def read_session(peer, data):
-    """The messages, and what stands behind them."""
-    family, add_path, limit = peer.family, peer.has("add_path"), 65535 if peer.has("extended") else 4096
-    messages = []
-    at = 0
-    try:
-        while len(data) - at >= 19:
-            size, kind = number(data[at + 16:at + 18]), data[at + 18]
-            needed(data[at:at + 16] == b"\xff" * 16 and 19 <= size <= limit and kind in (2, 5))
-            needed(size >= 23 if kind == 2 else size == 23)
-            if len(data) - at < size:
-                break
-            messages.append(message_read(family, add_path, data[at:at + size]))
-            at += size
-    except Fault:
-        return messages, MALFORMED
-    return messages, WHOLE if at == len(data) else CUT
-
-
-def tables_of(messages):
-    """The receiver's table before the first message and after each: attributes by key."""
-    table, stale = {}, set()
-    tables = [table]
-    for message in messages:
-        table = dict(table)
-        if message[0] == "update":
-            _, withdrawn, announced, attributes = message
-            for key in withdrawn:
-                table.pop(key, None)
-            for key in announced:
-                table[key] = attributes
-            stale = stale - set(withdrawn) - set(announced)
-        elif message[0] == "begins":
-            stale = set(table)
-        elif message[0] == "ends":
-            table = {key: value for key, value in table.items() if key not in stale}
-            stale = set()
-        tables.append(table)
-    return tables
-
-
 # ---- the worlds that the events lead through
 
 class Worlds:
     """Each peer's private table by version, and in which session the peer was then: 0 where it was down."""
 
-    def __init__(self, config, events):
+    def __init__(self, config, events, unordered=False):
         self.last = world = read_config(config)
+        self.alike = without_order if unordered else as_it_is
         self.refused = []
         self.known = {}
         self.lists = 0
@@ -221,17 +43,21 @@ class Worlds:
         for place, line in enumerate(lines_of(events), 1):
             try:
                 event = read_line(line)
-            except Refused:
-                self.refused.append(place)
+            except Refused as refusal:
+                self.refuse(place, refusal.number, refusal.inner)
                 continue
             if event is None or event[0] == "sync":
                 continue
-            if world.verdict(event) is not None:
-                self.refused.append(place)
+            number = world.verdict(event)
+            if number is not None:
+                self.refuse(place, number, None)
                 continue
             world.take(event)
             self.lists += event[0] == "list"
             self.remember()
+
+    def refuse(self, place, number, inner):
+        self.refused.append("line %d refused %d %s%s" % (place, number, NAMES[number], "" if inner is None else " %d" % inner))
 
     def remember(self):
         for peer in self.last.peers.values():
@@ -247,7 +73,7 @@ class Worlds:
                     known = (peer.name, peer.policy, self.lists, id(peer.filter), place, id(path))
                     if known not in self.known:
                         # the path and the filter stay with it, so that no other ones get their addresses
-                        self.known[known] = (value_of(self.last.told(peer, place, path)), path, peer.filter)
+                        self.known[known] = (self.alike(value_of(self.last.told(peer, place, path))), path, peer.filter)
                     value = self.known[known][0]
                     if value is not None:
                         table[place, identifier] = value
@@ -257,6 +83,10 @@ class Worlds:
         """What the tables of a session have to follow: the empty one, and then that of each version of the session."""
         return [{}] + [table for table, session in zip(self.tables[name], self.session[name]) if session == n]
 
+    def place(self, name, n, version):
+        """How many versions of the session aren't later than this one."""
+        return self.session[name][:version + 1].count(n)
+
 
 def value_of(a):
     if a is None:
@@ -265,46 +95,74 @@ def value_of(a):
             a.aggregator, tuple(a.communities), a.originator, tuple(a.clusters))
 
 
+def as_it_is(value):
+    return value
+
+
+def without_order(value):
+    """What is a set stands in order, and each part once."""
+    if value is None:
+        return None
+    origin, segments, next_hop, med, local_pref, atomic, aggregator, communities, originator, clusters = value
+    segments = tuple((is_set, ascending(numbers) if is_set else numbers) for is_set, numbers in segments)
+    return (origin, segments, next_hop, med, local_pref, atomic, aggregator, ascending(communities), originator, clusters)
+
+
+def ascending(numbers):
+    return tuple(sorted(set(numbers)))
+
+
 # ---- the report
+
+class Unclear(Exception):
+    """A line of REPORT isn't of its form."""
+
 
 def written_number(word):
     if not word.isdigit() or len(word) > 20 or str(int(word)).encode() != word or int(word) >= 2**64:
-        raise Refused
+        raise Unclear
     return int(word)
 
 
-def peer_and_session(worlds, name, session):
-    peer = worlds.last.peers.get(name.decode("latin-1"))
-    n = written_number(session)
-    if peer is None or not 0 < n <= peer.sessions:
-        raise Refused
-    return peer.name, n
+class Marks:
+    """Of a session: versions by message for `sync` and `by`, and whether it was lost."""
+
+    def __init__(self):
+        self.exact, self.least, self.is_lost = {}, {}, False
 
 
-def read_report(worlds, report):
-    """The marks, each `(version, peer, session, messages)`, and the sessions that were lost."""
-    marks, lost = [], set()
-    lines = lines_of(report)
-    for place, line in enumerate(lines[:MOST_LINES], 1):
-        words = line.split(b" ")
-        try:
-            if words[0] == b"sync":
-                if len(words) != 5:
-                    raise Refused
-                version, handed = written_number(words[1]), written_number(words[4])
-                name, n = peer_and_session(worlds, words[2], words[3])
-                if version > worlds.last.version:
-                    raise Refused
-                marks.append((version, name, n, handed))
-            elif words[0] == b"lost":
-                if len(words) != 3:
-                    raise Refused
-                lost.add(peer_and_session(worlds, words[1], words[2]))
-        except Refused:
-            raise Ended(11, "report %d" % place) from None
-    if len(lines) > MOST_LINES:
-        raise Ended(7, "too-long")
-    return marks, lost
+class Report:
+    def __init__(self, worlds, report):
+        self.worlds = worlds
+        self.sessions = {(peer.name, n): Marks() for peer in worlds.last.peers.values() for n in range(1, peer.sessions + 1)}
+        lines = lines_of(report)
+        for place, line in enumerate(lines[:MOST_LINES], 1):
+            try:
+                self.take(line.split(b" "))
+            except Unclear:
+                raise Ended(11, "report %d" % place) from None
+        if len(lines) > MOST_LINES:
+            raise Ended(7, "too-long")
+
+    def take(self, words):
+        if words[0] in (b"sync", b"by"):
+            if len(words) != 5:
+                raise Unclear
+            version, handed = written_number(words[1]), written_number(words[4])
+            marks = self.of(words[2], words[3])
+            if version > self.worlds.last.version:
+                raise Unclear
+            (marks.exact if words[0] == b"sync" else marks.least).setdefault(handed, set()).add(version)
+        elif words[0] == b"lost":
+            if len(words) != 3:
+                raise Unclear
+            self.of(words[1], words[2]).is_lost = True
+
+    def of(self, name, session):
+        marks = self.sessions.get((name.decode("latin-1"), written_number(session)))
+        if marks is None:
+            raise Unclear
+        return marks
 
 
 # ---- a session, judged
@@ -313,70 +171,184 @@ def differing(one, other):
     return [key for key in set(one) | set(other) if one.get(key) != other.get(key)]
 
 
-def climb(past, values):
-    """The place of each value: the least one not before that of the value before. As many as can be climbed."""
-    place, places = 0, []
-    for value in values:
-        while place < len(past) and past[place] != value:
-            place += 1
-        if place == len(past):
-            break
-        places.append(place)
-    return places
+class Breach:
+    """`key` is () or (key,); `might` is what it might have been, as places and values."""
+
+    def __init__(self, message, kind, key=(), said=None, might=()):
+        self.message, self.kind, self.key, self.said, self.might = message, kind, key, said, might
+
+    def order(self):
+        return self.message, self.kind, self.key
+
+    def words(self, name, n):
+        return "%s %d %d %d %s" % (name, n, self.kind, self.message, key_text(self.key[0]) if self.key else "-")
 
 
-def judge(worlds, name, n, data, marks, is_lost):
-    """All breaches of a session, each `(message, kind, () or (key,))`, and its certificate where there is none."""
-    peer = worlds.last.peers[name]
-    past = worlds.past(name, n)
-    messages, ending = read_session(peer, data)
-    tables = tables_of(messages)
-    count = len(messages)
-    breaches = []
-    if ending == MALFORMED or ending == CUT and not is_lost:
-        breaches.append((count + 1, UNREAD, ()))
-    named = {key for message in messages if message[0] == "update" for key in message[1] + message[2]}
-    certificate = ["session %s %d messages %d" % (name, n, count)]
-    for key in sorted(named):
-        places = climb([table.get(key) for table in past], [table.get(key) for table in tables[1:]])
-        if len(places) < count:
-            breaches.append((len(places) + 1, STUCK, (key,)))
-        moves = ["%d@%d" % (m, place) for m, before, place in zip(range(1, count + 1), [0] + places, places) if place != before]
-        certificate.append(" ".join(["climb", key_text(key)] + moves))
-    for version, of, session, handed in marks:
-        if (of, session) != (name, n):
-            continue
-        if handed <= count:
-            breaches += [(handed, AMISS, (key,)) for key in differing(tables[handed], worlds.tables[name][version])]
-        elif not is_lost:
-            breaches.append((count, AMISS, ()))
-    if peer.is_up and peer.sessions == n and not is_lost:
-        breaches += [(count, OFF, (key,)) for key in differing(tables[count], worlds.tables[name][-1])]
-    return breaches, certificate
+class Judged:
+    """A session, its breaches in order, and the moves of its routes."""
+
+    def __init__(self, worlds, name, n, data, marks):
+        self.name, self.n, self.marks = name, n, marks
+        self.worlds, self.past = worlds, worlds.past(name, n)
+        peer = worlds.last.peers[name]
+        self.heard = Heard(peer, data)
+        self.count = len(self.heard.messages)
+        self.tables, self.touched = self.heard.tables(worlds.alike)
+        named = self.heard.named()
+        self.keys = named.union(*self.past)
+        self.values = {key: [table.get(key) for table in self.past] for key in self.keys}
+        self.places = dict.fromkeys(self.keys, 0)
+        self.moves = {key: [] for key in sorted(named)}
+        self.aside = set()
+        self.breaches = []
+        for message in range(self.count + 1):
+            self.take(message)
+            self.mark(message)
+        self.end(peer.is_up and peer.sessions == n and not marks.is_lost)
+        self.breaches.sort(key=Breach.order)
+
+    def first_place(self, key, least, value):
+        """The first place from there on at which the route has the value."""
+        values = self.values[key]
+        for place in range(least, len(values)):
+            if values[place] == value:
+                return place
+        return None
+
+    def might(self, key, least):
+        """The values from a place on, each once, at its first place."""
+        found = {}
+        for place, value in enumerate(self.values[key][least:], least):
+            found.setdefault(value, place)
+        return [(place, value) for value, place in found.items()][:MOST_MAY]
+
+    def breach(self, message, kind, key, might):
+        self.breaches.append(Breach(message, kind, (key,), self.tables[message].get(key), might))
+        self.aside.add(key)
+
+    def take(self, message):
+        """Each route that the message names or changes goes on, or stays where it was."""
+        for key in self.touched[message]:
+            self.aside.discard(key)
+            place = self.first_place(key, self.places[key], self.tables[message].get(key))
+            if place is None:
+                self.breach(message, STUCK, key, self.might(key, self.places[key]))
+            elif place != self.places[key]:
+                self.places[key] = place
+                if key in self.moves:
+                    self.moves[key].append((message, place))
+
+    def mark(self, message):
+        """The marks behind the message. They pass over the routes that were set aside."""
+        for version in sorted(self.marks.exact.get(message, ())):
+            due, place = self.worlds.tables[self.name][version], self.worlds.place(self.name, self.n, version)
+            for key in differing(self.tables[message], due):
+                if key not in self.aside:
+                    self.breach(message, AMISS, key, [(place, due.get(key))])
+        for version in sorted(self.marks.least.get(message, ())):
+            self.bring(message, self.worlds.place(self.name, self.n, version))
+
+    def bring(self, message, least):
+        """No route is staler than this place."""
+        for key in self.keys - self.aside:
+            at_least = max(least, self.places[key])
+            place = self.first_place(key, at_least, self.tables[message].get(key))
+            if place is None:
+                self.breach(message, LATE, key, self.might(key, at_least))
+            else:
+                self.places[key] = place
+
+    def end(self, is_asked):
+        count = self.count
+        for kind, marks in ((AMISS, self.marks.exact), (LATE, self.marks.least)):
+            if max(marks, default=0) > count and not self.marks.is_lost:
+                self.breaches.append(Breach(count, kind))
+        if is_asked:
+            for key in differing(self.tables[count], self.past[-1]):
+                self.breach(count, OFF, key, [(len(self.past) - 1, self.past[-1].get(key))])
+        if self.heard.ending == MALFORMED or self.heard.ending == CUT and not self.marks.is_lost:
+            self.breaches.append(Breach(count + 1, UNREAD))
+
+    def certificate(self):
+        yield "session %s %d messages %d" % (self.name, self.n, self.count)
+        for key, moves in self.moves.items():
+            yield " ".join(["climb", key_text(key)] + ["%d@%d" % move for move in moves])
+
+    def explained(self):
+        begins = [0] + self.heard.begins + [self.heard.end]
+        for breach in self.breaches:
+            yield "breach %s offset %d" % (breach.words(self.name, self.n), begins[breach.message])
+            for key in breach.key:
+                yield "  said " + row_text(key, breach.said)
+                for place, value in breach.might:
+                    yield "  may %d %s" % (place, row_text(key, value))
+        if self.heard.unknown():
+            yield "uncompared %s %d %d" % (self.name, self.n, self.heard.unknown())
 
 
 def key_text(key):
     return "%s id=%d" % (prefix_text(key[0]), key[1])
 
 
+def row_text(key, value):
+    return "-" if value is None else " ".join([key_text(key)] + attribute_words(Attributes(*value)))
+
+
 # ---- the audit
 
-def judged(worlds, report, held):
-    """What is told of these files: a status and a text. `held` gives the bytes of a session's file."""
+def sessions_judged(worlds, report, held):
+    """Each session in order. `held` gives the bytes of a session's file, or None."""
+    for (name, n), marks in report.sessions.items():
+        data = held("%s.%d" % (name, n))
+        if data is None:
+            raise Ended(3, "read")
+        yield Judged(worlds, name, n, within(data, MOST_BYTES), marks)
+
+
+def first_told(worlds, report, held):
+    """The first breach alone, or the certificate."""
+    certificate = []
+    for session in sessions_judged(worlds, report, held):
+        if session.breaches:
+            raise Ended(10, "refuted " + session.breaches[0].words(session.name, session.n))
+        certificate += session.certificate()
+    return certificate
+
+
+def all_told(worlds, report, held, told):
+    """Every breach and its reasons, put behind what was told, and then the certificate."""
+    sessions, certificate, breaches, unheard = sessions_judged(worlds, report, held), [], 0, 0
+    told += worlds.refused + ["accepted %d refused %d" % (worlds.last.version, len(worlds.refused))]
+    for peer in worlds.last.peers.values():
+        for _ in range(peer.sessions):
+            session = next(sessions)
+            breaches += len(session.breaches)
+            told += session.explained()
+            certificate += session.certificate()
+        if held("%s.%d" % (peer.name, peer.sessions + 1)) is not None:
+            unheard += 1
+            told.append("unheard %s %d" % (peer.name, peer.sessions + 1))
+    told += certificate
+    if breaches or worlds.refused or unheard:
+        raise Ended(10, "breaches %d refused %d unheard %d" % (breaches, len(worlds.refused), unheard))
+
+
+def judged(worlds, report, held, explain=False):
+    """What is told of these files: a status and a text."""
+    told = []
     try:
-        marks, lost = read_report(worlds, report)
-        certificate = []
-        for peer in worlds.last.peers.values():
-            for n in range(1, peer.sessions + 1):
-                data = within(held("%s.%d" % (peer.name, n)), MOST_BYTES)
-                breaches, lines = judge(worlds, peer.name, n, data, marks, (peer.name, n) in lost)
-                if breaches:
-                    message, kind, key = min(breaches)
-                    raise Ended(10, "refuted %s %d %d %d %s" % (peer.name, n, kind, message, key_text(key[0]) if key else "-"))
-                certificate += lines
+        marks = Report(worlds, report)
+        if explain:
+            all_told(worlds, marks, held, told)
+        else:
+            told = first_told(worlds, marks, held)
     except Ended as end:
-        return end.status, end.text
-    return 0, "".join(line + "\n" for line in certificate)
+        return end.status, text_of(told) + end.text
+    return 0, text_of(told)
+
+
+def text_of(lines):
+    return "".join(line + "\n" for line in lines)
 
 
 def within(data, most):
@@ -385,28 +357,56 @@ def within(data, most):
     return data
 
 
-def read_file(path):
+def file_in(path):
+    """The bytes of a file, or None where it can't be read."""
     try:
         with open(path, "rb") as file:
             return file.read()
     except OSError:
-        raise Ended(3, "read") from None
+        return None
 
 
-def audit(config, events, report, folder):
+def read_file(path):
+    data = file_in(path)
+    if data is None:
+        raise Ended(3, "read")
+    return data
+
+
+def audit(config, events, report, folder, explain=False, unordered=False):
     try:
         text = within(read_file(config), MOST_CONFIG)
         lines = within(read_file(events), MOST_BYTES)
         if len(lines_of(lines)) > MOST_LINES:
             raise Ended(7, "too-long")
-        worlds = Worlds(text.decode("utf-8"), lines)
+        worlds = Worlds(text.decode("utf-8"), lines, unordered)
         said = read_file(report)
     except Ended as end:
         return end.status, end.text
-    return judged(worlds, said, lambda name: read_file(os.path.join(folder, name)))
+    return judged(worlds, said, lambda name: file_in(os.path.join(folder, name)), explain)
+
+
+def command(words):
+    """What the words of the command line come to."""
+    options = {"--explain": False, "--unordered": False}
+    files = []
+    while words:
+        word = words.pop(0)
+        if word == "--":
+            files += words
+            break
+        if len(word) < 2 or not word.startswith("-"):
+            files.append(word)
+        elif options.get(word) is False:
+            options[word] = True
+        else:
+            return 1, "status 1 usage\n"
+    if len(files) != 5 or files[0] != "audit":
+        return 1, "status 1 usage\n"
+    return audit(*files[1:], explain=options["--explain"], unordered=options["--unordered"])
 
 
 if __name__ == "__main__":
-    status, told = audit(*sys.argv[1:])
+    status, told = command(sys.argv[1:])
     sys.stdout.write(told)
     sys.exit(status)

@@ -774,12 +774,29 @@ def read_config(text):
 # ---- a line of events, read
 
 class Refused(Exception):
-    """The line is refused as a line."""
+    """The line is refused as a line, with this number, and for 26 with that of its message."""
+
+    def __init__(self, number, inner=None):
+        super().__init__(number)
+        self.number, self.inner = number, inner
 
 
-def asked(holds):
+TOO_LONG, BAD_VERB, BAD_WORDS, BAD_PREFIX, BAD_ATTRIBUTE, BAD_NAME, BAD_MESSAGE = range(20, 27)
+
+
+def asked(holds, number=BAD_WORDS):
     if not holds:
-        raise Refused
+        raise Refused(number)
+
+
+def or_else(number, read):
+    """The same reader, which refuses with this number."""
+    def of(text):
+        try:
+            return read(text)
+        except Refused:
+            raise Refused(number) from None
+    return of
 
 
 def number_in(text, digits=10, most=4294967295):
@@ -787,8 +804,14 @@ def number_in(text, digits=10, most=4294967295):
     return int(text)
 
 
+def positive_in(text):
+    number = number_in(text)
+    asked(number > 0)
+    return number
+
+
 def name_in(text):
-    asked(re.fullmatch("[a-z][a-z0-9_-]{0,31}", text))
+    asked(re.fullmatch("[a-z][a-z0-9_-]{0,31}", text), BAD_NAME)
     return text
 
 
@@ -859,22 +882,29 @@ def origin_in(text):
     return ORIGINS.index(text)
 
 
+def each_in(read):
+    return lambda text: [read(part) for part in text.split(",")]
+
+
+def readers_in(family):
+    """How the value of each field of a path is read."""
+    values = {"id": positive_in, "nh": lambda text: address_in(family, text), "origin": origin_in, "as": segments_in, "med": number_in, "lp": number_in,
+              "atomic": lambda text: True, "agg": aggregator_in, "comm": each_in(community_in), "originator": v4_in, "clusters": each_in(v4_in)}
+    readers = {name: or_else(BAD_ATTRIBUTE, read) for name, read in values.items()}
+    readers["from"] = lambda text: None if text == "local" else name_in(text)
+    return readers
+
+
 def path_in(family, words):
     """A path of a `paths` line, by its words."""
-    fields = {}
+    readers, values = readers_in(family), {}
     for word in words:
         name, equals, value = word.partition("=")
-        asked(name not in fields and (not equals if name == "atomic" else equals))
-        fields[name] = value
-    read = {"id": number_in, "from": lambda text: None if text == "local" else name_in(text), "nh": lambda text: address_in(family, text),
-            "origin": origin_in, "as": segments_in, "med": number_in, "lp": number_in, "atomic": lambda text: True, "agg": aggregator_in,
-            "comm": lambda text: [community_in(part) for part in text.split(",")], "originator": v4_in,
-            "clusters": lambda text: [v4_in(part) for part in text.split(",")]}
-    asked(all(name in read for name in fields) and all(name in fields for name in ("id", "from", "nh", "origin", "as")))
-    values = {name: read[name](value) for name, value in fields.items()}
-    asked(values["id"] > 0)
-    asked(sum(len(numbers) for _, numbers in values["as"]) <= 300 and len(values["as"]) <= 16)
-    asked(len(values.get("comm", [])) <= 128 and len(values.get("clusters", [])) <= 32)
+        asked(name in readers and name not in values and (not equals if name == "atomic" else equals))
+        values[name] = readers[name](value)
+    asked(all(name in values for name in ("id", "from", "nh", "origin", "as")))
+    asked(sum(len(numbers) for _, numbers in values["as"]) <= 300 and len(values["as"]) <= 16, BAD_ATTRIBUTE)
+    asked(len(values.get("comm", [])) <= 128 and len(values.get("clusters", [])) <= 32, BAD_ATTRIBUTE)
     return Path(values["id"], values["from"], Attributes(values["origin"], values["as"], values["nh"], values.get("med"), values.get("lp"),
                 values.get("atomic", False), values.get("agg"), values.get("comm", []), values.get("originator"), values.get("clusters", [])))
 
@@ -901,12 +931,15 @@ def is_good(e):
 
 def entry_in(word):
     parts = word.split(":")
-    asked(3 <= len(parts) <= 5 and parts[1] in ("permit", "deny"))
+    asked(len(parts) >= 3)
+    number = number_in(parts[0])
+    asked(parts[1] in ("permit", "deny"))
+    place = or_else(BAD_PREFIX, lambda text: prefix_in(text, 4))(parts[2])
     bounds = parts[3:]
     ge = bound_in(bounds.pop(0), "ge") if bounds and bounds[0].startswith("ge=") else None
     le = bound_in(bounds.pop(0), "le") if bounds else None
     asked(not bounds)
-    return Entry(number_in(parts[0]), parts[1] == "permit", prefix_in(parts[2], 4), ge, le)
+    return Entry(number, parts[1] == "permit", place, ge, le)
 
 
 def entries_in(words):
@@ -920,26 +953,42 @@ def bytes_in(word):
     return bytes.fromhex(word)
 
 
+def needs(holds, inner):
+    """Or else the message of a line is refused with this number."""
+    if not holds:
+        raise Refused(BAD_MESSAGE, inner)
+
+
+def header_in(m):
+    needs(m[:16] == b"\xff" * 16, 2)
+    needs(m[18] == 5, 3)
+    needs(m[19:21] == b"\0\1" and m[22] == 1, 4)
+
+
 def request_in(word):
     m = bytes_in(word)
-    asked(len(m) == 23 and m == bytes([255] * 16 + [0, 23, 5, 0, 1, 0, 1]))
+    needs(len(m) == 23 and int.from_bytes(m[16:18], "big") == 23, 1)
+    header_in(m)
+    needs(m[21] == 0, 5)
 
 
 def block_entries(block):
     changes = []
     while block:
         action = block[0] >> 6
-        asked(action != 3)
+        needs(action != 3, 7)
         if action == 2:
             changes.append(("clear", None))
             block = block[1:]
             continue
-        asked(len(block) >= 8 and block[7] <= 32 and len(block) >= 8 + (block[7] + 7) // 8)
+        needs(len(block) >= 8, 6)
+        needs(block[7] <= 32, 8)
         length = block[7]
         size = (length + 7) // 8
+        needs(len(block) >= 8 + size, 6)
         bits = int.from_bytes(block[8:8 + size] + bytes(4 - size), "big") >> 32 - length << 32 - length
         e = Entry(int.from_bytes(block[1:5], "big"), not block[0] & 32, (4, bits, length), block[5] or None, block[6] or None)
-        asked(action == 1 or is_good(e))
+        needs(action == 1 or is_good(e), 8)
         changes.append(("remove" if action == 1 else "add", e))
         block = block[8 + size:]
     return changes
@@ -948,14 +997,16 @@ def block_entries(block):
 def filter_in(word):
     """Whether a filter holds at once, and its changes."""
     m = bytes_in(word)
-    asked(24 <= len(m) <= 4096 and int.from_bytes(m[16:18], "big") == len(m))
-    asked(m[:16] == b"\xff" * 16 and m[18:23] == bytes([5, 0, 1, 0, 1]) and m[23] in (1, 2))
+    needs(24 <= len(m) <= 4096 and int.from_bytes(m[16:18], "big") == len(m), 1)
+    header_in(m)
+    needs(m[23] in (1, 2), 5)
+    needs(m[21] == 0, 9)
     changes = []
     blocks = m[24:]
     while blocks:
-        asked(len(blocks) >= 3)
+        needs(len(blocks) >= 3, 6)
         size = 3 + int.from_bytes(blocks[1:3], "big")
-        asked(len(blocks) >= size)
+        needs(len(blocks) >= size, 6)
         if blocks[0] == 64:
             changes += block_entries(blocks[3:size])
         blocks = blocks[size:]
@@ -963,24 +1014,29 @@ def filter_in(word):
 
 
 def read_line(line):
-    """What a line of events says: None where it says nothing, `("sync",)`, or an event."""
-    asked(len(line) <= 4096)
+    """What a line of events says: None where it says nothing, `("sync",)`, or an event. The first word that can't be read decides."""
+    asked(len(line) <= 4096, TOO_LONG)
     words = [word for word in (line[:-1] if line.endswith(b"\r") else line).decode("latin-1").split(" ") if word]
     if not words or words[0].startswith("#"):
         return None
     verb, words = words[0], words[1:]
+    prefix_word = or_else(BAD_PREFIX, prefix_in)
     if verb == "paths":
         asked(words)
-        place = prefix_in(words[0])
+        place = prefix_word(words[0])
         return verb, place, paths_in(place[0], words[1:])
     if verb == "list":
         asked(words)
         return verb, name_in(words[0]), entries_in(words[1:])
-    read = {"sync": [], "up": [name_in], "down": [name_in], "refresh": [name_in], "withdraw": [prefix_in],
+    read = {"sync": [], "up": [name_in], "down": [name_in], "refresh": [name_in], "withdraw": [prefix_word],
             "policy": [name_in, lambda word: None if word == "-" else name_in(word)],
             "receive": [name_in, request_in], "orf": [name_in, filter_in]}
-    asked(verb in read and len(words) == len(read[verb]))
-    values = [of(word) for of, word in zip(read[verb], words)]
+    asked(verb in read, BAD_VERB)
+    values = []
+    for place, of in enumerate(read[verb]):
+        asked(place < len(words))
+        values.append(of(words[place]))
+    asked(len(words) == len(values))
     if verb == "orf":
         return verb, values[0], values[1][0], values[1][1]
     return (verb,) + tuple(values)
