@@ -16,38 +16,10 @@ import sys
 import tempfile
 
 import auditor
+from audit_rows import END_OF_RIB, MARKER, ROUTE, Files, c1, message, option_files, refresh_mark, row_files, withdrawal
 from auditor import Worlds, differing, judged
 from heard import Heard
 from model import (Attributes, Dice, Entry, Path, attributes_by, config_text, configured, event_line, lines_of, prefix, prefix_text)
-
-HERE = os.path.dirname(os.path.abspath(__file__))
-MARKER = b"\xff" * 16
-
-
-class Files:
-    """What an audit reads."""
-
-    def __init__(self, config, events, report, sessions):
-        self.config, self.events, self.report, self.sessions = config, events, report, dict(sessions)
-
-    def copy(self):
-        return Files(self.config, self.events, self.report, self.sessions)
-
-    def write(self, folder):
-        there = os.path.join(folder, "there")
-        os.makedirs(there, exist_ok=True)
-        for name in os.listdir(there):
-            os.remove(os.path.join(there, name))
-        for name, data in (("config", self.config), ("events", self.events), ("report", self.report)):
-            with open(os.path.join(folder, name), "wb") as file:
-                file.write(data)
-        for name, data in self.sessions.items():
-            with open(os.path.join(there, name), "wb") as file:
-                file.write(data)
-        return [os.path.join(folder, name) for name in ("config", "events", "report", "there")]
-
-    def held(self, name):
-        return self.sessions.get(name)
 
 
 def program_answer(program, words):
@@ -87,159 +59,26 @@ def shown(text):
 
 # ---- rows by hand
 
-END_OF_RIB = MARKER + bytes.fromhex("0017 02 0000 0000")
-
-
-def route(origin, *places):
-    text = bytes.fromhex("400101%02x 400206 0201 0000fde9 400304 c0000201" % origin)
-    return message(2, b"\0\0" + len(text).to_bytes(2, "big") + text + b"".join(bytes([8, place]) for place in places))
-
-
-def withdrawal(place):
-    return message(2, bytes([0, 2, 8, place, 0, 0]))
-
-
-def withdrawals(count):
-    """A message that withdraws 0.0.0.0/0 so many times."""
-    return message(2, count.to_bytes(2, "big") + bytes(count) + b"\0\0")
-
-
-def message(kind, body):
-    return MARKER + (19 + len(body)).to_bytes(2, "big") + bytes([kind]) + body
-
-
-def refresh_mark(which, afi=1):
-    return message(5, bytes([0, afi, which, 1]))
-
-
-ROUTE, GONE = route(0, 10), withdrawal(10)
-TEN, ELEVEN = "10.0.0.0/8 id=0", "11.0.0.0/8 id=0"
-THREE = [END_OF_RIB, ROUTE, GONE]
-RIGHT = "session p1 1 messages 3\nclimb 10.0.0.0/8 id=0 2@2 3@3\n"
-
-
-def paths_line(place, origin="igp"):
-    return "paths %d.0.0.0/8 id=1 from=local nh=0.0.0.0 origin=%s as=-\n" % (place, origin)
-
-
-def refuted(kind, at, key):
-    return 10, "status 10 refuted p1 1 %d %d %s\n" % (kind, at, key)
-
-
-def unclear(line):
-    return 11, "status 11 report %d\n" % line
-
-
-def rows():
-    """Name, answer, messages, lines of the report in front, lines of events, and what the configuration has besides."""
-    alone = "up p1\n" + paths_line(10) + "withdraw 10.0.0.0/8\n"
-    changed = "up p1\n" + paths_line(10) + paths_line(10, "egp")
-    back = changed + paths_line(10)
-    other = route(1, 10)
-    both = message(2, bytes([0, 2, 8, 10]) + other[21:])
-    bad = MARKER + bytes.fromhex("0013 04")
-    longer = RIGHT.replace("messages 3", "messages 4").replace("climb", "climb 0.0.0.0/0 id=0\nclimb")
-
-    def row(name, answer, messages, report="", events=alone, config=""):
-        return name, answer if isinstance(answer, tuple) else (0, answer), b"".join(messages), report, events, config
-
-    return [
-        row("the run's own", RIGHT, THREE),
-        row("without the third message", refuted(4, 2, TEN), THREE[:2]),
-        row("another prefix in the second", refuted(2, 2, ELEVEN), [END_OF_RIB, route(0, 11), GONE]),
-        row("a mark of a version that there never was", unclear(1), THREE, "sync 9 p1 1 1\n"),
-        row("a lost session", "session p1 1 messages 1\n", [END_OF_RIB, ROUTE[:30]], "lost p1 1\n"),
-        row("withdrawn twice", RIGHT.replace("messages 3", "messages 4"), THREE + [GONE]),
-        row("a prefix that nobody has is withdrawn", RIGHT.replace("messages 3", "messages 4") + "climb 12.0.0.0/8 id=0\n", THREE + [withdrawal(12)]),
-        row("the second and the third swapped", refuted(4, 3, TEN), [END_OF_RIB, GONE, ROUTE]),
-        row("the second once more", refuted(2, 4, TEN), THREE + [ROUTE]),
-        row("withdrawn and announced at once", RIGHT, [END_OF_RIB, ROUTE, both], events=changed),
-        row("the last five bytes gone", refuted(4, 2, TEN), [END_OF_RIB, ROUTE, GONE[:-5]]),
-        row("the last five bytes gone, and lost", "session p1 1 messages 2\nclimb 10.0.0.0/8 id=0 2@2\n", [END_OF_RIB, ROUTE, GONE[:-5]], "lost p1 1\n"),
-        row("five bytes behind", refuted(1, 4, "-"), THREE + [b"\xff" * 5]),
-        row("five bytes behind, and lost", RIGHT, THREE + [b"\xff" * 5], "lost p1 1\n"),
-        row("a header of type 4 behind", refuted(1, 4, "-"), THREE + [bad]),
-        row("a header of type 4 behind, and lost", refuted(1, 4, "-"), THREE + [bad], "lost p1 1\n"),
-        row("a mark", RIGHT, THREE, "sync 2 p1 1 2\n"),
-        row("a mark behind a message too many", refuted(3, 3, TEN), THREE, "sync 2 p1 1 3\n"),
-        row("a mark of an empty table before all messages", RIGHT, THREE, "sync 3 p1 1 0\n"),
-        row("a mark of a route before all messages", refuted(3, 0, TEN), THREE, "sync 2 p1 1 0\n"),
-        row("a mark past the end", refuted(3, 3, "-"), THREE, "sync 3 p1 1 4\n"),
-        row("a mark past the end, and lost", RIGHT, THREE, "sync 3 p1 1 4\nlost p1 1\n"),
-        row("two marks amiss at the end", refuted(3, 3, "-"), THREE, "sync 3 p1 1 4\nsync 2 p1 1 3\n"),
-        row("a number with a zero in front", unclear(1), THREE, "sync 3 p1 01 3\n"),
-        row("two spaces", unclear(1), THREE, "sync  3 p1 1 3\n"),
-        row("a session that there never was", unclear(1), THREE, "sync 3 p1 2 3\n"),
-        row("session 0", unclear(1), THREE, "lost p1 0\n"),
-        row("a loss without words", unclear(2), THREE, "sync 2 p1 1 2\nlost\n"),
-        row("a number of 64 bits", refuted(3, 3, "-"), THREE, "sync 3 p1 1 18446744073709551615\n"),
-        row("a number of more than 64 bits", unclear(1), THREE, "sync 3 p1 1 18446744073709551616\n"),
-        row("a word more", unclear(1), THREE, "sync 3 p1 1 3 3\n"),
-        row("another peer", unclear(1), THREE, "sync 3 p2 1 3\n"),
-        row("a carriage return", unclear(1), THREE, "sync 3 p1 1 3\r\n"),
-        row("lines that tell nothing", RIGHT, THREE, "synchro 3\n\n sync 9\nLOST p1 0\n"),
-        row("a refresh", "session p1 1 messages 5\nclimb 10.0.0.0/8 id=0 2@2 4@3\n", [END_OF_RIB, ROUTE, refresh_mark(1), refresh_mark(2), GONE]),
-        row("a refresh with the option", "session p1 1 messages 5\nclimb 10.0.0.0/8 id=0 2@2 4@3\n",
-            [END_OF_RIB, ROUTE, refresh_mark(1), refresh_mark(2), GONE], config="enhanced_refresh = true\n"),
-        row("there and back", "session p1 1 messages 4\nclimb 10.0.0.0/8 id=0 2@2 3@3 4@4\n", [END_OF_RIB, ROUTE, other, ROUTE], events=back),
-        row("there and back, each twice", "session p1 1 messages 6\nclimb 10.0.0.0/8 id=0 2@2 4@3 6@4\n",
-            [END_OF_RIB, ROUTE, ROUTE, other, other, ROUTE], events=back),
-        row("back and there", refuted(2, 4, TEN), [END_OF_RIB, other, ROUTE, other], events=back),
-        row("the least key", refuted(2, 2, TEN), [END_OF_RIB, route(2, 11, 10)], events="up p1\n" + paths_line(10) + paths_line(11)),
-        row("a message of 4,096 bytes", longer, THREE + [withdrawals(4073)]),
-        row("a message of 4,097 bytes", refuted(1, 4, "-"), THREE + [withdrawals(4074)]),
-        row("a message of 4,097 bytes with the option", longer, THREE + [withdrawals(4074)], config="extended = true\n"),
-        row("no messages", refuted(4, 0, TEN), [], events="up p1\n" + paths_line(10)),
-        row("no messages, and no routes", "session p1 1 messages 0\n", []),
-    ]
-
-
-def c1():
-    with open(os.path.join(HERE, "../examples/configurations/c1.toml"), "rb") as file:
-        return file.read()
-
-
-def row_files():
-    for name, answer, data, report, events, config in rows():
-        yield name, answer, Files(c1() + config.encode(), events.encode(), (report + "accepted 3 refused 0\n").encode(), {"p1.1": data})
-    whole = Files(c1(), b"up p1\n", b"accepted 1 refused 0\n", {"p1.1": END_OF_RIB})
-    lacking = whole.copy()
-    lacking.sessions = {}
-    lacking.report = b"sync 1 p1 1 7\n"
-    yield "a session that isn't there", (3, "status 3 read\n"), lacking
-    lacking = lacking.copy()
-    lacking.report = b"sync 2 p1 1 7\n"
-    yield "a line that is unclear, and a session that isn't there", unclear(1), lacking
-    none = whole.copy()
-    none.events, none.sessions = b"# nobody\n", {}
-    yield "no sessions", (0, ""), none
-    again = whole.copy()
-    again.events, again.sessions = b"up p1\ndown p1\nup p1\n", {"p1.1": b"", "p1.2": END_OF_RIB[:-1]}
-    yield "the second session", (10, "status 10 refuted p1 2 1 1 -\n"), again
-    long = whole.copy()
-    long.report = b"\n" * 2000000 + b"sync 9 p1 1 1\n"
-    yield "a report of a line too many", (7, "status 7 too-long\n"), long
-    long = whole.copy()
-    long.report = b"\n" * 1999999 + b"sync 9 p1 1 1\n\n"
-    yield "a report of a line too many behind an unclear one", unclear(2000000), long
-    long = whole.copy()
-    long.events = b"up p1\n" + b"\n" * 2000000
-    yield "a line of events too many", (7, "status 7 too-long\n"), long
-    long = whole.copy()
-    long.config = c1() + b"#" * (1048577 - len(c1()))
-    yield "a byte of the configuration too many", (7, "status 7 too-long\n"), long
-    broken = long.copy()
-    broken.config = c1() + b"\nno = 1\n"
-    yield "a configuration that is refused", (2, "status 2 config 4 peer.0.no\n"), broken
-
-
 def try_rows(tests, program):
     with tempfile.TemporaryDirectory() as folder:
+        unclear = Files(c1(), b"up p1\n", b"by\n", {"p1.1": END_OF_RIB}).write(folder)
+        knows_by = program_answer(program, unclear)[0] == 11
         for name, answer, files in row_files():
             words = files.write(folder)
             tests.compare(name, answer, program_answer(program, words))
             if answer[0] != 2:
                 tests.compare(name + ", slowly", answer, auditor.audit(*words))
+        known = {option: program_answer(program, [option] + ["nowhere"] * 4)[0] == 3 for option in ("--explain", "--unordered")}
+        passed_over = 0
+        for options, name, answer, files in option_files():
+            words = files.write(folder)
+            tests.compare(name + ", slowly", answer, auditor.command(["audit"] + options + words))
+            if all(known[option] for option in options) and (knows_by or b"by " not in files.report):
+                tests.compare(name, answer, program_answer(program, options + words))
+            else:
+                passed_over += 1
+        if passed_over:
+            print("%d rows of options that the program doesn't have were asked of the slow auditor alone" % passed_over)
         for missing in range(4):
             words = Files(c1(), b"up p1\n", b"", {"p1.1": END_OF_RIB}).write(folder)
             words[missing] = os.path.join(folder, "nowhere")
