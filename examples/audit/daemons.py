@@ -72,15 +72,16 @@ class Bird:
         private = "bgp_path.delete([64512..65534, 4200000000..4294967294]);"
         set_all = f"bgp_med = {MED}; bgp_community.add({ADDED}); {private} accept;"
         through = f"  if net ~ [{LATER}+] then {{ {set_all} }}\n" if is_changed else ""
-        lines = [f'log "{self.folder}/bird.log" all;', f"router id {ROUTER_ID};", "protocol device { }",
+        # Without the routes of the device BIRD couldn't reach the next hops that internal neighbors tell.
+        lines = [f'log "{self.folder}/bird.log" all;', f"router id {ROUTER_ID};", "protocol device { }", "protocol direct { ipv4; }",
+                 "filter all_routes {", "  if source = RTS_DEVICE then reject;", "  accept;", "}",
                  f"protocol static own {{ ipv4; route {OWN} blackhole; }}",
-                 "filter policy {", f"  if {DROPPED} ~ bgp_community then reject;", through + f"  if net ~ [{INNER}+] then reject;", f"  {set_all}", "}"]
+                 "filter policy {", "  if source = RTS_DEVICE then reject;", f"  if {DROPPED} ~ bgp_community then reject;", through + f"  if net ~ [{INNER}+] then reject;", f"  {set_all}", "}"]
         for peer in self.peers:
-            lines += [f"protocol bgp {peer.name} {{", f"  local {peer.local} as {LOCAL};", f"  neighbor {peer.address} as {peer.asn};", "  passive on;",
-                      "  deterministic med on;"]
+            lines += [f"protocol bgp {peer.name} {{", f"  local {peer.local} as {LOCAL};", f"  neighbor {peer.address} as {peer.asn};", "  passive on;"]
             lines += ["  rr client;"] if peer.is_client else []
             lines += [f"  rr cluster id {CLUSTER};"] if peer.asn == LOCAL else ["  direct;"]
-            lines += ["  ipv4 { import all; export %s;%s };" % ("filter policy" if peer.has_policy else "all", " add paths tx;" if peer.add_path else ""), "}"]
+            lines += ["  ipv4 { import all; export %s;%s };" % ("filter policy" if peer.has_policy else "filter all_routes", " add paths tx;" if peer.add_path else ""), "}"]
         return "\n".join(lines) + "\n"
 
     def write(self, is_changed):

@@ -116,22 +116,24 @@ class Day:
         """The day."""
         receivers = [peer.name for peer in RECEIVERS[self.kind]]
         self.up(*(peer.name for peer in SENDERS), *receivers[:3])
-        self.churn(60, .05)
+        self.churn(50, .05)
         self.up(*receivers[3:])
-        self.churn(40, .1)
+        self.churn(30, .1)
         self.by_name["cust3"].neighbor.down()
-        self.churn(20, .05)
+        self.churn(10, .05)
         self.up("cust3")
+        self.churn(20, .05)
         time.sleep(3)
-        for _ in range(12):
-            self.churn(3, .002)
+        # Asked again while best paths change: FRR answers half a second later.
+        for _ in range(4):
             self.by_name["client1"].neighbor.say(REFRESH)
             self.by_name["cust1"].neighbor.say(REFRESH)
-            self.churn(2, .05)
-        time.sleep(4)
+            self.churn(30, .02)
+            time.sleep(1)
+        time.sleep(3)
         self.change_policy()
         time.sleep(3)
-        self.churn(40, .1)
+        self.churn(30, .1)
         time.sleep(5)
         for name in receivers:
             self.by_name[name].neighbor.down()
