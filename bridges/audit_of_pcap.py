@@ -31,7 +31,7 @@ class Made:
         self.sessions = [session for session in judged if session.peer["name"] not in self.left_out]
         self.entries = [entry for entry in speaker.entries if entry.peer is None or entry.peer not in self.left_out]
         if within is not None:
-            self.entries += [Entry(speaker.time, session.peer["name"], f"down {session.peer['name']}") for session in self.sessions if not session.is_over]
+            self.entries += [Entry(speaker.time, session.peer["name"], f"down {session.peer['name']}") for session in self.sessions if session.is_open()]
         self.identifiers = Identifiers(speaker.kind, self.entries, self.sessions)
         self.numbers = self.numbered()
 
@@ -45,22 +45,29 @@ class Made:
             numbers[name, counts[name]] = session
         return numbers
 
-    def marks(self):
-        """By session, a line wherever it has been given its time for an event: of those behind the same message the last."""
+    def events(self):
+        return text_of(entry.text(self.identifiers) for entry in self.entries)
+
+    def end_of(self, session):
+        return self.speaker.time if session.end_at is None else session.end_at
+
+    def marks_of(self, session, told):
+        """Where the session, which was told messages at these times, has been given its time for an event: versions, and how many messages.
+        Of those behind the same message the last stands for all."""
         times = [entry.time for entry in self.entries]
-        for (name, number), session in self.numbers.items():
-            told = [time for time, _ in session.messages]
-            end = self.speaker.time if session.down_at is None else session.down_at
-            first, last = bisect.bisect_left(times, session.up_at), bisect.bisect_right(times, end - self.within)
-            by_message = {}
-            for version in range(first + 1, last + 1):
-                by_message[bisect.bisect_right(told, times[version - 1] + self.within)] = version
-            for handed, version in by_message.items():
-                yield f"by {version} {name} {number} {handed}"
+        first, last = bisect.bisect_left(times, session.up_at), bisect.bisect_right(times, self.end_of(session) - self.within)
+        by_message = {bisect.bisect_right(told, times[version - 1] + self.within): version for version in range(first + 1, last + 1)}
+        return [(version, handed) for handed, version in by_message.items()]
 
     def report(self):
-        lost = [f"lost {name} {number}" for (name, number), session in self.numbers.items() if session.is_lost]
-        return (list(self.marks()) if self.within is not None else []) + lost
+        lines = []
+        for (name, number), session in self.numbers.items():
+            if self.within is not None:
+                marks = self.marks_of(session, [time for time, _ in session.messages])
+                lines += [f"by {version} {name} {number} {handed}" for version, handed in marks]
+            if session.is_lost:
+                lines.append(f"lost {name} {number}")
+        return lines
 
     def times(self):
         """When events and messages were, in seconds since the capture began."""
@@ -73,10 +80,9 @@ class Made:
 
     def write(self, out):
         os.makedirs(os.path.join(out, "dir"), exist_ok=True)
-        events = [entry.text(self.identifiers) for entry in self.entries]
-        for name, lines in (("events", events), ("report", self.report()), ("times", self.times())):
-            with open(os.path.join(out, name), "w") as file:
-                file.write("".join(line + "\n" for line in lines))
+        for name, text in (("events", self.events()), ("report", text_of(self.report())), ("times", text_of(self.times()))):
+            with open(os.path.join(out, name), "w", encoding="utf-8") as file:
+                file.write(text)
         for (name, number), session in self.numbers.items():
             with open(os.path.join(out, "dir", f"{name}.{number}"), "wb") as file:
                 file.write(b"".join(message for _, message in session.messages))
@@ -91,6 +97,10 @@ class Made:
         for (name, number), session in self.numbers.items():
             yield f"session {name} {number}: {len(session.messages)} messages"
         yield f"{len(self.entries)} events"
+
+
+def text_of(lines):
+    return "".join(line + "\n" for line in lines)
 
 
 def read_also(path):

@@ -19,8 +19,16 @@ class Session:
     def __init__(self, peer):
         self.peer, self.opens = peer, {}
         self.is_up = self.is_over = self.is_lost = False
-        self.up_at = self.down_at = None
+        self.up_at = self.down_at = self.end_at = None
         self.messages = []
+
+    def is_open(self):
+        return self.down_at is None
+
+    def lose(self, time):
+        """From then on nothing is known of it."""
+        self.is_lost, self.end_at = True, time
+        self.messages = [told for told in self.messages if told[0] < time]
 
     def width(self):
         """How many bytes an AS number has (RFC 6793)."""
@@ -120,20 +128,28 @@ class Speaker:
         elif piece.kind == END:
             self.down(session, piece.time)
         elif piece.kind == BROKEN:
-            self.broken(session, piece.time, is_speaker, piece.value)
+            self.broken(session, is_speaker, *piece.value)
 
-    def broken(self, session, time, is_speaker, why):
+    def broken(self, session, is_speaker, why, since):
         """What can't be judged any more: a session, or all of them where what a neighbor told is missing."""
         name = session.peer["name"]
-        if not session.is_up and not session.messages:
-            return self.say(f"{name}: {why}, in a session whose begin isn't in the capture")
-        session.is_lost = True
-        if is_speaker:
-            return self.say(f"{name}: of what it was sent are missing {why}: the rest of that session isn't judged")
-        self.say(f"{name}: of what it told are missing {why}: nothing behind {time - self.begin:.3f} s is judged")
-        for other in self.open.values():
-            other.is_lost = True
-        self.is_over = True
+        if session.up_at is None:
+            self.say(f"{name}: {why}, in a session whose begin isn't in the capture")
+        elif is_speaker:
+            self.say(f"{name}: of what it was sent are missing {why}: behind {since - self.begin:.3f} s that session isn't judged")
+            session.lose(since)
+        else:
+            self.say(f"{name}: of what it told are missing {why}: nothing behind {since - self.begin:.3f} s is judged")
+            self.end(since)
+
+    def end(self, time):
+        """As if the capture had ended then, in the midst of all sessions."""
+        self.time, self.is_over = time, True
+        self.sessions = [session for session in self.sessions if session.up_at < time]
+        self.entries = [entry for entry in self.entries if entry.time < time]
+        for session in self.sessions:
+            if session.down_at is None or session.down_at >= time:
+                session.lose(time)
 
     # ---- what the speaker said
 
@@ -179,6 +195,7 @@ class Speaker:
         name = session.peer["name"]
         if session.is_up and not session.is_over:
             session.down_at = time
+            session.end_at = time if session.end_at is None else session.end_at
             del self.open[name]
             self.entries.append(Entry(time, name, f"down {name}"))
             for prefix in [prefix for prefix, paths in self.routes.items() if any(key[0] == name for key in paths)]:

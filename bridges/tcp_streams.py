@@ -7,8 +7,10 @@ from messages import HEADER, KEEPALIVE, MARKER
 ALL = 1 << 32
 # Segments of a capture stand at most so many seconds out of their order.
 PATIENCE = 1.0
+# What was received is acknowledged within this time (RFC 1122 section 4.2.3.2).
+DELAY = 0.5
 
-# What comes out of a connection. `kind` is MESSAGE, with its bytes; END; or BROKEN, with a reason: nothing follows from that sender.
+# What comes out of a connection. `kind` is MESSAGE, with its bytes; END; or BROKEN, with a reason and since when: nothing follows from that sender.
 Piece = collections.namedtuple("Piece", "time connection sender kind value")
 MESSAGE, END, BROKEN = "message", "end", "broken"
 LONE_KEEPALIVE = MARKER + HEADER.to_bytes(2, "big") + bytes([KEEPALIVE])
@@ -116,7 +118,7 @@ class Connection:
         for message in direction.messages():
             yield Piece(time, self, sender, MESSAGE, message)
         if direction.is_broken:
-            yield Piece(time, self, sender, BROKEN, "bytes that are no message")
+            yield Piece(time, self, sender, BROKEN, ("bytes that are no message", time))
         elif direction.since is not None and time - direction.since > patience:
             yield from self.lacking(time, sender, patience)
         elif direction.is_over():
@@ -131,7 +133,7 @@ class Connection:
             yield from self.pieces(time, sender, patience)
         else:
             direction.is_broken = True
-            yield Piece(time, self, sender, BROKEN, f"{direction.missing()} bytes that aren't in the capture")
+            yield Piece(time, self, sender, BROKEN, (f"{direction.missing()} bytes that aren't in the capture", direction.since - DELAY))
 
     def ended(self, time, sender):
         if not self.has_ended:
