@@ -2,7 +2,7 @@
 """Judges the captures of examples/audit, as they are and with planted faults.
 
     captures.py kept DAY              the files that are kept are what the capture makes, and the verdict is what an audit of them says
-    captures.py segments DAY          the same from pcapng, with packets exchanged, repeated and sent again in other pieces; and without one
+    captures.py segments DAY ROUNDS   the same from pcapng, with packets exchanged, repeated and sent again in other pieces; and without one
     captures.py planted DAY COUNT     so many UPDATEs dropped, withdrawals dropped, withdrawals late and next hops wrong, in sessions that are right
 
 DAY is frr-8.4.4 or bird-2.0.12. The audits are those of the plain, slow auditor. The last line says how many passed and failed.
@@ -90,7 +90,7 @@ def try_kept(tests, day):
 
 # ---- the same capture, written otherwise
 
-def try_segments(tests, day):
+def try_segments(tests, day, rounds):
     segments = list(segments_of(day.path("capture.pcap")))
     whole = day.made(segments).events(), day.verdict(day.made(segments))
     dice = Dice(7)
@@ -99,7 +99,7 @@ def try_segments(tests, day):
         made = day.made(other)
         tests.check(name, (made.events(), day.verdict(made)) == whole, "other events, or another verdict")
 
-    for round_ in range(3):
+    for number in range(rounds):
         exchanged = list(segments)
         for _ in range(60):
             at = dice.below(len(exchanged) - 1)
@@ -107,7 +107,7 @@ def try_segments(tests, day):
             if is_data_of_one(one, other):
                 # each packet keeps the time of its place
                 exchanged[at], exchanged[at + 1] = other._replace(time=one.time), one._replace(time=other.time)
-        tests.check(f"packets exchanged, {round_}", verdict_end(day.verdict(day.made(exchanged))) == verdict_end(whole[1]), "another end")
+        tests.check(f"packets exchanged, {number}", verdict_end(day.verdict(day.made(exchanged))) == verdict_end(whole[1]), "another end")
         repeated = []
         for segment in segments:
             repeated.append(segment)
@@ -116,12 +116,12 @@ def try_segments(tests, day):
             if segment.data and dice.once_in(5):
                 half = len(segment.data) // 2
                 repeated.append(segment._replace(number=(segment.number + half) % 2**32, data=segment.data[half:]))
-        same(f"packets repeated and sent again in pieces, {round_}", repeated)
+        same(f"packets repeated and sent again in pieces, {number}", repeated)
     with tempfile.TemporaryDirectory() as folder:
         path = os.path.join(folder, "capture.pcapng")
         write_pcapng(day.path("capture.pcap"), path)
         same("as pcapng", segments_of(path))
-    without_one(tests, day, segments, dice)
+    without_one(tests, day, segments, dice, rounds)
 
 
 def is_data_of_one(one, other):
@@ -153,12 +153,12 @@ def write_pcapng(path, to):
             out.write(block(6, b"".join(word.to_bytes(4, "little") for word in head) + data))
 
 
-def without_one(tests, day, segments, dice):
+def without_one(tests, day, segments, dice, rounds):
     """One packet isn't in the capture: what stands behind it in its session isn't judged, and nothing else is found."""
     senders = {peer["address"] for peer in tomllib.loads(day.kept("config.toml"))["peer"]}
     breaches = breaches_by_session(day.kept("verdict"))
     for is_neighbor in (False, True):
-        for _ in range(4):
+        for _ in range(rounds):
             places = [at for at, segment in enumerate(segments) if len(segment.data) > 19 and (segment.source in senders) == is_neighbor]
             at = places[len(places) // 10 + dice.below(len(places) * 8 // 10)]
             made = day.made(segments[:at] + segments[at + 1:])
@@ -206,8 +206,8 @@ class Planted:
         places = [version for version, number in enumerate(self.worlds.session[name[0]]) if number == name[1]]
         return [max(self.times[version - 1], session.up_at) for version in places], [self.worlds.tables[name[0]][version] for version in places]
 
-    def staleness(self, name, messages):
-        """Whether some route was staler than the bound when a mark stands, and whether what it was then is right at no later time."""
+    def staleness(self, name, messages, keys):
+        """Whether one of these routes was staler than the bound when a mark stands, and whether what it was then is right at no later time."""
         peer = self.worlds.last.peers[name[0]]
         heard = Heard(peer, b"".join(message for _, message in messages))
         tables, _ = heard.tables(self.worlds.alike)
@@ -221,7 +221,7 @@ class Planted:
                 break
             table = tables[bisect.bisect_right(told, moment)]
             now = bisect.bisect_right(times, moment)
-            for key in set(table) | set(due[place]):
+            for key in keys:
                 value = table.get(key)
                 if all(due[other].get(key) != value for other in range(place, now)):
                     is_stale = True
@@ -229,23 +229,23 @@ class Planted:
         return is_stale, is_ever
 
     def places(self, wanted):
-        """Each message of a right session whose UPDATE is of such a kind: the session and the message's place."""
+        """Each message of a right session whose UPDATE is of such a kind: the session, the message's place, and the routes that it names."""
         for name in self.right:
             session = self.made.numbers[name]
             heard = Heard(self.worlds.last.peers[name[0]], bytes_of(session))
             for place, message in enumerate(heard.messages):
                 if isinstance(message, Update) and wanted(message):
-                    yield name, place
+                    yield name, place, message.named()
 
     def try_kind(self, tests, title, count, wanted, change):
         """So many messages of a kind are changed, each alone."""
         dice, places = Dice(len(title)), list(self.places(wanted))
         found = short = returns = 0
         for _ in range(count):
-            name, place = dice.one_of(places)
+            name, place, keys = dice.one_of(places)
             messages = change(list(self.made.numbers[name].messages), place)
             has_breach = bool(self.judge(name, messages).breaches)
-            is_stale, is_ever = self.staleness(name, messages)
+            is_stale, is_ever = self.staleness(name, messages, keys)
             found += has_breach
             short += not has_breach and not is_stale
             returns += not has_breach and is_stale and not is_ever
@@ -277,7 +277,8 @@ def try_planted(tests, day, count):
     for name in planted.right:
         session = planted.made.numbers[name]
         tests.check(f"{name} as it is", not planted.judge(name, session.messages).breaches, "isn't right")
-        tests.check(f"{name} as it is", not planted.staleness(name, session.messages)[0], "is stale")
+        named = Heard(planted.worlds.last.peers[name[0]], bytes_of(session)).named()
+        tests.check(f"{name} as it is", not planted.staleness(name, session.messages, named)[0], "is stale")
 
     def is_withdrawal(update):
         return bool(update.withdrawn) and not update.announced
@@ -287,7 +288,7 @@ def try_planted(tests, day, count):
     planted.try_kind(tests, f"withdrawals late by {LATE:g} s", count, is_withdrawal, late)
     dice, places, found = Dice(3), list(planted.places(lambda update: update.announced)), 0
     for _ in range(count):
-        name, place = dice.one_of(places)
+        name, place, _ = dice.one_of(places)
         messages = with_wrong_next_hop(list(planted.made.numbers[name].messages), place)
         found += bool(planted.judge(name, messages).breaches)
     tests.check("wrong next hops", found == count, f"{found} of {count} are found")
@@ -301,7 +302,7 @@ def main():
     if what == "kept":
         try_kept(tests, day)
     elif what == "segments":
-        try_segments(tests, day)
+        try_segments(tests, day, int(sys.argv[3]))
     else:
         try_planted(tests, day, int(sys.argv[3]))
     print(f"{name}, {what}: {time.time() - begin:.1f} s", file=sys.stderr)
