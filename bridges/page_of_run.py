@@ -19,7 +19,7 @@ from messages import ROUTE_REFRESH, kind_of, messages_of
 WIDTH, LEFT, RIGHT, ROW, TOP = 1000, 170, 30, 26, 34
 STYLE = """
 body { font: 15px/1.45 system-ui, sans-serif; margin: 2em auto; max-width: 66em; padding: 0 1em; color: #1d2733; }
-table { border-collapse: collapse; margin: 0.6em 0 1.6em; } th, td { padding: 0.2em 0.8em; text-align: left; border-bottom: 1px solid #d9dee4; }
+.wide { overflow-x: auto; } table { border-collapse: collapse; margin: 0.6em 0 1.6em; } th, td { padding: 0.2em 0.8em; text-align: left; border-bottom: 1px solid #d9dee4; }
 td.number { text-align: right; font-variant-numeric: tabular-nums; } svg { width: 100%; height: auto; } svg text { font-size: 12px; fill: #1d2733; }
 .session { stroke: #2f6db5; stroke-width: 6; } .lost { stroke: #c23b3b; } .sync { stroke: #1d2733; stroke-width: 2; } .refresh { fill: #d48a1c; }
 .grid { stroke: #e4e8ec; } .peer { stroke: #eef1f4; } .warning { color: #c23b3b; }
@@ -90,12 +90,13 @@ class Run:
 
 
 def table(heads, rows):
-    """Rows of cells; a number stands at the right."""
+    """Rows of cells; a number stands at the right. Where the screen is narrow the table is moved, and not the page."""
     def cell(value):
         text = "–" if value is None else html.escape(f"{value:,}" if isinstance(value, int) else str(value))
         return f'<td class="number">{text}</td>' if isinstance(value, int) else f"<td>{text}</td>"
     head = "".join(f"<th>{html.escape(name)}</th>" for name in heads)
-    return f"<table><tr>{head}</tr>" + "".join("<tr>" + "".join(map(cell, row)) + "</tr>" for row in rows) + "</table>"
+    body = "".join("<tr>" + "".join(map(cell, row)) + "</tr>" for row in rows)
+    return f'<div class="wide"><table><tr>{head}</tr>{body}</table></div>'
 
 
 def picture(run):
@@ -173,8 +174,12 @@ def page(title, run, listing):
               "<h2>What each sync told</h2>", "<p>How many messages had been sent.</p>", syncs(run)]
     if refusals:
         parts += ["<h2>Refused lines</h2>", table(["line", "number", "name"], refusals)]
-    return (f'<!DOCTYPE html><html lang="en"><head><meta charset="utf-8"><title>{html.escape(title)}</title>'
-            f"<style>{STYLE}</style></head><body>" + "".join(parts) + "</body></html>")
+    return document(title, STYLE, parts)
+
+
+def document(title, style, parts):
+    return (f'<!DOCTYPE html><html lang="en"><head><meta charset="utf-8"><meta name="viewport" content="width=device-width, initial-scale=1">'
+            f"<title>{html.escape(title)}</title><style>{style}</style></head><body>" + "".join(parts) + "</body></html>")
 
 
 def lines_of(file):

@@ -62,6 +62,28 @@ same "rows and faults of check as JSON" "$work/check.json" bridges/tests/check.j
 bridges/json_of.py run < bridges/tests/run.text > "$work/run.json"
 same "the lines of a report as JSON" "$work/run.json" bridges/tests/run.json
 
+# ---- pages of audits, of the captures that are kept
+
+# in_browser NAME PAGE TEXT..: the page in a browser, as wide as a phone, without an error; it shows the texts.
+in_browser() {
+    local name=$1
+    shift
+    missing "$name" chromium && return
+    bridges/tests/in_browser.py "$@" > "$work/log" 2>&1
+    same "$name" "$work/log" /dev/null
+}
+
+for name in frr-8.4.4 bird-2.0.12; do
+    kept=examples/audit/$name
+    bridges/audit_of_pcap.py $kept/capture.pcap $kept/config.toml "$work/$name" --also $kept/also --speaker ${name%%-*} > "$work/line" 2> "$work/told"
+    bridges/page_of_audit.py "$work/$name" $kept/verdict > "$work/page"
+    bridges/tests/page.py "$work/page" > "$work/log" 2>&1
+    same "the page of an audit is whole ($name)" "$work/log" /dev/null
+    sessions=$(grep -c '^session ' $kept/verdict)
+    breaches=$(grep -c '^breach ' $kept/verdict)
+    in_browser "the page of an audit in a browser ($name)" "$work/page" "Sessions: $sessions." "Breaches: $breaches." "$(sed -n 's/^  may/may/p' $kept/verdict | head -n 1)"
+done
+
 # ---- runs of the program
 
 if [ -x "$program" ]; then
@@ -71,6 +93,7 @@ if [ -x "$program" ]; then
         bridges/page_of_run.py $examples/$name.toml $examples/$name.events "$work/report" "$work/there" --groups $examples/$name.groups > "$work/page"
         bridges/tests/page.py "$work/page" > "$work/log" 2>&1
         same "the page of a run is whole ($name)" "$work/log" /dev/null
+        in_browser "the page of a run in a browser ($name)" "$work/page" "$(sed -n 's/^accepted \([0-9]*\) .*/accepted \1/p' "$work/report")"
         missing "what tshark reads of the sessions of $name" tshark text2pcap && continue
         examples/rows.sh $examples/$name.toml "$work/there" "$program" > "$work/rows"
         for session in "$work"/there/*; do
