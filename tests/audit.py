@@ -27,6 +27,14 @@ def program_answer(program, words):
     return done.returncode, (done.stdout + done.stderr).decode("latin-1")
 
 
+def known_to(program):
+    """Which of the options the program has, and whether it reads `by` lines."""
+    known = {option for option in ("--explain", "--unordered") if program_answer(program, [option] + ["nowhere"] * 4)[0] == 3}
+    with tempfile.TemporaryDirectory() as folder:
+        unclear = Files(c1(), b"up p1\n", b"by\n", {"p1.1": END_OF_RIB}).write(folder)
+        return known | ({"by"} if program_answer(program, unclear)[0] == 11 else set())
+
+
 class Tests:
     """Counts what passed and failed, and what was answered."""
 
@@ -34,6 +42,7 @@ class Tests:
         self.passed = self.failed = 0
         self.answers = {}
         self.kept = None
+        self.known = set()
 
     def compare(self, name, want, got, files=None):
         if want == got:
@@ -45,7 +54,12 @@ class Tests:
                 files.write(self.kept)
                 sys.exit("the files are left in " + self.kept)
         words = want[1].split()
-        answer = str(want[0]) if want[0] != 10 else "10 kind %s%s" % (words[5], " -" if words[-1] == "-" else "")
+        if words[:3] == ["status", "10", "refuted"]:
+            self.count("10 kind %s%s" % (words[5], " -" if words[-1] == "-" else ""))
+        else:
+            self.count(str(want[0]))
+
+    def count(self, answer):
         self.answers[answer] = self.answers.get(answer, 0) + 1
 
     def end(self):
@@ -57,23 +71,25 @@ def shown(text):
     return text if len(text) < 400 else text[:400] + ".."
 
 
+def needed_of(options, files):
+    """What a program has to know for these files."""
+    return set(options) | ({"by"} if any(line.startswith(b"by ") for line in lines_of(files.report)) else set())
+
+
 # ---- rows by hand
 
 def try_rows(tests, program):
     with tempfile.TemporaryDirectory() as folder:
-        unclear = Files(c1(), b"up p1\n", b"by\n", {"p1.1": END_OF_RIB}).write(folder)
-        knows_by = program_answer(program, unclear)[0] == 11
         for name, answer, files in row_files():
             words = files.write(folder)
             tests.compare(name, answer, program_answer(program, words))
             if answer[0] != 2:
                 tests.compare(name + ", slowly", answer, auditor.audit(*words))
-        known = {option: program_answer(program, [option] + ["nowhere"] * 4)[0] == 3 for option in ("--explain", "--unordered")}
         passed_over = 0
         for options, name, answer, files in option_files():
             words = files.write(folder)
             tests.compare(name + ", slowly", answer, auditor.command(["audit"] + options + words))
-            if all(known[option] for option in options) and (knows_by or b"by " not in files.report):
+            if needed_of(options, files) <= tests.known:
                 tests.compare(name, answer, program_answer(program, options + words))
             else:
                 passed_over += 1
@@ -588,8 +604,58 @@ DAMAGES = ([with_session(change) for change in (cut, changed_byte, changed_bit, 
 def try_files(tests, program, folder, name, files, worlds):
     if worlds is None or files.events != worlds[0]:
         worlds = (files.events, Worlds(files.config.decode(), files.events))
-    tests.compare(name, judged(worlds[1], files.report, files.held), program_answer(program, files.write(folder)), files)
+    words = files.write(folder)
+    answers = {option: judged(worlds[1], files.report, files.held, explain=option) for option in (False, True)}
+    tests.compare(name + ", explained", (0, first_of(*answers[False])), (0, first_of_explained(*answers[True])), files)
+    for option, answer in answers.items():
+        options = ["--explain"] if option else []
+        if needed_of(options, files) <= tests.known:
+            tests.compare(" ".join([name] + options), answer, program_answer(program, options + words), files)
+        elif not option:
+            tests.compare(name + ", slowly", answer, answer)
+    if "--unordered" in tests.known and needed_of([], files) <= tests.known:
+        answer = judged(Worlds(files.config.decode(), files.events, unordered=True), files.report, files.held)
+        tests.compare(name + ", without an order", answer, program_answer(program, ["--unordered"] + words), files)
     return worlds
+
+
+def first_of(status, text):
+    """What an audit tells first: its certificate, its first breach, or how else it ends."""
+    return text.replace("status 10 refuted ", "") if status == 10 else text
+
+
+def first_of_explained(status, text):
+    """The same of one with --explain."""
+    lines = text.splitlines()
+    breaches = [line for line in lines if line.startswith("breach ")]
+    if breaches:
+        return breaches[0][len("breach "):breaches[0].rindex(" offset")] + "\n"
+    if status in (0, 10):
+        return "".join(line + "\n" for line in lines if line.split()[0] in ("session", "climb"))
+    return lines[-1] + "\n"
+
+
+def marks_that_follow(dice, files):
+    """Lines `by` that follow from the lines `sync`: of that version or an earlier one, at that message or a later one."""
+    lines = []
+    for words in (line.split(b" ") for line in lines_of(files.report)):
+        if words[0] == b"sync":
+            messages = len(cut_into(files.sessions["%s.%s" % (words[2].decode(), words[3].decode())]))
+            version, handed = max(0, int(words[1]) - dice.below(3)), int(words[4])
+            if handed < messages:
+                lines.append("by %d %s %s %d\n" % (version, words[2].decode(), words[3].decode(), handed + dice.below(messages - handed)))
+    return "".join(lines).encode()
+
+
+def some_marks(dice, worlds, files):
+    """Lines `by` of any versions and messages of the sessions."""
+    lines = []
+    for name in sorted(files.sessions):
+        peer, n = name.rsplit(".", 1)
+        versions = [v for v, session in enumerate(worlds.session[peer]) if session == int(n)] + [0, worlds.last.version]
+        for _ in range(dice.below(4)):
+            lines.append("by %d %s %s %d\n" % (dice.one_of(versions), peer, n, dice.below(len(cut_into(files.sessions[name])) + 1)))
+    return "".join(lines).encode()
 
 
 def refused_in(report):
@@ -610,6 +676,9 @@ def try_number(tests, program, number, damages):
         right = judged(worlds[1], files.report, files.held)
         tests.compare(name + ", ends", (0, "True"), (right[0], str(status in (0, 8))), files)
         try_files(tests, program, folder, name, files, worlds)
+        marked = files.copy()
+        marked.report += marks_that_follow(dice, files)
+        tests.compare(name + ", with marks that follow", (right[0], ""), (judged(worlds[1], marked.report, marked.held)[0], ""), marked)
         for damage in range(damages):
             damaged = files.copy()
             for _ in range(1 if damage % 4 else 2):
@@ -618,11 +687,14 @@ def try_number(tests, program, number, damages):
         for speaker in range(damages // 4):
             other = spoken_files(dice, drawn.config, events)
             try_files(tests, program, folder, "%s, speaker %d" % (name, speaker), other, worlds)
+            marked = other.copy()
+            marked.report += some_marks(dice, worlds[1], other)
+            try_files(tests, program, folder, "%s, speaker %d, marked" % (name, speaker), marked, worlds)
             dice.one_of(DAMAGES)(dice, other)
             try_files(tests, program, folder, "%s, speaker %d, damaged" % (name, speaker), other, worlds)
 
 
-WANTED = ["0", "3", "10 kind 1 -", "10 kind 2", "10 kind 3", "10 kind 3 -", "10 kind 4", "11"]
+WANTED = ["0", "3", "10 kind 1 -", "10 kind 2", "10 kind 3", "10 kind 3 -", "10 kind 4", "10 kind 5", "11"]
 
 
 def try_drawn(tests, program, count, damages):
@@ -636,6 +708,7 @@ def try_drawn(tests, program, count, damages):
 def main():
     tests = Tests()
     what, program = sys.argv[1], os.path.abspath(sys.argv[2])
+    tests.known = known_to(program)
     if what == "rows":
         try_rows(tests, program)
     elif what == "drawn":
