@@ -30,17 +30,23 @@ def updates_of(session):
                 continue
 
 
+def is_of(route, path, told, is_internal):
+    """The announcement may be of this path: an internal peer is told its next hop as it is."""
+    return route.shown() == told.shown() and (not is_internal or path.is_own() or route.next_hop == told.next_hop)
+
+
 class Identifiers:
     def __init__(self, speaker, entries, sessions):
         self.told = collections.defaultdict(list)
         for entry in entries:
             for path, route in entry.paths:
-                self.told[entry.prefix].append((entry.time, path, route.shown()))
+                self.told[entry.prefix].append((entry.time, path, route))
         self.votes = collections.defaultdict(collections.Counter)
         self.is_of_paths = speaker == "frr"
-        for session in sessions:
-            if session.peer.get("add_path"):
-                self.learn(session)
+        identified = [session for session in sessions if session.peer.get("add_path")]
+        internal = [session for session in identified if session.peer["as"] == session.opens["speaker"].asn]
+        for session in internal or identified:
+            self.learn(session)
         self.is_of_paths = self.is_of_paths and bool(self.votes)
         self.known = {owner: votes.most_common(1)[0][0] for owner, votes in self.votes.items()}
         self.unseen = FIRST_UNSEEN if self.votes else 1
@@ -52,14 +58,14 @@ class Identifiers:
     def learn(self, session):
         """Each announcement votes for the paths that have its attributes."""
         local = session.opens["speaker"].asn
+        is_internal = session.peer["as"] == local
         for time, update in updates_of(session):
-            if update.announced:
-                if session.peer["as"] != local:
-                    update.route.segments = without_first(update.route.segments, local)
-                shown = update.route.shown()
+            route = update.route
+            if update.announced and not is_internal:
+                route.segments = without_first(route.segments, local)
             for prefix, identifier in update.announced:
-                for when, path, known in self.told[prefix]:
-                    if time - SECONDS <= when <= time and known == shown:
+                for when, path, told in self.told[prefix]:
+                    if time - SECONDS <= when <= time and is_of(route, path, told, is_internal):
                         self.votes[self.owner(path)][identifier] += 1
 
     def of(self, paths):
