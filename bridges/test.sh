@@ -62,6 +62,11 @@ same "rows and faults of check as JSON" "$work/check.json" bridges/tests/check.j
 bridges/json_of.py run < bridges/tests/run.text > "$work/run.json"
 same "the lines of a report as JSON" "$work/run.json" bridges/tests/run.json
 
+# ---- captures of all sessions of a speaker
+
+bridges/tests/captured.py > "$work/log" 2>&1
+same "small captures, written packet by packet" "$work/log" /dev/null
+
 # ---- pages of audits, of the captures that are kept
 
 # in_browser NAME PAGE TEXT..: the page in a browser, as wide as a phone, without an error; it shows the texts.

@@ -89,6 +89,8 @@ def with_four(segments, fours):
         if lead > 0:
             front.append((is_set, taken))
         lead -= 1 if is_set else len(taken)
+    if front and fours and not front[-1][0] and not fours[0][0]:
+        return front[:-1] + [(False, front[-1][1] + fours[0][1])] + fours[1:]
     return front + fours
 
 
