@@ -21,7 +21,8 @@ MOST_SLOW, MOST_BREACHES = 25, 200
 KINDS = {1: "can't be read", 2: "as it wasn't", 3: "not as a mark says", 4: "not as it should be at the end", 5: "late"}
 MORE_STYLE = """
 .stale { fill: #9cc3ea; stroke: #2f6db5; stroke-width: 1; } .breach { stroke: #c23b3b; stroke-width: 2; } .mark { stroke: #8a94a0; }
-.axis { stroke: #8a94a0; } pre { overflow-x: auto; background: #f5f7f9; padding: 0.6em; font-size: 12px; } h3 { margin-bottom: 0.2em; } .right { color: #2a7a3f; }
+.axis { stroke: #8a94a0; } pre { overflow-x: auto; background: #f5f7f9; padding: 0.6em; font-size: 12px; }
+h3 { margin-bottom: 0.2em; } .right { color: #2a7a3f; }
 @media (max-width: 40em) { body { margin: 1em auto; } th, td { padding: 0.2em 0.4em; } svg text { font-size: 26px; } }
 """
 
@@ -66,6 +67,8 @@ class Verdict:
                 self.refused.append(line)
             elif words[0] == "status":
                 self.status = line
+                if words[2] == "refuted":
+                    self.session(words[3:5]).breaches.append(Breach(int(words[5]), int(words[6]), " ".join(words[7:]), []))
 
     def session(self, words):
         name, number = words[0], int(words[1])
@@ -178,7 +181,8 @@ def picture(session, spans, times):
              f'<text x="{WIDTH - RIGHT}" y="{HEIGHT - 4}" text-anchor="end">{last:.1f} s</text>', f'<path class="stale" d="{" ".join(way)}"/>']
     for word, version, message in times.marks[session.name, session.number]:
         at = x(times.versions.get(version, 0.0))
-        drawn.append(f'<line class="mark" x1="{at:.1f}" x2="{at:.1f}" y1="{y(0):.1f}" y2="{y(0) + 5:.1f}"><title>{word} {version}: {message} messages</title></line>')
+        drawn.append(f'<line class="mark" x1="{at:.1f}" x2="{at:.1f}" y1="{y(0):.1f}" y2="{y(0) + 5:.1f}">'
+                     f"<title>{word} {version}: {message} messages</title></line>")
     for breach in session.breaches:
         at = x(times.of_message(session, breach.message))
         about = f"kind {breach.kind} at message {breach.message}: {breach.route}"
@@ -222,7 +226,8 @@ def page(title, verdict, times):
     spans = {name: spans_of(session, times) for name, session in verdict.sessions.items()}
     breaches = verdict.breaches()
     said = f"Sessions: {len(verdict.sessions):,}. Breaches: {breaches:,}." + (f" Events: {verdict.accepted:,}." if verdict.accepted is not None else "")
-    parts = [f"<h1>{html.escape(title)}</h1>", f'<p class="{"warning" if verdict.status else "right"}">{said} {html.escape(verdict.status or "All is right")}.</p>']
+    kind = "warning" if verdict.status else "right"
+    parts = [f"<h1>{html.escape(title)}</h1>", f'<p class="{kind}">{said} {html.escape(verdict.status or "All is right")}.</p>']
     if verdict.refused or verdict.unheard:
         lines = verdict.refused + [f"session {number} of {name} has a file, and EVENTS doesn't begin it" for name, number in verdict.unheard]
         parts += ["<h2>Not judged</h2>", f"<pre>{html.escape(chr(10).join(lines))}</pre>"]

@@ -168,9 +168,6 @@ class Speaker:
     def received(self, session, time, message):
         kind, name = kind_of(message), session.peer["name"]
         if kind == OPEN:
-            before = self.open.get(name)
-            if before is not None and before is not session:
-                self.down(before, time)
             session.opens["neighbor"] = Open(message)
         elif kind == KEEPALIVE and len(session.opens) == 2 and not session.is_up and not session.is_over:
             self.up(session, time)
@@ -185,6 +182,8 @@ class Speaker:
 
     def up(self, session, time):
         name = session.peer["name"]
+        if name in self.open:
+            self.down(self.open[name], time)
         session.is_up, session.up_at = True, time
         self.open[name] = session
         self.sessions.append(session)

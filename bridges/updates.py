@@ -2,7 +2,7 @@
 of events."""
 import ipaddress
 
-MULTIPROTOCOL, EXTENDED, ADD_PATH, ENHANCED_REFRESH, AS4 = 1, 6, 69, 70, 65
+EXTENDED, ADD_PATH, ENHANCED_REFRESH, AS4 = 6, 69, 70, 65
 ORF = (3, 130)
 ORIGINS = ["igp", "egp", "incomplete"]
 RECEIVES, SENDS = 1, 2

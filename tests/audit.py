@@ -19,7 +19,7 @@ import auditor
 from audit_rows import END_OF_RIB, MARKER, ROUTE, Files, c1, message, option_files, refresh_mark, row_files, withdrawal
 from auditor import Worlds, differing, judged
 from heard import Heard
-from model import (Attributes, Dice, Entry, Path, attributes_by, config_text, configured, event_line, lines_of, prefix, prefix_text)
+from model import Dice, Entry, Path, attributes_by, config_text, configured, event_line, lines_of, prefix
 
 
 def program_answer(program, words):

@@ -248,6 +248,7 @@ def rows_explained():
         return "breach p1 1 %d %d %s offset %d" % (kind, at, key, begin)
 
     never = ["  said " + igp, "  may 3 -"]
+    early = ["  said " + igp, "  may 3 " + egp]
     climbed = ["session p1 1 messages 2", "climb 10.0.0.0/8 id=0 2@2"]
     five = "".join("paths 10.0.0.0/8 id=1 from=local nh=0.0.0.0 origin=igp as=%d\n" % n for n in range(1, 6))
     return [
@@ -259,16 +260,16 @@ def rows_explained():
             THREE[:2] + [END_OF_RIB] * 2, "by 3 p1 1 2\nby 3 p1 1 3\nsync 3 p1 1 3\n"),
         row("late, said again, and late again", wrong(breach(5, 2, TEN, 23), *never, breach(5, 3, TEN, 68), *never, "session p1 1 messages 4",
             "climb 10.0.0.0/8 id=0 2@2 4@3"), THREE[:2] + [ROUTE, GONE], "by 3 p1 1 2\nby 3 p1 1 3\n"),
-        row("an old value", wrong(breach(2, 4, TEN, 113), "  said " + egp, "  may 4 " + igp, "session p1 1 messages 5", "climb 10.0.0.0/8 id=0 2@3 3@4", accepted=4),
-            [END_OF_RIB, other, ROUTE, other, ROUTE], events=back),
-        row("an old value that stays", wrong(breach(2, 3, TEN, 68), "  said " + igp, "  may 3 " + egp, breach(4, 5, TEN, 136), "  said " + igp, "  may 3 " + egp,
+        row("an old value", wrong(breach(2, 4, TEN, 113), "  said " + egp, "  may 4 " + igp, "session p1 1 messages 5",
+            "climb 10.0.0.0/8 id=0 2@3 3@4", accepted=4), [END_OF_RIB, other, ROUTE, other, ROUTE], events=back),
+        row("an old value that stays", wrong(breach(2, 3, TEN, 68), *early, breach(4, 5, TEN, 136), *early,
             "session p1 1 messages 5", "climb 10.0.0.0/8 id=0 2@3"), [END_OF_RIB, other, ROUTE, END_OF_RIB, END_OF_RIB], "by 3 p1 1 4\n", changed),
-        row("an old value, said again", wrong(breach(2, 3, TEN, 68), "  said " + igp, "  may 3 " + egp, breach(2, 4, TEN, 113), "  said " + igp, "  may 3 " + egp,
+        row("an old value, said again", wrong(breach(2, 3, TEN, 68), *early, breach(2, 4, TEN, 113), *early,
             "session p1 1 messages 5", "climb 10.0.0.0/8 id=0 2@3"), [END_OF_RIB, other, ROUTE, ROUTE, other], events=changed),
         row("a value that is both old and new", wrong(breach(2, 3, TEN, 68), "  said " + egp, "  may 4 " + igp, "session p1 1 messages 4",
             "climb 10.0.0.0/8 id=0 2@2", accepted=4), [END_OF_RIB, ROUTE, other, ROUTE], "by 3 p1 1 2\n", back),
-        row("four values", wrong(breach(2, 1, TEN, 0), "  said " + igp, "  may 0 -", *("  may %d %s" % (n + 1, row_of("igp", "65001,%d" % n)) for n in (1, 2, 3)),
-            "session p1 1 messages 2", "climb 10.0.0.0/8 id=0 2@6", accepted=6), [ROUTE, route_by([65001, 5])], events="up p1\n" + five),
+        row("four values", wrong(breach(2, 1, TEN, 0), "  said " + igp, "  may 0 -",
+            *("  may %d %s" % (n + 1, row_of("igp", "65001,%d" % n)) for n in (1, 2, 3)), "session p1 1 messages 2", "climb 10.0.0.0/8 id=0 2@6", accepted=6), [ROUTE, route_by([65001, 5])], events="up p1\n" + five),
         row("not at a mark", wrong(breach(3, 1, TEN, 0), "  said -", "  may 2 " + igp, "session p1 1 messages 3", "climb 10.0.0.0/8 id=0 2@2 3@3"),
             THREE, "sync 2 p1 1 1\n"),
         row("a mark before all messages", wrong(breach(5, 0, TEN, 0), "  said -", "  may 2 " + igp, *climbed, accepted=2),

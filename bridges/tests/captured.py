@@ -149,9 +149,17 @@ def ends_by(how):
     return write
 
 
-def a_new_open(capture, one, two):
+def a_new_session(capture, one, two):
     """The neighbor begins anew on another connection, and the old one isn't closed."""
     capture.connection(ONE).up(MINE, opens(64500, "10.0.0.21"))
+
+
+def an_open_in_vain(capture, one, two):
+    """The speaker refuses another connection of a neighbor that is up (RFC 4271 section 6.8)."""
+    other = capture.connection(ONE)
+    other.say("neighbor", opens(64500, "10.0.0.21"))
+    other.say("speaker", message(3, b"\6\7"))
+    one.say("neighbor", update(b"", withdrawn=TEN))
 
 
 def two_bytes(capture):
@@ -218,7 +226,8 @@ CASES = [
     ("a NOTIFICATION of the speaker", ends_by(lambda capture, one, two: one.say("speaker", CEASE)), BOTH, RIGHT, [], []),
     ("a FIN", ends_by(lambda capture, one, two: one.end("neighbor", FIN)), BOTH, RIGHT, [], []),
     ("a RST", ends_by(lambda capture, one, two: one.end("speaker", RST)), BOTH, RIGHT, [], []),
-    ("the next OPEN", ends_by(a_new_open), BOTH, RIGHT, [], []),
+    ("the next session", ends_by(a_new_session), BOTH, RIGHT, [], []),
+    ("an OPEN in vain", ends_by(an_open_in_vain), BOTH, RIGHT, [], []),
     ("the other session ends", ends_by(lambda capture, one, two: two.end("neighbor", FIN)), BOTH, ["up two", FROM_ONE, "down two"], [], []),
     ("AS numbers of two bytes", two_bytes, BOTH, [FROM_ONE.replace("as=64500", "as=64500,4200000001")], [],
      ["two: a session with AS numbers of two bytes, which isn't judged"]),

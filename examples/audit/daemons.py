@@ -76,12 +76,14 @@ class Bird:
         lines = [f'log "{self.folder}/bird.log" all;', f"router id {ROUTER_ID};", "protocol device { }", "protocol direct { ipv4; }",
                  "filter all_routes {", "  if source = RTS_DEVICE then reject;", "  accept;", "}",
                  f"protocol static own {{ ipv4; route {OWN} blackhole; }}",
-                 "filter policy {", "  if source = RTS_DEVICE then reject;", f"  if {DROPPED} ~ bgp_community then reject;", through + f"  if net ~ [{INNER}+] then reject;", f"  {set_all}", "}"]
+                 "filter policy {", "  if source = RTS_DEVICE then reject;", f"  if {DROPPED} ~ bgp_community then reject;",
+                 through + f"  if net ~ [{INNER}+] then reject;", f"  {set_all}", "}"]
         for peer in self.peers:
             lines += [f"protocol bgp {peer.name} {{", f"  local {peer.local} as {LOCAL};", f"  neighbor {peer.address} as {peer.asn};", "  passive on;"]
             lines += ["  rr client;"] if peer.is_client else []
             lines += [f"  rr cluster id {CLUSTER};"] if peer.asn == LOCAL else ["  direct;"]
-            lines += ["  ipv4 { import all; export %s;%s };" % ("filter policy" if peer.has_policy else "filter all_routes", " add paths tx;" if peer.add_path else ""), "}"]
+            exported = "policy" if peer.has_policy else "all_routes"
+            lines += [f"  ipv4 {{ import all; export filter {exported};{' add paths tx;' if peer.add_path else ''} }};", "}"]
         return "\n".join(lines) + "\n"
 
     def write(self, is_changed):
