@@ -1,7 +1,8 @@
 #!/bin/bash
 # Tries the captures of examples/audit: what is made of them, the verdicts, the same captures written otherwise, and planted faults; by
 # the plain, slow auditor, and by PROGRAM, or else out/ug_main, where it has the options. COUNT (10) faults of each kind are planted, and
-# ROUNDS (1) captures of each kind are written; with COUNT=40 and ROUNDS=4 it takes two minutes.
+# ROUNDS (1) captures of each kind are written; with COUNT=40 and ROUNDS=4 it takes two minutes. With RECORD=1 another day of each daemon
+# that is installed is recorded and judged too, as root: half a minute each.
 export LC_ALL=C
 cd "$(dirname "$0")/.." || exit 1
 source tests/counting.sh
@@ -38,6 +39,19 @@ by_the_page() {
     fi
 }
 
+# recorded SPEAKER WITHIN DAEMON: another day, in which the sessions that are right in the day that is kept are right as well.
+recorded() {
+    local name="another day of $1" wrong
+    [ -x "$3" ] || { echo "passed over, for want of $3: $name"; return; }
+    python3 examples/audit/record.py "$1" "$work/day" > "$work/log" 2>&1 || { note "$name" "$(tail -n 3 "$work/log")"; return; }
+    bridges/audit_of_pcap.py "$work/day/capture.pcap" "$work/day/config.toml" "$work/other" --speaker "$1" --within "$2" --also "$work/day/also" > "$work/line" 2> "$work/told"
+    tests/auditor.py audit --explain --unordered "$work/day/config.toml" "$work/other/events" "$work/other/report" "$work/other/dir" > "$work/verdict"
+    # FRR answers a request of client1 while best paths change, and may be wrong there.
+    wrong=$(grep '^breach' "$work/verdict" | { [ "$1" = frr ] && grep -v '^breach client1 ' || cat; } | head -n 3)
+    [ -z "$wrong" ] && grep -q '^session client1 1 messages' "$work/verdict" && note "$name" ok || note "$name" "$wrong $(tail -n 1 "$work/verdict")"
+    rm -r "$work/day" "$work/other"
+}
+
 by_the_page frr-8.4.4 frr 3
 by_the_page bird-2.0.12 bird 1
 for day in frr-8.4.4 bird-2.0.12; do
@@ -45,5 +59,9 @@ for day in frr-8.4.4 bird-2.0.12; do
     counted segments $day "${ROUNDS:-1}"
     counted planted $day "${COUNT:-10}"
 done
+if [ "${RECORD:-0}" = 1 ]; then
+    recorded frr 3 /usr/lib/frr/bgpd
+    recorded bird 1 /usr/sbin/bird
+fi
 echo "$passed passed, $failed failed"
 [ "$failed" = 0 ]
