@@ -191,6 +191,7 @@ def rows_of_by():
         row("a value that is both old and new", "session p1 1 messages 4\nclimb 10.0.0.0/8 id=0 2@2 3@3 4@4\n", [END_OF_RIB, ROUTE, other, ROUTE],
             "by 2 p1 1 2\n", events=back),
         row("a value that is both old and new, and can be new alone", refuted(2, 3, TEN), [END_OF_RIB, ROUTE, other, ROUTE], "by 3 p1 1 2\n", events=back),
+        row("an older mark brings no route back", refuted(2, 4, TEN), [END_OF_RIB, other, ROUTE, other], "by 2 p1 1 3\n", events=back),
         row("the new value at once", "session p1 1 messages 2\nclimb 10.0.0.0/8 id=0 2@2\n", [END_OF_RIB, ROUTE], "by 3 p1 1 2\n", events=back),
         row("said again behind the mark", "session p1 1 messages 3\nclimb 10.0.0.0/8 id=0 2@2\n", [END_OF_RIB, ROUTE, ROUTE], "by 3 p1 1 2\n", events=back),
         row("two marks with nothing between", RIGHT, THREE, "by 2 p1 1 2\nby 2 p1 1 2\n"),

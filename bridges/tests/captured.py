@@ -1,5 +1,5 @@
 #!/usr/bin/env python3
-"""Small captures, written packet by packet, and what audit_of_pcap.py has to make of them. Says what differs."""
+"""Small captures, written packet by packet, and what audit_of_pcap.py has to make of them; and which of some paths is the best. Says what differs."""
 import contextlib
 import io
 import ipaddress
@@ -11,6 +11,9 @@ import tempfile
 HERE = os.path.dirname(os.path.abspath(__file__))
 sys.path.insert(0, os.path.dirname(HERE))
 import audit_of_pcap
+from best_paths import STEPS, Neighbor, Path, best
+from speakers import OwnRoute
+from updates import Route
 
 MARKER = b"\xff" * 16
 FIN, SYN, RST, PUSH, ACK = 1, 2, 4, 8, 16
@@ -253,6 +256,47 @@ CASES = [
 ]
 
 
+# ---- the decision process
+
+def path(name, asn, router_id, address, numbers, **said):
+    """A path of a neighbor of AS 65001, with these numbers as its AS path; `said` are further attributes."""
+    route = Route()
+    route.segments, route.origin, route.next_hop = [(False, numbers)] if numbers else [], 0, address
+    for field, value in said.items():
+        assert hasattr(route, field)
+        setattr(route, field, value)
+    return Path(Neighbor({"name": name, "as": asn, "router_id": router_id, "address": address}, 65001), route)
+
+
+def decisions():
+    """Paths, the place of the one that was best before, and the place of the best by FRR and by BIRD."""
+    outside = ("one", 64500, "10.0.0.21", "203.0.113.21"), ("two", 64510, "10.0.0.22", "203.0.113.22")
+    inside = ("core", 65001, "10.0.0.31", "203.0.113.31"), ("branch", 65001, "10.0.0.30", "203.0.113.32")
+    one, two = outside
+    core, branch = inside
+    own = Path(None, OwnRoute("origin=igp as=-"))
+    return [
+        ("one's own", [path(*core, [], local_pref=900), own], 0, 1, 1),
+        ("LOCAL_PREF before the AS path", [path(*one, [64500]), path(*core, [1, 2, 3], local_pref=101)], 0, 1, 1),
+        ("LOCAL_PREF is 100 where it isn't told", [path(*one, [64500]), path(*core, [], local_pref=99)], 1, 0, 0),
+        ("the shorter AS path before ORIGIN", [path(*one, [64500, 9]), path(*two, [64510], origin=2)], 0, 1, 1),
+        ("a set counts once", [path(*one, [64500, 9, 9]), path(*core, [], segments=[(False, [8]), (True, [1, 2, 3])])], 0, 1, 1),
+        ("ORIGIN before MED", [path(*one, [64500], origin=1), path(*core, [64500], med=9)], 0, 1, 1),
+        ("MED of one AS before external ones", [path(*one, [64500], med=9), path(*core, [64500], med=8)], 0, 1, 1),
+        ("no MED is 0", [path(*one, [64500], med=1), path(*core, [64500])], 0, 1, 1),
+        ("MED of another AS", [path(*one, [64500], med=9), path(*core, [64510], med=8)], 1, 0, 0),
+        ("MED without an AS", [path(*core, [], med=9), path(*branch, [], med=10)], 1, 0, 0),
+        ("a path that its AS rules out rules none out", [path(*one, [9], med=9), path(*core, [9], med=8), path(*two, [8], med=7)], 0, 2, 2),
+        ("external ones", [path(*core, [64500]), path(*two, [64510])], 0, 1, 1),
+        ("the older external one", [path(*one, [64500]), path(*two, [64510])], 1, 1, 0),
+        ("the older internal one", [path(*core, []), path(*branch, [])], 0, 1, 1),
+        ("the lower router id", [path(*core, []), path(*branch, [])], 1, 1, 1),
+        ("ORIGINATOR_ID in its place", [path(*core, [], originator="10.0.0.2"), path(*branch, [])], 1, 0, 0),
+        ("the shorter CLUSTER_LIST", [path(*core, [], originator="10.0.0.2", clusters=["9.9.9.9"]), path(*branch, [], originator="10.0.0.2")], 0, 1, 1),
+        ("the lower address", [path(*branch, [], originator="10.0.0.2"), path(*core, [], originator="10.0.0.2")], 0, 1, 1),
+    ]
+
+
 def made(capture, config, options, link=101, before=b""):
     """The events, the report, and what is told."""
     with tempfile.TemporaryDirectory() as folder:
@@ -291,6 +335,9 @@ def main():
         for line in told:
             if line not in said:
                 print(f"{name}: isn't told: {line}")
+    for name, paths, before, *wanted in decisions():
+        for speaker, place in zip(("frr", "bird"), wanted):
+            differs(name, speaker, place, paths.index(best(paths, paths[before], STEPS[speaker])))
     capture = Capture()
     plain(capture)
     # two is up 0.5 s behind the capture's begin, one tells its route at 1.2 s and withdraws it at 1.4 s, and two is told both 0.1 s later
