@@ -1,12 +1,12 @@
 # Configurations and events of a fabric: what the benchmarks of whole runs share.
 
-# config PEERS GROUPS COALESCE: that many external peers, of so many groups: each but the first has a map of its own, which lets
-# all through.
+# config PEERS GROUPS COALESCE [med]: that many external peers, of so many groups: each but the first has a map of its own, which
+# lets all through, and with `med` sets MULTI_EXIT_DISC.
 config() {
-    awk -v n="$1" -v groups="$2" -v coalesce="$3" 'BEGIN {
+    awk -v n="$1" -v groups="$2" -v coalesce="$3" -v sets="${4:-}" 'BEGIN {
         printf "[local]\nas = 65001\nrouter_id = \"10.255.0.1\"\ncoalesce = %d\n", coalesce
         for (i = 1; i < groups; i++) {
-            printf "\n[[route_map]]\nname = \"m%d\"\nentry = [{ seq = 10, action = \"permit\" }]\n", i
+            printf "\n[[route_map]]\nname = \"m%d\"\nentry = [{ seq = 10, action = \"permit\"%s }]\n", i, sets == "" ? "" : ", set_med = " i
             printf "\n[[policy]]\nname = \"m%d\"\nroute_map = \"m%d\"\n", i, i
         }
         for (i = 1; i <= n; i++) {
