@@ -17,7 +17,7 @@ from neighbor import PATIENCE, Neighbor
 
 PEERS = [int(word) for word in os.environ.get("PEERS", "1 16 64").split()]
 PREFIXES = int(os.environ.get("PREFIXES", "100000"))
-COALESCE = int(os.environ.get("COALESCE", "1000"))
+COALESCE = int(os.environ.get("COALESCE", "1"))
 RUNS = int(os.environ.get("RUNS", "3"))
 EVENTS = 200
 
